@@ -1,0 +1,113 @@
+-- The book: which objects stand, and where; the fragments; the buffers.
+use Rattle.std.specs.Prelude.{◌≡◌, ℕ, ◌+◌, ◌-◌, ◌<◌, ◌≤◌, ◌⊎◌, ◌==◌, min, max, Bool, true}
+use Rattle.sg_words.specs.Words.{put}
+use Rattle.sg_graph.specs.declared.program.Statement.{Statement}
+use Rattle.sg_graph.specs.declared.program.Statement.TheVariants.{New, Put, Get, PutD, GetD, Num}
+use Rattle.sg_graph.specs.declared.program.Program.{Program}
+use Rattle.sg_graph.specs.declared.reports.Answer.{Answer}
+use Rattle.sg_graph.specs.declared.reports.Answer.TheVariants.{At, Full}
+use Rattle.sg_graph.specs.Scripts.{fields_of, words_for}
+use Rattle.sg_graph.specs.Graph.{Graph}
+
+-- where an object stands: in the nursery, in a block of the major heap, or in pages of its own
+pub data Section : Type 0 where
+  Young : Section
+  Old : Section
+  Large : Section
+
+-- Addresses are numbers of words. The name 0, which stands for no object, always stands, at address 0.
+-- A fragment's words from `next` to before `limit` weren't given away yet. A buffer's words from `from` to before `to`
+-- are those that its mutator has taken and not used.
+pub record Book : Type 0 where
+  pub stands : ℕ → Bool
+  pub address : ℕ → ℕ
+  pub section : ℕ → Section
+  pub fragments : ℕ
+  pub next : ℕ → ℕ
+  pub limit : ℕ → ℕ
+  pub from : ℕ → ℕ
+  pub to : ℕ → ℕ
+
+-- the nursery's first word, and the word behind its last one
+abbrev pub nursery_base : ℕ
+nursery_base = 512
+
+abbrev pub nursery_end : Program → ℕ
+nursery_end p = nursery_base + p.config.nursery
+
+-- nothing stands, and the whole nursery is one fragment
+abbrev pub empty_book : Program → Book
+empty_book p = record {
+  stands = λ n. n == 0;
+  address = λ _. 0;
+  section = λ _. Young;
+  fragments = 1;
+  next = λ _. nursery_base;
+  limit = λ _. nursery_end p;
+  from = λ _. 0;
+  to = λ _. 0;
+}
+
+-- the young object with this name stands at x
+abbrev pub placed : Book → ℕ → ℕ → Book
+placed b name x = record b { stands = put b.stands name true; address = put b.address name x; section = put b.section name Young }
+
+-- the object takes n words at the front of k's buffer
+pub record Bumps (b : Book) (k n name : ℕ) (c : Book) : Type 0 where
+  pub room : b.from k + n ≤ b.to k
+  pub after : c ≡ record (placed b name (b.from k)) { from = put b.from k (b.from k + n) }
+
+-- k's buffer has fewer than n words left
+abbrev pub IsShort : Book → ℕ → ℕ → Type 0
+IsShort b k n = b.to k < b.from k + n
+
+-- fragment f has n words left
+abbrev pub HasRoom : Book → ℕ → ℕ → Type 0
+HasRoom b n f = b.next f + n ≤ b.limit f
+
+-- fragment f has fewer than n words left
+abbrev pub LacksRoom : Book → ℕ → ℕ → Type 0
+LacksRoom b n f = b.limit f < b.next f + n
+
+-- what fragment f gives for n words: the smaller of its rest and the greater of n and the buffer setting
+abbrev pub share : Program → Book → ℕ → ℕ → ℕ
+share p b f n = min (b.limit f - b.next f) (max n p.config.buffer)
+
+-- the buffer is too short, and f is the lowest fragment with n words left: it gives the object and the new buffer behind it
+pub record Claims (p : Program) (b : Book) (k n name f : ℕ) (c : Book) : Type 0 where
+  pub short : IsShort b k n
+  pub there : f < b.fragments
+  pub room : HasRoom b n f
+  pub lowest : (j : ℕ) → j < f → LacksRoom b n j
+  pub after : c ≡ record (placed b name (b.next f)) {
+    next = put b.next f (b.next f + share p b f n);
+    from = put b.from k (b.next f + n);
+    to = put b.to k (b.next f + share p b f n);
+  }
+
+-- neither k's buffer nor any fragment has n words left
+pub record HasNoPlace (b : Book) (k n : ℕ) : Type 0 where
+  pub short : IsShort b k n
+  pub none : (f : ℕ) → f < b.fragments → LacksRoom b n f
+
+-- the words of a new object of class c
+abbrev pub words_of_class : Program → ℕ → ℕ
+words_of_class p c = words_for (fields_of p c)
+
+-- where the object of a statement of mutator k with this answer stands; no other statement changes the book
+abbrev pub Books : Program → Book → ℕ → Statement → Answer → Book → Type 0
+Books p b k (New r class) (At name) c = Bumps b k (words_of_class p class) name c ⊎ ((f : ℕ) × Claims p b k (words_of_class p class) name f c)
+Books p b k (New r class) Full c = HasNoPlace b k (words_of_class p class) × (c ≡ b)
+Books p b k s answer c = c ≡ b
+
+-- the word x is one of the standing object with this name
+pub record IsWordOf (g : Graph) (b : Book) (name x : ℕ) : Type 0 where
+  pub some : 1 ≤ name
+  pub stands : b.stands name ≡ true
+  pub above : b.address name ≤ x
+  pub below : x < b.address name + words_for (g.size name)
+
+-- no word is of two standing objects, and each young one lies in the nursery
+pub record IsApart (p : Program) (g : Graph) (b : Book) : Type 0 where
+  pub apart : (m n x : ℕ) → IsWordOf g b m x → IsWordOf g b n x → m ≡ n
+  pub inside : (n x : ℕ) → IsWordOf g b n x → b.section n ≡ Young → (nursery_base ≤ x) × (x < nursery_end p)

@@ -1,0 +1,100 @@
+-- An epoch: each mutator that hasn't ended does some of its next statements and then leaves.
+use Rattle.std.specs.Prelude.{◌≡◌, ◌≢◌, ℕ, zero, suc, ◌+◌, ◌<◌, ◌==◌, ◌↔◌, Bool, true, false, not, IsTrue, if◌then◌else◌, List, [], ◌∷◌, ◌++◌, length, map, filter}
+use Rattle.sg_words.specs.Address.{byte_at}
+use Rattle.sg_graph.specs.declared.program.Statement.{Statement}
+use Rattle.sg_graph.specs.declared.program.Program.{Program}
+use Rattle.sg_graph.specs.declared.reports.Answer.{Answer}
+use Rattle.sg_graph.specs.declared.reports.Answer.TheVariants.{At, Nil, Null, Number, Fine, Field, Full}
+use Rattle.sg_graph.specs.declared.reports.Leave.{Leave}
+use Rattle.sg_graph.specs.declared.reports.Leave.TheVariants.{Ended}
+use Rattle.sg_graph.specs.declared.reports.Part.{Part}
+use Rattle.sg_graph.specs.declared.reports.EpochReport.{EpochReport}
+use Rattle.sg_graph.specs.Scripts.{script_of}
+use Rattle.sg_graph.specs.Graph.{Mutator, Graph}
+use Rattle.sg_graph.specs.Statements.{Does}
+use Rattle.sg_graph.specs.Book.{Book, Books, IsApart}
+
+-- mutator `by` did its next statement and got this answer, in which a name stands for an address
+pub record Said : Type 0 where
+  pub by : ℕ
+  pub answer : Answer
+
+-- a whole statement of the mutator that said this
+pub record Turn (p : Program) (g : Graph) (b : Book) (said : Said) (h : Graph) (c : Book) : Type 0 where
+  pub statement : Statement
+  pub rest : List Statement
+  pub next : (g.mutator said.by).script ≡ statement ∷ rest
+  pub does : Does p g said.by (g.mutator said.by) statement rest said.answer h
+  pub books : Books p b said.by statement said.answer c
+
+-- whole statements in one order lead from g and b to h and c
+abbrev pub Explains : Program → Graph → Book → List Said → Graph → Book → Type 0
+Explains p g b [] h c = (h ≡ g) × (c ≡ b)
+Explains p g b (said ∷ order) h c = (h1 : Graph) × (c1 : Book) × Turn p g b said h1 c1 × Explains p h1 c1 order h c
+
+-- the answers of mutator k, in the order in which they came
+abbrev pub answers_of : ℕ → List Said → List Answer
+answers_of k [] = []
+answers_of k (said ∷ order) = if said.by == k then said.answer ∷ answers_of k order else answers_of k order
+
+-- an answer with the address of its object in the place of the name
+abbrev pub by_address : Book → Answer → Answer
+by_address b (At name) = At (byte_at (b.address name))
+by_address b Nil = Nil
+by_address b Null = Null
+by_address b (Number n) = Number n
+by_address b Fine = Fine
+by_address b Field = Field
+by_address b Full = Full
+
+-- how a mutator leaves: it has ended exactly where no statement is left
+abbrev pub Leaves : Leave → List Statement → Type 0
+Leaves Ended script = script ≡ []
+
+-- what the report says of mutator k: its first statement's number, its answers and how it left
+pub record IsPart (p : Program) (g : Graph) (order : List Said) (h : Graph) (c : Book) (k : ℕ) (part : Part) : Type 0 where
+  pub number : part.mutator ≡ k
+  pub first : part.first + length (g.mutator k).script ≡ length (script_of p k)
+  pub answers : part.answers ≡ map (by_address c) (answers_of k order)
+  pub leaves : Leaves part.leave (h.mutator k).script
+
+-- the numbers below n, in order
+abbrev pub numbers_below : ℕ → List ℕ
+numbers_below zero = []
+numbers_below (suc n) = numbers_below n ++ n ∷ []
+
+-- the mutators that haven't ended, in order of numbers
+abbrev pub running : Program → Graph → List ℕ
+running p g = filter (λ k. not (g.mutator k).ended) (numbers_below (length p.mutators))
+
+-- the fact holds of the two lists, one pair after another
+abbrev pub Pairwise : {A B : Type 0} → (A → B → Type 0) → List A → List B → Type 0
+Pairwise R [] [] = Unit {0}
+Pairwise R [] (y ∷ ys) = ⊥
+Pairwise R (x ∷ xs) [] = ⊥
+Pairwise R (x ∷ xs) (y ∷ ys) = R x y × Pairwise R xs ys
+
+abbrev pub is_done : List Statement → Bool
+is_done [] = true
+is_done (s ∷ rest) = false
+
+-- as an epoch ends, the mutators without a statement left have ended
+abbrev pub left : Graph → Graph
+left g = record g { mutator = λ k. record (g.mutator k) { ended = is_done (g.mutator k).script } }
+
+-- every mutator has ended
+abbrev pub AllEnded : Program → Graph → Type 0
+AllEnded p g = (k : ℕ) → k < length p.mutators → (g.mutator k).ended ≡ true
+
+-- Epoch number e leads from g and b to h and c, and this is its report: one order of whole statements explains every
+-- answer, each mutator left as it may, and the standing objects are apart.
+pub record IsEpoch (p : Program) (e : ℕ) (g : Graph) (b : Book) (report : EpochReport) (h : Graph) (c : Book) : Type 0 where
+  pub going : ¬ AllEnded p g
+  pub order : List Said
+  pub last : Graph
+  pub explains : Explains p g b order last c
+  pub after : h ≡ left last
+  pub number : report.number ≡ e
+  pub parts : Pairwise (IsPart p g order last c) (running p g) report.parts
+  pub ends : IsTrue report.last ↔ AllEnded p h
+  pub apart : IsApart p h c

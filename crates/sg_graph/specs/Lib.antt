@@ -1,0 +1,9 @@
+pub mod Shapes
+pub mod Scripts
+pub mod Kinds
+pub mod Graph
+pub mod Statements
+pub mod Book
+pub mod Epoch
+pub mod Run
+pub mod Trace

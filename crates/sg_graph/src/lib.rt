@@ -1,0 +1,13 @@
+//! Programs, answers and reports, and the heap of named objects that a run is compared with.
+//!
+//! The definitions of that heap, of its statements, of the book of addresses, of epochs, runs and texts stand in
+//! `specs/`: every other crate cites them.
+#![tactic(auto)]
+
+mod program;
+mod reports;
+mod shapes;
+
+pub use program::{Class, Config, Item, Name, Program, Script, Statement};
+pub use reports::{Answer, EpochReport, Leave, Part};
+pub use shapes::{Descriptor, Shape};

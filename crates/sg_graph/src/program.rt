@@ -1,0 +1,79 @@
+use sg_words::List;
+use std::marker::Model;
+
+use crate::shapes::Shape;
+
+/// The settings of a program. Sizes are in words, blocks or pages, as their names say.
+#[derive(Clone, Copy, Debug, PartialEq, Eq)]
+pub struct Config {
+    /// Words of the nursery.
+    pub nursery: u32,
+    /// Blocks of the major heap.
+    pub blocks: u32,
+    /// Pages of the large space.
+    pub pages: u32,
+    /// The least number of words that a mutator takes from a fragment at once, where the fragment has them.
+    pub buffer: u32,
+    /// Workers of a pause.
+    pub workers: u32,
+    /// The count at which a pinned object is cemented.
+    pub cement: u32,
+}
+
+/// The name of a class, which a contract sees as its bytes.
+#[derive(Debug, Drop)]
+pub struct Name {
+    pub bytes: List<u8>,
+}
+
+impl Model for Name {
+    ghost use Rattle.std.specs.Prelude.{ℕ, List as Sequence};
+
+    ghost Value = { Sequence ℕ };
+
+    ghost view = { λ n. n.bytes };
+}
+
+/// A class of objects.
+#[derive(Debug, Drop)]
+pub struct Class {
+    pub name: Name,
+    pub shape: Shape,
+}
+
+/// A statement of a script. Registers are numbers from 0 to 15, a class is its place in the program's list of classes.
+#[derive(Clone, Copy, Debug, PartialEq, Eq)]
+pub enum Statement {
+    /// Register `r` gets a new object of this class.
+    New { r: u8, class: u16 },
+    /// The reference field `field` of the object in `r` gets what `s` holds.
+    Put { r: u8, field: u64, s: u8 },
+    /// Register `d` gets what the reference field `field` of the object in `r` holds.
+    Get { d: u8, r: u8, field: u64 },
+    /// The plain field `field` of the object in `r` gets the number in `s`.
+    PutD { r: u8, field: u64, s: u8 },
+    /// Register `d` gets the number in the plain field `field` of the object in `r`.
+    GetD { d: u8, r: u8, field: u64 },
+    /// Register `d` gets the number `n`.
+    Num { d: u8, n: u64 },
+}
+
+/// A part of a script.
+#[derive(Debug, Drop)]
+pub enum Item {
+    One(Statement),
+}
+
+/// What one mutator does.
+#[derive(Debug, Drop)]
+pub struct Script {
+    pub items: List<Item>,
+}
+
+/// A whole program.
+#[derive(Debug, Drop)]
+pub struct Program {
+    pub config: Config,
+    pub classes: List<Class>,
+    pub mutators: List<Script>,
+}

@@ -1,0 +1,41 @@
+-- Which inputs are accepted, and as which program.
+use Rattle.std.specs.Prelude.{◌≡◌, ℕ, ◌%◌, ◌<◌, ◌≤◌, List, length}
+use Rattle.std.specs.List.{AllByRecursion}
+use Rattle.sg_graph.specs.declared.shapes.Descriptor.{Descriptor}
+use Rattle.sg_graph.specs.declared.shapes.Descriptor.TheVariants.{PtrFree, Bitmap}
+use Rattle.sg_graph.specs.declared.program.Class.{Class}
+use Rattle.sg_graph.specs.declared.program.Program.{Program}
+use Rattle.sg_graph.specs.Scripts.{script_of}
+use Rattle.sg_graph.specs.Kinds.{first_kinds, HasNoMisuse}
+use Rattle.sg_run.specs.Text.{IsClassName, Reads}
+
+-- the most fields that a class with this descriptor may have
+abbrev pub most_fields : Descriptor → ℕ
+most_fields PtrFree = 62
+most_fields (Bitmap bits) = 60
+
+abbrev pub IsSmallClass : Class → Type 0
+IsSmallClass class = class.shape.fields ≤ most_fields class.shape.kind
+
+-- the limits of a program
+pub record IsWithinLimits (p : Program) : Type 0 where
+  pub nursery_least : 256 ≤ p.config.nursery
+  pub nursery_most : p.config.nursery ≤ 65536
+  pub nursery_even : p.config.nursery % 64 ≡ 0
+  pub classes : length p.classes ≤ 256
+  pub fields : AllByRecursion IsSmallClass p.classes
+  pub mutators_least : 1 ≤ length p.mutators
+  pub mutators_most : length p.mutators ≤ 16
+
+-- the bytes are accepted as this program: they are few enough, they read as it, each class is declared once, the limits
+-- hold, and no statement finds an operand of another kind than it needs
+pub record IsAcceptedAs (bytes : List ℕ) (p : Program) : Type 0 where
+  pub short : length bytes ≤ 1048576
+  pub reads : Reads bytes p
+  pub distinct : (i j : ℕ) (name : List ℕ) → IsClassName p.classes name i → IsClassName p.classes name j → i ≡ j
+  pub limits : IsWithinLimits p
+  pub kinds : (k : ℕ) → k < length p.mutators → HasNoMisuse first_kinds (script_of p k)
+
+-- the bytes are accepted as some program
+abbrev pub IsAccepted : List ℕ → Type 0
+IsAccepted bytes = (p : Program) × IsAcceptedAs bytes p

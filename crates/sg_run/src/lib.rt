@@ -1,0 +1,4 @@
+//! The program's top call.
+#![tactic(auto)]
+
+mod parse;
