@@ -39,3 +39,7 @@ pub record IsAcceptedAs (bytes : List ℕ) (p : Program) : Type 0 where
 -- the bytes are accepted as some program
 abbrev pub IsAccepted : List ℕ → Type 0
 IsAccepted bytes = (p : Program) × IsAcceptedAs bytes p
+
+-- some bytes are accepted as this program
+abbrev pub IsAcceptedProgram : Program → Type 0
+IsAcceptedProgram p = (bytes : List ℕ) × IsAcceptedAs bytes p

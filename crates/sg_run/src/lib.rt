@@ -1,4 +1,5 @@
 //! The program's top call.
 #![tactic(auto)]
 
+mod execution;
 mod parse;
