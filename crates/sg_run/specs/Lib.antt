@@ -1,2 +1,4 @@
 pub mod Text
 pub mod Accepted
+pub mod Rules
+pub mod Opening

@@ -1,3 +1,4 @@
 pub mod Address
 pub mod Tags
 pub mod Words
+pub mod Events

@@ -1,0 +1,155 @@
+-- The private state of a mutator, and its program: which atomic step comes next, whether that step decides the statement,
+-- and what the mutator is after it.
+use Rattle.std.specs.Prelude.{◌≡◌, ◌≢◌, ℕ, ◌+◌, ◌-◌, ◌<◌, ◌≤◌, ◌==◌, if◌then◌else◌, min, max, Bool, true, false, Option, Some, List, [], ◌∷◌, ◌++◌}
+use Rattle.sg_words.specs.Address.{byte_at, word_at}
+use Rattle.sg_words.specs.Tags.{plain_word}
+use Rattle.sg_words.specs.declared.steps.Place.TheVariants.{Next, Word}
+use Rattle.sg_words.specs.declared.steps.Step.{Step}
+use Rattle.sg_words.specs.declared.steps.Step.TheVariants.{Begin, Load, Store, Won}
+use Rattle.sg_words.specs.declared.steps.Tick.{Tick}
+use Rattle.sg_words.specs.Words.{put, Words, after, Legal}
+use Rattle.sg_graph.specs.declared.program.Statement.{Statement}
+use Rattle.sg_graph.specs.declared.program.Statement.TheVariants.{New, Put, Get, PutD, GetD, Num}
+use Rattle.sg_graph.specs.declared.program.Program.{Program}
+use Rattle.sg_graph.specs.declared.reports.Answer.{Answer}
+use Rattle.sg_graph.specs.declared.reports.Answer.TheVariants.{At, Nil, Null, Number, Fine, Field, Full}
+use Rattle.sg_graph.specs.Shapes.{has_field}
+use Rattle.sg_graph.specs.Scripts.{kind_of, fields_of}
+use Rattle.sg_graph.specs.Statements.{Test, test_of}
+use Rattle.sg_graph.specs.Book.{words_of_class}
+
+-- What is constant in an epoch: how many fragments there are, and before which word each ends.
+pub record Layout : Type 0 where
+  pub fragments : ℕ
+  pub limit : ℕ → ℕ
+
+-- Where in a statement a mutator stands: what its next step is for.
+pub data Mid : Type 0 where
+  -- between two statements
+  Idle : Mid
+  -- the object of the statement passes its test: next comes the load of its tag, and then that of its length
+  TestTag : (s : Statement) (test : Test) → Mid
+  TestLength : (s : Statement) (test : Test) (class : ℕ) → Mid
+  -- the object of the statement fails its test: the same loads
+  FailTag : (s : Statement) (test : Test) → Mid
+  FailLength : (s : Statement) (test : Test) (class : ℕ) → Mid
+  -- the test is passed: next comes the load or the store of the field
+  Access : (s : Statement) → Mid
+  -- a new object for register r: next comes the load of a fragment's next word, or the exchange of it
+  Look : (r class f : ℕ) → Mid
+  Claim : (r class f seen : ℕ) → Mid
+  -- the new object has the word x: next comes the store of its length, and then that of its tag
+  StoreLength : (r class x : ℕ) → Mid
+  StoreTag : (r class x : ℕ) → Mid
+
+-- A mutator: its register words, its buffer as numbers of words, the statements to come and the answers so far.
+pub record Actor : Type 0 where
+  pub reg : ℕ → ℕ
+  pub from : ℕ
+  pub to : ℕ
+  pub script : List Statement
+  pub told : List Answer
+  pub mid : Mid
+
+-- before its script, with empty registers and no buffer
+abbrev pub fresh : List Statement → Actor
+fresh script = record { reg = λ _. 0; from = 0; to = 0; script = script; told = []; mid = Idle }
+
+-- between two statements, and this is the next one
+abbrev pub before : Actor → Statement → List Statement → Actor
+before a s rest = record a { script = s ∷ rest; mid = Idle }
+
+-- within a statement, with these still to come
+abbrev pub within : Actor → List Statement → Mid → Actor
+within a rest mid = record a { script = rest; mid = mid }
+
+-- the statement is over: its answer, and these registers
+abbrev pub over : Actor → List Statement → (ℕ → ℕ) → Answer → Actor
+over a rest reg answer = record a { reg = reg; script = rest; told = a.told ++ answer ∷ []; mid = Idle }
+
+-- the mutator has this buffer
+abbrev pub owning : Actor → ℕ → ℕ → Actor
+owning a from to = record a { from = from; to = to }
+
+-- the register words after a statement that found no object, no such field or no room: the one that it sets is 0
+abbrev pub cleared : Statement → (ℕ → ℕ) → ℕ → ℕ
+cleared (New r class) reg = put reg r 0
+cleared (Put r i s) reg = reg
+cleared (Get d r i) reg = put reg d 0
+cleared (PutD r i s) reg = reg
+cleared (GetD d r i) reg = put reg d 0
+cleared (Num d n) reg = put reg d 0
+
+-- the answer of a loaded reference
+abbrev pub reference_answer : ℕ → Answer
+reference_answer v = if v == 0 then Nil else At v
+
+-- what a claim of n words at the word `next` of fragment f takes: the smaller of the rest and the greater of n and the setting
+abbrev pub taken : Program → Layout → ℕ → ℕ → ℕ → ℕ
+taken p lay f next n = min (lay.limit f - next) (max n p.config.buffer)
+
+-- the number of the word of the object in a register
+abbrev pub object_in : Actor → ℕ → ℕ
+object_in a r = word_at (a.reg r)
+
+-- this step comes next, it decides the statement or not, and then the mutator is so
+pub data Comes (p : Program) (lay : Layout) : Actor → Step → Bool → Actor → Type 0 where
+  -- the object test: no object; an object with such a field; an object without
+  test_null : (a : Actor) (s : Statement) (rest : List Statement) (test : Test) (x tag len : ℕ) → test_of s ≡ Some test → a.reg test.register ≡ 0 →
+    Comes p lay (before a s rest) (Begin 0 x tag len) true (over a rest (cleared s a.reg) Null)
+  test_begins : (a : Actor) (s : Statement) (rest : List Statement) (test : Test) (class len : ℕ) → test_of s ≡ Some test → a.reg test.register ≢ 0 →
+    has_field test.sort (kind_of p class) len test.field ≡ true →
+    Comes p lay (before a s rest) (Begin 0 (object_in a test.register) (plain_word class) len) false (within a rest (TestTag s test))
+  test_fails : (a : Actor) (s : Statement) (rest : List Statement) (test : Test) (class len : ℕ) → test_of s ≡ Some test → a.reg test.register ≢ 0 →
+    has_field test.sort (kind_of p class) len test.field ≡ false →
+    Comes p lay (before a s rest) (Begin 0 (object_in a test.register) (plain_word class) len) true (within a rest (FailTag s test))
+  loads_tag : (a : Actor) (s : Statement) (rest : List Statement) (test : Test) (class : ℕ) →
+    Comes p lay (within a rest (TestTag s test)) (Load (Word (object_in a test.register)) (plain_word class)) false (within a rest (TestLength s test class))
+  loads_length : (a : Actor) (s : Statement) (rest : List Statement) (test : Test) (class len : ℕ) → has_field test.sort (kind_of p class) len test.field ≡ true →
+    Comes p lay (within a rest (TestLength s test class)) (Load (Word (object_in a test.register + 1)) len) false (within a rest (Access s))
+  fails_tag : (a : Actor) (s : Statement) (rest : List Statement) (test : Test) (class : ℕ) →
+    Comes p lay (within a rest (FailTag s test)) (Load (Word (object_in a test.register)) (plain_word class)) false (within a rest (FailLength s test class))
+  fails_length : (a : Actor) (s : Statement) (rest : List Statement) (test : Test) (class len : ℕ) → has_field test.sort (kind_of p class) len test.field ≡ false →
+    Comes p lay (within a rest (FailLength s test class)) (Load (Word (object_in a test.register + 1)) len) false (over a rest (cleared s a.reg) Field)
+  -- the load or the store of the field
+  put_stores : (a : Actor) (rest : List Statement) (r i s : ℕ) →
+    Comes p lay (within a rest (Access (Put r i s))) (Store (Word (object_in a r + 2 + i)) (a.reg s)) true (over a rest a.reg Fine)
+  putd_stores : (a : Actor) (rest : List Statement) (r i s : ℕ) →
+    Comes p lay (within a rest (Access (PutD r i s))) (Store (Word (object_in a r + 2 + i)) (a.reg s)) true (over a rest a.reg Fine)
+  get_loads : (a : Actor) (rest : List Statement) (d r i v : ℕ) →
+    Comes p lay (within a rest (Access (Get d r i))) (Load (Word (object_in a r + 2 + i)) v) true (over a rest (put a.reg d v) (reference_answer v))
+  getd_loads : (a : Actor) (rest : List Statement) (d r i v : ℕ) →
+    Comes p lay (within a rest (Access (GetD d r i))) (Load (Word (object_in a r + 2 + i)) v) true (over a rest (put a.reg d v) (Number v))
+  -- a number
+  num_sets : (a : Actor) (rest : List Statement) (d n x tag len : ℕ) → Comes p lay (before a (Num d n) rest) (Begin 0 x tag len) true (over a rest (put a.reg d n) Fine)
+  -- a new object: from the buffer, or from the lowest fragment that has room
+  new_bumps : (a : Actor) (rest : List Statement) (r class x tag len : ℕ) → a.from + words_of_class p class ≤ a.to →
+    Comes p lay (before a (New r class) rest) (Begin 0 x tag len) true (within (owning a (a.from + words_of_class p class) a.to) rest (StoreLength r class a.from))
+  new_looks : (a : Actor) (rest : List Statement) (r class x tag len : ℕ) → a.to < a.from + words_of_class p class → 0 < lay.fragments →
+    Comes p lay (before a (New r class) rest) (Begin 0 x tag len) false (within a rest (Look r class 0))
+  look_finds : (a : Actor) (rest : List Statement) (r class f next : ℕ) → next + words_of_class p class ≤ lay.limit f →
+    Comes p lay (within a rest (Look r class f)) (Load (Next f) (byte_at next)) false (within a rest (Claim r class f next))
+  look_goes_on : (a : Actor) (rest : List Statement) (r class f next : ℕ) → lay.limit f < next + words_of_class p class → f + 1 < lay.fragments →
+    Comes p lay (within a rest (Look r class f)) (Load (Next f) (byte_at next)) false (within a rest (Look r class (f + 1)))
+  -- there is no room: the last look decides
+  look_ends : (a : Actor) (rest : List Statement) (r class f next : ℕ) → lay.limit f < next + words_of_class p class → lay.fragments ≤ f + 1 →
+    Comes p lay (within a rest (Look r class f)) (Load (Next f) (byte_at next)) true (over a rest (put a.reg r 0) Full)
+  claim_wins : (a : Actor) (rest : List Statement) (r class f next : ℕ) →
+    Comes p lay (within a rest (Claim r class f next)) (Won (Next f) (byte_at next) (byte_at (next + taken p lay f next (words_of_class p class)))) true
+      (within (owning a (next + words_of_class p class) (next + taken p lay f next (words_of_class p class))) rest (StoreLength r class next))
+  stores_length : (a : Actor) (rest : List Statement) (r class x : ℕ) →
+    Comes p lay (within a rest (StoreLength r class x)) (Store (Word (x + 1)) (fields_of p class)) false (within a rest (StoreTag r class x))
+  stores_tag : (a : Actor) (rest : List Statement) (r class x : ℕ) →
+    Comes p lay (within a rest (StoreTag r class x)) (Store (Word x) (plain_word class)) false (over a rest (put a.reg r (byte_at x)) (At (byte_at x)))
+
+-- these steps are the next ones of a mutator, which is `last` after them
+abbrev pub Follows : Program → Layout → Actor → List Tick → Actor → Type 0
+Follows p lay a [] last = last ≡ a
+Follows p lay a (t ∷ ts) last = (mid : Actor) × Comes p lay a t.step t.decides mid × Follows p lay mid ts last
+
+-- a, on the words w, takes next steps of its program, and so becomes b and leaves the words v
+pub record Went (p : Program) (lay : Layout) (a : Actor) (w : Words) (b : Actor) (v : Words) : Type 0 where
+  pub ticks : List Tick
+  pub legal : Legal w ticks
+  pub after : v ≡ after w ticks
+  pub follows : Follows p lay a ticks b
