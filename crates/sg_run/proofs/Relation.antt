@@ -18,9 +18,8 @@ use Rattle.sg_graph.specs.Epoch.{Said, Turn, by_address}
 use Rattle.sg_run.specs.Rules.{Layout, Mid, Idle, TestTag, TestLength, FailTag, FailLength, Access, Look, Claim, StoreLength, StoreTag, Actor}
 
 -- the tag and the length of the object are written
-pub record Headed (w : Words) (g : Graph) (b : Book) (n : ℕ) : Type 0 where
-  pub tag : w.word (b.address n) ≡ plain_word (g.class n)
-  pub length : w.word (b.address n + 1) ≡ g.size n
+abbrev pub Headed : Words → Graph → Book → ℕ → Type 0
+Headed w g b n = (w.word (b.address n) ≡ plain_word (g.class n)) × (w.word (b.address n + 1) ≡ g.size n)
 
 -- the name stands, and it is nothing or its object is headed
 abbrev pub Known : Words → Graph → Book → ℕ → Type 0

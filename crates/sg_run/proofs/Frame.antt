@@ -1,0 +1,133 @@
+-- A step of one mutator keeps what the others rest on.
+use Rattle.std.proofs.Common.{◌≡◌, ◌≢◌, ℕ, ◌+◌, ◌<◌, ◌≤◌, subst, Bool, true, List, [], ◌∷◌, ◌++◌, map, inl, inr, sym, refl, ap, ◌∙◌, ap₂, arith}
+use Rattle.sg_words.specs.Address.{byte_at}
+use Rattle.sg_words.specs.Words.{Words}
+use Rattle.sg_graph.specs.declared.program.Statement.{Statement}
+use Rattle.sg_graph.specs.declared.program.Program.{Program}
+use Rattle.sg_graph.specs.declared.reports.Answer.{Answer}
+use Rattle.sg_graph.specs.declared.reports.Answer.TheVariants.{At, Nil, Null, Number, Fine, Field, Full}
+use Rattle.sg_graph.specs.Shapes.{has_field}
+use Rattle.sg_graph.specs.Scripts.{kind_of}
+use Rattle.sg_graph.specs.Kinds.{HasNoMisuse}
+use Rattle.sg_graph.specs.Graph.{Entry, Ref, Int, Graph}
+use Rattle.sg_graph.specs.Statements.{Test}
+use Rattle.sg_graph.specs.Book.{Book}
+use Rattle.sg_graph.specs.Epoch.{by_address}
+use Rattle.sg_run.specs.Rules.{Layout, Mid, Idle, TestTag, TestLength, FailTag, FailLength, Access, Look, Claim, StoreLength, StoreTag, Actor}
+use Rattle.sg_run.proofs.Relation.{Known, KnownEntry, word_of, IsGiven, AreGiven, IsMutator, Tight, Tested, Placed, AtMid, kind_of_entry, kinds_in, Stands, Later}
+
+address_later : (b c : Book) (answer : Answer) → IsGiven b.stands answer → ((n : ℕ) → b.stands n ≡ true → c.address n ≡ b.address n) → by_address c answer ≡ by_address b answer
+address_later b c (At n) g e = ap (λ x. At (byte_at x)) (e n g)
+address_later b c Nil g e = refl
+address_later b c Null g e = refl
+address_later b c (Number v) g e = refl
+address_later b c Fine g e = refl
+address_later b c Field g e = refl
+address_later b c Full g e = refl
+
+pub answers_later : (b c : Book) (said : List Answer) → AreGiven b.stands said → ((n : ℕ) → b.stands n ≡ true → c.address n ≡ b.address n) → map (by_address c) said ≡ map (by_address b) said
+answers_later b c [] g e = refl
+answers_later b c (answer ∷ said) g e = ap₂ (λ x s. x ∷ s) (address_later b c answer g.0 e) (answers_later b c said g.1 e)
+
+is_given_later : (s t : ℕ → Bool) (answer : Answer) → ((n : ℕ) → s n ≡ true → t n ≡ true) → IsGiven s answer → IsGiven t answer
+is_given_later s t (At n) l g = l n g
+is_given_later s t Nil l g = tt
+is_given_later s t Null l g = tt
+is_given_later s t (Number v) l g = tt
+is_given_later s t Fine l g = tt
+is_given_later s t Field l g = tt
+is_given_later s t Full l g = tt
+
+pub given_later : (s t : ℕ → Bool) (said : List Answer) → ((n : ℕ) → s n ≡ true → t n ≡ true) → AreGiven s said → AreGiven t said
+given_later s t [] l g = tt
+given_later s t (answer ∷ said) l g = (is_given_later s t answer l g.0, given_later s t said l g.1)
+
+-- one more answer at the end
+pub answers_push : (b : Book) (said : List Answer) (answer : Answer) → map (by_address b) (said ++ answer ∷ []) ≡ map (by_address b) said ++ by_address b answer ∷ []
+answers_push b [] answer = refl
+answers_push b (x ∷ said) answer = ap (λ s. by_address b x ∷ s) (answers_push b said answer)
+
+pub given_push : (s : ℕ → Bool) (said : List Answer) (answer : Answer) → AreGiven s said → IsGiven s answer → AreGiven s (said ++ answer ∷ [])
+given_push s [] answer g i = (i, tt)
+given_push s (x ∷ said) answer g i = (g.0, given_push s said answer g.1 i)
+
+-- the word of a known entry stays
+pub word_later : (w : Words) (g : Graph) (b c : Book) (entry : Entry) → KnownEntry w g b entry → ((n : ℕ) → b.stands n ≡ true → c.address n ≡ b.address n) → word_of c.address entry ≡ word_of b.address entry
+word_later w g b c (Ref n) q e = ap byte_at (e n q.0)
+word_later w g b c (Int v) q e = refl
+
+pub entry_later : (w : Words) (g : Graph) (b : Book) (v : Words) (h : Graph) (c : Book) (entry : Entry) → ((n : ℕ) → Known w g b n → Known v h c n) → KnownEntry w g b entry → KnownEntry v h c entry
+entry_later w g b v h c (Ref n) l q = l n q
+entry_later w g b v h c (Int x) l q = tt
+
+module _ (p : Program) (lay : Layout) (w : Words) (g : Graph) (b : Book) (said : ℕ → List Answer) (v : Words) (h : Graph) (c : Book) (said' : ℕ → List Answer) (k j : ℕ) (l : Later w g b said v h c said' k) (n : j ≢ k) where
+  -- the same, at another graph
+  moved : (register : ℕ → Entry) (script : List Statement) (answers : List Answer) → IsMutator g said j register script answers → IsMutator h said' j register script answers
+  moved register script answers m = record { is = l.mutator j n ∙ m.is; says = l.says j n ∙ m.says }
+
+  tested : (entry : ℕ → Entry) (s : Statement) (test : Test) → ((r : ℕ) → KnownEntry w g b (entry r)) → Tested p g entry s test → Tested p h entry s test
+  tested entry s test q t = record {
+    tests = t.tests;
+    name = t.name;
+    holds = t.holds;
+    some = t.some;
+    finds = let stood : b.stands t.name ≡ true = stands_of (entry test.register) t.name t.holds (q test.register) in
+        ap (λ class. has_field test.sort (kind_of p class) (h.size t.name) test.field) (l.class t.name stood) ∙ ap (λ size. has_field test.sort (kind_of p (g.class t.name)) size test.field) (l.size t.name stood) ∙ t.finds;
+  }
+    where
+      stands_of : (e : Entry) (name : ℕ) → e ≡ Ref name → KnownEntry w g b e → b.stands name ≡ true
+      stands_of (Ref m) name eq q = ap b.stands (sym (the_name eq)) ∙ q.0
+        where
+          the_name : Ref m ≡ Ref name → m ≡ name
+          the_name eq = cc
+      stands_of (Int x) name eq q = cc
+
+  tight : (m f : ℕ) → Tight b j m f → Tight c j m f
+  tight m f t = record {
+    short = let x = l.from j n in let y = l.to j n in let u = t.short in omega arith;
+    below = λ i e. let x = l.next i in let y = l.limit i in let u = t.below i e in omega arith;
+  }
+
+  placed : (entry : ℕ → Entry) (answers : List Answer) (rest : List Statement) (r class x : ℕ) → Placed p g b said j entry answers rest r class x → Placed p h c said' j entry answers rest r class x
+  placed entry answers rest r class x m = record {
+    name = m.name;
+    some = m.some;
+    stands = l.stands m.name m.stands;
+    address = l.address m.name m.stands ∙ m.address;
+    size = l.size m.name m.stands ∙ m.size;
+    class_is = l.class m.name m.stands ∙ m.class_is;
+    ahead = moved _ _ _ m.ahead;
+  }
+
+  pub mid_later : (entry : ℕ → Entry) (answers : List Answer) (rest : List Statement) (mid : Mid) → ((r : ℕ) → KnownEntry w g b (entry r)) → AtMid p lay w g b said j entry answers rest mid → AtMid p lay v h c said' j entry answers rest mid
+  mid_later entry answers rest Idle q m = moved _ _ _ m
+  mid_later entry answers rest (TestTag s test) q m = (tested entry s test q m.0, moved _ _ _ m.1)
+  mid_later entry answers rest (TestLength s test class) q m = (tested entry s test q m.0, moved _ _ _ m.1)
+  mid_later entry answers rest (Access s) q m = (m.0, tested entry s m.0 q m.1, moved _ _ _ m.2)
+  mid_later entry answers rest (FailTag s test) q m = moved _ _ _ m
+  mid_later entry answers rest (FailLength s test class) q m = moved _ _ _ m
+  mid_later entry answers rest (Look r class f) q m = (m.0, tight _ f m.1, moved _ _ _ m.2)
+  mid_later entry answers rest (Claim r class f next) q m = (m.0, tight _ f m.1, m.2, moved _ _ _ m.3)
+  mid_later entry answers rest (StoreLength r class x) q m = placed entry answers rest r class x m
+  mid_later entry answers rest (StoreTag r class x) q m = (
+    placed entry answers rest r class x m.0,
+    (let at = m.0.address in let size = m.0.size in
+    ap (λ y. v.word (y + 1)) (sym at) ∙ l.length_word m.0.name m.0.stands m.0.some (ap (λ y. w.word (y + 1)) at ∙ m.1 ∙ sym size) ∙ size),
+  )
+
+  fits_later : HasNoMisuse (kinds_in g j) (g.mutator j).script → HasNoMisuse (kinds_in h j) (h.mutator j).script
+  fits_later f = subst (λ m. HasNoMisuse (λ r. kind_of_entry (m.register r)) m.script) (sym (l.mutator j n)) f
+
+  pub stands_later : (a : Actor) → Stands p lay w g b said j a → Stands p lay v h c said' j a
+  stands_later a s = record {
+    entry = s.entry;
+    answers = s.answers;
+    regs = λ r. s.regs r ∙ sym (word_later w g b c (s.entry r) (s.known r) l.address);
+    known = λ r. entry_later w g b v h c (s.entry r) l.known (s.known r);
+    told = s.told ∙ sym (answers_later b c s.answers s.given l.address);
+    given = given_later b.stands c.stands s.answers l.stands s.given;
+    from_is = s.from_is ∙ sym (l.from j n);
+    to_is = s.to_is ∙ sym (l.to j n);
+    at = mid_later s.entry s.answers a.script a.mid s.known s.at;
+    fits = fits_later s.fits;
+  }
