@@ -4,4 +4,6 @@ pub mod Frame
 pub mod Moves
 pub mod Loads
 pub mod Accesses
+pub mod Places
+pub mod Whole
 pub mod Law

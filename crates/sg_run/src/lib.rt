@@ -2,4 +2,7 @@
 #![tactic(auto)]
 
 mod execution;
+mod order;
 mod parse;
+
+pub use order::one_order;
