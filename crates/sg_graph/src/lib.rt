@@ -11,3 +11,17 @@ mod shapes;
 pub use program::{Class, Config, Item, Name, Program, Script, Statement};
 pub use reports::{Answer, EpochReport, Leave, Part};
 pub use shapes::{Descriptor, Shape};
+
+#[cfg(test)]
+mod tests {
+    use super::*;
+
+    // A mask `r.` has bit 0 set.
+    #[test]
+    fn fields_of_a_mask(rt: HostRuntime) {
+        let kind = Descriptor::Bitmap { bits: 1 };
+        assert!(rt; kind.is_ref(0, 2));
+        assert!(rt; !kind.is_ref(1, 2));
+        assert!(rt; !Descriptor::PtrFree.is_ref(0, 2));
+    }
+}

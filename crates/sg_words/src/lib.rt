@@ -13,3 +13,25 @@ pub use address::Addr;
 pub use lists::List;
 pub use steps::{Place, Step, Tick};
 pub use tags::{Tag, read_tag, write_tag};
+
+#[cfg(test)]
+mod tests {
+    use super::*;
+    use std::test::Fail;
+
+    // Worked values from outside: an address, and the tag of class 0.
+    #[test]
+    fn words_of_the_heap(rt: HostRuntime) -> Result<(), Fail> {
+        let first = Addr::of(4096).ok_or("an address")?;
+        assert_eq!(rt; first.plus(4).get(), 4128);
+        assert_eq!(rt; write_tag(Tag::Plain { class: 0 }), 8);
+        assert_eq!(rt; read_tag(8), Some(Tag::Plain { class: 0 }));
+        for word in [0, 3, 9, 2056] {
+            assert_eq!(rt; read_tag(word), None, "at {word}");
+        }
+        let list = List::from_vec([4096u64, 4128].to_vec(rt.alloc())?);
+        assert_eq!(rt; list.as_slice(), [4096, 4128].as_slice());
+        assert_eq!(rt; list.into_vec().len(), 2);
+        Ok(())
+    }
+}
