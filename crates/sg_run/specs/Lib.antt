@@ -2,3 +2,4 @@ pub mod Text
 pub mod Accepted
 pub mod Rules
 pub mod Opening
+pub mod Views

@@ -2,4 +2,6 @@
 #![tactic(auto)]
 
 mod execution;
+mod mutator;
 mod parse;
+mod space;
