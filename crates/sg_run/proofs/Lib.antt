@@ -1,2 +1,4 @@
 pub mod Relation
+pub mod Puts
+pub mod Steps
 pub mod Law

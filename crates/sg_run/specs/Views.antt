@@ -69,8 +69,8 @@ pub record FindsRoom (s : Space) (n f next : ℕ) : Type 0 where
 
 -- Any mutator whose new object has the word x stores its header.
 abbrev pub StoresHeader : Space → Space → ℕ → ℕ → ℕ → Type 0
-StoresHeader s t x class fields = (p : Program) (a : Actor) (rest : List Statement) (r : ℕ) → fields_of p class ≡ fields →
-    Went p (layout_of s) (within a rest (StoreLength r class x)) (words_of s) (over a rest (put a.reg r (byte_at x)) (At (byte_at x))) (words_of t)
+StoresHeader s t x class fields = (p : Program) (lay : Layout) (a : Actor) (rest : List Statement) (r : ℕ) → fields_of p class ≡ fields →
+    Went p lay (within a rest (StoreLength r class x)) (words_of s) (over a rest (put a.reg r (byte_at x)) (At (byte_at x))) (words_of t)
 
 -- how far the search is before it looks at fragment f, or behind the last one
 pub record Searches (s : Space) (n f : ℕ) : Type 0 where
@@ -149,15 +149,22 @@ CanDo p s m (Num d n) = d < 16
 abbrev pub CanGo : Program → Space → Mutator → Statement → Type 0
 CanGo p s m statement = (s.stop ≡ 0) × CanDo p s m statement
 
--- the mutator has the word x for a new object, and no new answer
-pub record GetsRoom (p : Program) (s : Space) (m : Mutator) (class : ℕ) (t : Space) (n : Mutator) (x : ℕ) : Type 0 where
-  pub went : (rest : List Statement) (r : ℕ) → Went p (layout_of s) (actor_of m (New r class ∷ rest)) (words_of s) (within (actor_of n rest) rest (StoreLength r class x)) (words_of t)
+-- the mutator has the word x for a new object of n words, and no new answer
+pub record GetsRoom (p : Program) (s : Space) (m : Mutator) (n : ℕ) (t : Space) (o : Mutator) (x : ℕ) : Type 0 where
+  pub went : (rest : List Statement) (r class : ℕ) → words_of_class p class ≡ n →
+    Went p (layout_of s) (actor_of m (New r class ∷ rest)) (words_of s) (within (actor_of o rest) rest (StoreLength r class x)) (words_of t)
   pub above : nursery_base ≤ x
-  pub inside : x + words_of_class p class ≤ length s.words.items
-  pub answers : n.answers ≡ m.answers
+  pub inside : x + n ≤ length s.words.items
+  pub answers : o.answers ≡ m.answers
 
 -- it is told that there is no room, and nothing has changed
-pub record GetsNone (p : Program) (s : Space) (m : Mutator) (class : ℕ) (t : Space) (n : Mutator) : Type 0 where
-  pub went : (rest : List Statement) (r : ℕ) → Went p (layout_of s) (actor_of m (New r class ∷ rest)) (words_of s) (over (actor_of m rest) rest (put (actor_of m rest).reg r 0) Full) (words_of s)
+pub record GetsNone (p : Program) (s : Space) (m : Mutator) (n : ℕ) (t : Space) (o : Mutator) : Type 0 where
+  pub went : (rest : List Statement) (r class : ℕ) → words_of_class p class ≡ n →
+    Went p (layout_of s) (actor_of m (New r class ∷ rest)) (words_of s) (over (actor_of m rest) rest (put (actor_of m rest).reg r 0) Full) (words_of s)
   pub space : t ≡ s
-  pub mutator : n ≡ m
+  pub mutator : o ≡ m
+
+-- the exchange for n words at the word `next` of fragment f
+abbrev pub Claims : Program → Space → Mutator → ℕ → ℕ → ℕ → Space → Mutator → Type 0
+Claims p s m n f next t o = (rest : List Statement) (r class : ℕ) → words_of_class p class ≡ n →
+    Went p (layout_of s) (within (actor_of m rest) rest (Claim r class f next)) (words_of s) (within (actor_of o rest) rest (StoreLength r class next)) (words_of t)

@@ -1,11 +1,10 @@
-ghost use Rattle.std.specs.Prelude.{◌≡◌, ℕ, ◌+◌, ◌*◌, ◌<◌, ◌≤◌, true, false, List, ◌∷◌, ◌++◌, [], length, slice_index, slice_set, vec_len, vec_capacity, IfOk, MatchOption};
+ghost use Rattle.std.specs.Prelude.{◌≡◌, ◌+◌, ◌^◌, ◌<◌, ◌≤◌, true, false, List, ◌∷◌, [], length, slice_index, IfOk, MatchOption};
+ghost use Rattle.sg_words.specs.Address.{IsAddress};
 ghost use Rattle.sg_words.specs.Words.{put};
 ghost use Rattle.sg_graph.specs.declared.program.Statement.{Statement};
-ghost use Rattle.sg_graph.specs.Shapes.{has_field};
-ghost use Rattle.sg_graph.specs.Scripts.{fields_of};
-ghost use Rattle.sg_graph.specs.Book.{words_of_class};
-ghost use Rattle.sg_run.specs.Rules.{reference_answer, Went, fresh};
-ghost use Rattle.sg_run.specs.Views.{words_of, layout_of, actor_of, IsSpace, KeepsSpace, HasByteAddresses, FindsRoom, sort_of, IsTested, HoldsObject, IsBufferIn, IsReference, IsNext, KeepsAnswers, HasRoom, CanGo, MayHave, GetsRoom, GetsNone};
+ghost use Rattle.sg_graph.specs.Shapes.{has_field as field_of_sort};
+ghost use Rattle.sg_run.specs.Rules.{reference_answer, over, Went, fresh};
+ghost use Rattle.sg_run.specs.Views.{words_of, layout_of, actor_of, IsSpace, KeepsSpace, HasByteAddresses, FindsRoom, sort_of, IsTested, HoldsObject, IsBufferIn, IsReference, IsNext, HasRoom, CanGo, MayHave, GetsRoom, GetsNone, Claims};
 
 use crate::space::{Room, Space};
 use sg_graph::{Answer, Descriptor, Program, Statement};
@@ -166,10 +165,10 @@ impl Mutator {
         ensures keeps { KeepsSpace space.old space.new }
     {
         let fields = program.classes.as_slice()[class as usize].shape.fields;
-        match self.take(program, space, class, fields as u64 + 2) {
+        match self.take(program, space, fields as u64 + 2) {
             Some(number) => {
                 space.store_header(number, class, fields);
-                self.tell(r, 8 * number, reference(8 * number));
+                self.tell(r, 8 * number, Answer::At(address(8 * number)));
             }
             None => self.tell(r, 0, Answer::Full),
         }
@@ -177,14 +176,14 @@ impl Mutator {
 
     /// The number of the first of this many words: from the buffer, or else from the lowest fragment that has room, which
     /// also gives a new buffer. `None`, and nothing changes, where there is no room.
-    fn take(&mut self, program: &Program, space: &mut Space, class: u16, words: u64) -> Option<u64>
-        requires words { words ≡ words_of_class program.now class }
+    fn take(&mut self, program: &Program, space: &mut Space, words: u64) -> Option<u64>
+        requires some { 0 < words }
         requires small { words ≤ 64 }
         requires space { IsSpace space.old }
         requires going { space.old.stop ≡ 0 }
         requires bytes { HasByteAddresses space.old }
         requires buffer { IsBufferIn space.old self.old }
-        ensures went { MatchOption result (GetsNone program.now space.old self.old class space.new self.new) (GetsRoom program.now space.old self.old class space.new self.new) }
+        ensures went { MatchOption result (GetsNone program.now space.old self.old words space.new self.new) (GetsRoom program.now space.old self.old words space.new self.new) }
         ensures keeps { KeepsSpace space.old space.new }
     {
         if words <= self.to.saturating_sub(self.from) {
@@ -199,9 +198,11 @@ impl Mutator {
 
     /// Takes this many words from the fragment, and a new buffer behind them.
     fn claim(&mut self, program: &Program, space: &mut Space, words: u64, room: Room)
+        requires small { words ≤ 64 }
         requires space { IsSpace space.old }
         requires room { FindsRoom space.old words room.fragment room.next }
-        ensures words { words_of space.new ≡ words_of space.old }
+        ensures went { Claims program.now space.old self.old words room.fragment room.next space.new self.new }
+        ensures answers { self.new.answers ≡ self.old.answers }
         ensures keeps { KeepsSpace space.old space.new }
     {
         let rest = space.end(room.fragment) - room.next;
@@ -250,17 +251,19 @@ impl Mutator {
         self.registers[r as usize]
     }
 
+    /// Register `d` becomes this word.
     fn set(&mut self, d: u8, word: u64)
         requires { d < 16 }
-        ensures { self.new ≡ record self.old { registers = slice_set self.old.registers d word } }
+        ensures set { (script : List Statement) → actor_of self.new script ≡ record (actor_of self.old script) { reg = put (actor_of self.old script).reg d word } }
+        ensures answers { self.new.answers ≡ self.old.answers }
     {
         self.registers[d as usize] = word;
     }
 
+    /// The statement has this answer.
     fn say(&mut self, answer: Answer)
         requires { HasRoom self.old }
-        ensures told { self.new.answers.items ≡ self.old.answers.items ++ answer ∷ [] }
-        ensures same { self.new ≡ record self.old { answers = self.new.answers } }
+        ensures said { (script : List Statement) → actor_of self.new script ≡ over (actor_of self.old []) script (actor_of self.old []).reg answer }
         ensures answers { IsNext self.old self.new }
     {
         if self.answers.push(answer).is_err() {
@@ -268,10 +271,11 @@ impl Mutator {
         }
     }
 
+    /// Register `d` becomes this word, and the statement has this answer.
     fn tell(&mut self, d: u8, word: u64, answer: Answer)
         requires d { d < 16 }
         requires answers { HasRoom self.old }
-        ensures told { (script : List Statement) → actor_of self.new script ≡ record (actor_of self.old script) { reg = put (actor_of self.old script).reg d word; told = self.old.answers.items ++ answer ∷ [] } }
+        ensures told { (script : List Statement) → actor_of self.new script ≡ over (actor_of self.old []) script (put (actor_of self.old []).reg d word) answer }
         ensures answers { IsNext self.old self.new }
     {
         self.set(d, word);
@@ -282,7 +286,7 @@ impl Mutator {
 /// Whether an object of `len` fields has this field, and the field is of this sort.
 fn has_field(kind: &Descriptor, len: u64, field: u64, is_reference: bool) -> bool
     requires { len < 2 ^ 32 }
-    ensures { result ≡ has_field (sort_of is_reference) kind.now len field }
+    ensures { result ≡ field_of_sort (sort_of is_reference) kind.now len field }
 {
     field < len && kind.is_ref(field as u32, len as u32) == is_reference
 }
@@ -293,10 +297,19 @@ fn reference(word: u64) -> Answer
     ensures { result ≡ reference_answer word }
 {
     if word == 0 {
-        return Answer::Nil;
+        Answer::Nil
+    } else {
+        Answer::At(address(word))
     }
+}
+
+/// The byte address that a word is.
+fn address(word: u64) -> Addr
+    requires { IsAddress word }
+    ensures { result ≡ word }
+{
     match Addr::of(word) {
-        Some(address) => Answer::At(address),
+        Some(address) => address,
         None => unreachable!(),
     }
 }
