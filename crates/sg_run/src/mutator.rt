@@ -2,12 +2,13 @@ ghost use Rattle.std.specs.Prelude.{◌≡◌, ◌+◌, ◌^◌, ◌<◌, ◌≤
 ghost use Rattle.sg_words.specs.Address.{IsAddress};
 ghost use Rattle.sg_words.specs.Words.{put};
 ghost use Rattle.sg_graph.specs.declared.program.Statement.{Statement};
+ghost use Rattle.sg_graph.specs.Scripts.{shape_of};
 ghost use Rattle.sg_graph.specs.Shapes.{has_field as field_of_sort};
 ghost use Rattle.sg_run.specs.Rules.{reference_answer, over, Went, fresh};
 ghost use Rattle.sg_run.specs.Views.{words_of, layout_of, actor_of, IsSpace, KeepsSpace, HasByteAddresses, FindsRoom, sort_of, IsTested, HoldsObject, IsBufferIn, IsReference, IsNext, HasRoom, CanGo, MayHave, GetsRoom, GetsNone, Claims};
 
 use crate::space::{Room, Space};
-use sg_graph::{Answer, Descriptor, Program, Statement};
+use sg_graph::{Answer, Descriptor, Program, Shape, Statement};
 use sg_words::{Addr, Tag, read_tag};
 use std::alloc::{AllocError, Global};
 
@@ -82,8 +83,7 @@ impl Mutator {
     {
         let _ = program;
         let _ = space;
-        self.set(d, n);
-        self.say(Answer::Fine);
+        self.tell(d, n, Answer::Fine);
     }
 
     fn put(&mut self, program: &Program, space: &mut Space, r: u8, field: u64, s: u8)
@@ -164,7 +164,7 @@ impl Mutator {
         ensures answers { IsNext self.old self.new }
         ensures keeps { KeepsSpace space.old space.new }
     {
-        let fields = program.classes.as_slice()[class as usize].shape.fields;
+        let fields = shape(program, class).fields;
         match self.take(program, space, fields as u64 + 2) {
             Some(number) => {
                 space.store_header(number, class, fields);
@@ -191,7 +191,9 @@ impl Mutator {
             self.from += words;
             return Some(number);
         }
-        let room = space.find(words)?;
+        let Some(room) = space.find(words) else {
+            return None;
+        };
         self.claim(program, space, words, room);
         Some(room.next)
     }
@@ -233,8 +235,7 @@ impl Mutator {
             None => unreachable!(),
         };
         let len = space.load_word(object + 1);
-        let kind = &program.classes.as_slice()[class as usize].shape.kind;
-        if has_field(kind, len, field, is_reference) {
+        if has_field(&shape(program, class).kind, len, field, is_reference) {
             Tested::At {
                 place: object + 2 + field,
             }
@@ -281,6 +282,14 @@ impl Mutator {
         self.set(d, word);
         self.say(answer);
     }
+}
+
+/// The shape of the objects of this class.
+fn shape(program: &Program, class: u16) -> Shape
+    requires { class < length program.now.classes }
+    ensures { result ≡ shape_of program.now class }
+{
+    program.classes.as_slice()[class as usize].shape
 }
 
 /// Whether an object of `len` fields has this field, and the field is of this sort.

@@ -93,7 +93,7 @@ impl Space {
         ensures words { MatchResult result (λ _. Saw (words_of self.old) (Step.Won (Place.Next fragment) seen new) × (words_of self.new ≡ write (words_of self.old) (Place.Next fragment) new)) (λ found. Saw (words_of self.old) (Step.Lost (Place.Next fragment) seen new found) × (words_of self.new ≡ words_of self.old)) }
         ensures keeps { KeepsSpace self.old self.new }
     {
-        let found = self.next[fragment];
+        let found = self.load_next(fragment);
         if found != seen {
             return Err(found);
         }
@@ -111,7 +111,7 @@ impl Space {
     {
         for fragment in 0..self.ends.len() {
             let next = self.load_next(fragment) / 8;
-            if next + words <= self.ends[fragment] {
+            if next + words <= self.end(fragment) {
                 return Some(Room { fragment, next });
             }
         }
