@@ -42,6 +42,7 @@ pub record IsSpace (s : Space) : Type 0 where
 
 -- what no step changes of a space
 pub record KeepsSpace (s t : Space) : Type 0 where
+  pub stop : t.stop ≡ s.stop
   pub next : length t.next.items ≡ length s.next.items
   pub ends : t.ends.items ≡ s.ends.items
   pub words : length t.words.items ≡ length s.words.items
@@ -160,7 +161,7 @@ pub record GetsRoom (p : Program) (s : Space) (m : Mutator) (n : ℕ) (t : Space
 -- it is told that there is no room, and nothing has changed
 pub record GetsNone (p : Program) (s : Space) (m : Mutator) (n : ℕ) (t : Space) (o : Mutator) : Type 0 where
   pub went : (rest : List Statement) (r class : ℕ) → words_of_class p class ≡ n →
-    Went p (layout_of s) (actor_of m (New r class ∷ rest)) (words_of s) (over (actor_of m rest) rest (put (actor_of m rest).reg r 0) Full) (words_of s)
+    Went p (layout_of s) (actor_of m (New r class ∷ rest)) (words_of s) (over (actor_of o rest) rest (put (actor_of o rest).reg r 0) Full) (words_of t)
   pub space : t ≡ s
   pub mutator : o ≡ m
 

@@ -1,6 +1,7 @@
-use Rattle.std.proofs.Common.{◌∙◌, ap, refl, sym, []}
+use Rattle.std.proofs.Common.{◌+◌, ◌∙◌, ap, sym, []}
 use Rattle.sg_words.specs.Words.{put}
 use Rattle.sg_words.specs.Address.{byte_at}
+use Rattle.sg_graph.specs.declared.shapes.Shape.{Shape}
 use Rattle.sg_graph.specs.declared.reports.Answer.TheVariants.{At}
 use Rattle.sg_run.specs.Rules.{over}
 use Rattle.sg_run.specs.Views.{words_of, layout_of, actor_of}
@@ -14,7 +15,9 @@ returns-in-Some-clause-went c rest =
     let a = actor_of c.take.new.self rest in
     let x = c.in-Some.number in
     went_to p lay _ _ _ _ _ (c.tell.ensures.told rest ∙ ap (λ y. over a rest (put a.reg c.args.r (byte_at x)) (At y)) c.address.ensures)
-    (went_then p lay _ _ _ _ _ _ (c.in-Some.ensures.went.went rest c.args.r c.args.class refl) (c.store_header.ensures.header p lay a rest c.args.r refl))
+    (went_then p lay _ _ _ _ _ _ (c.in-Some.ensures.went.went rest c.args.r c.args.class (ap (λ (s : Shape). s.fields + 2) (sym c.shape-fields.ensures)))
+    (c.store_header.ensures.header p lay a rest c.args.r (ap (λ (s : Shape). s.fields) (sym c.shape-fields.ensures))))
 
 pub returns-in-None-clause-went : goal.returns-in-None-clause-went
-returns-in-None-clause-went c rest = ?
+returns-in-None-clause-went c rest =
+    went_to c.args.program.now (layout_of c.args.space.now) _ _ _ _ _ (c.tell-in-None.ensures.told rest) (c.in-None.ensures.went.went rest c.args.r c.args.class (ap (λ (s : Shape). s.fields + 2) (sym c.shape-fields.ensures)))

@@ -16,7 +16,7 @@ pub returns-in-NoField-clause-went : goal.returns-in-NoField-clause-went
 returns-in-NoField-clause-went c rest =
     let s = c.args.space.now in
     let test : Test = record { register = c.args.r; field = c.args.field; sort = Reference } in
-    went_misses c.args.program.now (layout_of s) (actor_of c.args.self.now []) rest (words_of s) c.requires.can.0 (Put c.args.r c.args.field c.args.s) test refl _ c.in-NoField.ensures (c.say-2.ensures.said rest)
+    went_misses c.args.program.now (layout_of s) (actor_of c.args.self.now []) rest (words_of s) c.requires.can.0 (Put c.args.r c.args.field c.args.s) test refl _ c.in-NoField.ensures (c.say-in-NoField.ensures.said rest)
 
 pub returns-in-At-clause-went : goal.returns-in-At-clause-went
 returns-in-At-clause-went c rest =
@@ -24,4 +24,4 @@ returns-in-At-clause-went c rest =
     let a = actor_of c.args.self.now [] in
     let test : Test = record { register = c.args.r; field = c.args.field; sort = Reference } in
     went_finds c.args.program.now (layout_of s) a rest (words_of s) c.requires.can.0 (Put c.args.r c.args.field c.args.s) test refl _ _ c.in-At.ensures.0
-    (went_put c.args.program.now (layout_of s) a rest (words_of s) c.args.r c.args.field c.args.s c.in-At.place _ _ _ c.in-At.ensures.1 c.held.ensures c.store_word.ensures.words (c.say-3.ensures.said rest))
+    (went_put c.args.program.now (layout_of s) a rest (words_of s) c.args.r c.args.field c.args.s c.in-At.place _ _ _ c.in-At.ensures.1 c.held.ensures c.store_word.ensures.words (c.say-in-At.ensures.said rest))

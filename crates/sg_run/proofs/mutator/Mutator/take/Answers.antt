@@ -16,8 +16,8 @@ returns-then-words-saturating_sub-clause-went c =
       answers = refl;
     }
 
-pub returns-else-Some-clause-went : goal.returns-else-Some-clause-went
-returns-else-Some-clause-went c =
+pub returns-in_default-clause-went : goal.returns-in_default-clause-went
+returns-in_default-clause-went c =
     let s = c.args.space.now in
     let m = c.args.self.now in
     record {
