@@ -1,5 +1,5 @@
 -- What the code asks before a statement follows from the relation of the words to a graph and a book.
-use Rattle.std.proofs.Common.{◌≡◌, ◌≢◌, ℕ, zero, suc, ◌+◌, ◌*◌, ◌/◌, ◌-◌, ◌%◌, ◌^◌, ◌<◌, ◌≤◌, ltb, nat_lt, ◌&&◌, ◌⊎◌, Bool, true, false, Option, Some, None, List, [], ◌∷◌, length, slice_get, get_or, refl, ap, sym, ◌∙◌, subst, inl, inr, arith}
+use Rattle.std.proofs.Common.{◌≡◌, ◌≢◌, ℕ, zero, suc, ◌+◌, ◌*◌, ◌/◌, ◌-◌, ◌%◌, ◌^◌, ◌<◌, ◌≤◌, ltb, nat_lt, ◌&&◌, ◌⊎◌, Bool, true, false, Option, Some, None, List, [], ◌∷◌, length, drop, slice_get, get_or, refl, ap, sym, ◌∙◌, subst, inl, inr, arith, rules}
 use Rattle.std.proofs.lemmas.Bool.{cases_eq, cases_lt}
 use Rattle.sg_words.specs.Address.{IsAddress, byte_at, word_at}
 use Rattle.sg_words.specs.Tags.{plain_word}
@@ -8,10 +8,11 @@ use Rattle.sg_graph.specs.declared.shapes.Descriptor.{Descriptor}
 use Rattle.sg_graph.specs.declared.shapes.Descriptor.TheVariants.{PtrFree, Bitmap}
 use Rattle.sg_graph.specs.declared.program.Statement.{Statement}
 use Rattle.sg_graph.specs.declared.program.Statement.TheVariants.{New, Put, Get, PutD, GetD, Num}
-use Rattle.sg_graph.specs.declared.program.Script.{Script}
+use Rattle.sg_graph.specs.declared.program.Item.{Item}
+use Rattle.sg_graph.specs.declared.program.Item.TheVariants.{One}
 use Rattle.sg_graph.specs.declared.program.Program.{Program}
 use Rattle.sg_graph.specs.Shapes.{holds_reference, has_field, Reference}
-use Rattle.sg_graph.specs.Scripts.{kind_of, script_of, statements_at}
+use Rattle.sg_graph.specs.Scripts.{kind_of, written_out, script_of, statements_at}
 use Rattle.sg_graph.specs.Kinds.{IsRef, first_kinds, Needs, HasNoMisuse}
 use Rattle.sg_graph.specs.Graph.{Entry, Ref, Int, Mutator as Mutator_of, Graph}
 use Rattle.sg_graph.specs.Book.{Book, nursery_base, nursery_end}
@@ -20,7 +21,7 @@ use Rattle.sg_run.specs.declared.mutator.Mutator.{Mutator}
 use Rattle.sg_run.specs.Accepted.{IsAcceptedAs}
 use Rattle.sg_run.specs.Rules.{Layout, Actor}
 use Rattle.sg_run.specs.Opening.{IsFirstLayout}
-use Rattle.sg_run.specs.Views.{words_of, layout_of, actor_of, IsFirstSpace, IsSpace, class_at, IsReference, IsObject, HoldsObject, IsBufferIn, HasByteAddresses, HasClass, CanDo, CanGo}
+use Rattle.sg_run.specs.Views.{words_of, layout_of, actor_of, IsFirstSpace, IsSpace, class_at, IsReference, IsObject, HoldsObject, IsBufferIn, HasByteAddresses, HasClass, KeepsSpace, CanDo, CanGo}
 use Rattle.sg_run.proofs.Relation.{Owner, Headed, Known, KnownEntry, word_of, IsOfSort, Ground, Stands, kind_of_entry}
 use Rattle.sg_run.proofs.Law.{SoFar}
 use Rattle.sg_run.proofs.Classes.{IsNamed, AreNamed, IsClassed, accepted_small, classed_first, classed_along}
@@ -138,3 +139,20 @@ no_misuse bytes p a k = elim (cases_lt k (length p.mutators)) [
   | inl l ↦ a.kinds k l
   | inr l ↦ subst (λ o. HasNoMisuse first_kinds (statements_at o)) (sym (beyond p.mutators k l)) tt
 ]
+
+-- the next statement of a script
+pub next_written : (items : List Item) (j : ℕ) (s : Statement) → j < length items → get_or items j (One s) ≡ One s → written_out (drop j items) ≡ s ∷ written_out (drop (suc j) items)
+next_written [] j s l e = absurd (omega arith)
+next_written (x ∷ items) zero s l e = ap (λ y. written_out (y ∷ items)) e
+next_written (x ∷ items) (suc j) s l e = next_written items j s (omega arith) e
+
+pub first_stays : (n : ℕ) (s t : Space) → KeepsSpace s t → IsFirstSpace n s → IsFirstSpace n t
+first_stays n s t keeps first = record {
+  next = keeps.next ∙ first.next;
+  ends = ap length keeps.ends ∙ first.ends;
+  limit = ap (λ (e : List ℕ). get_or e 0 0) keeps.ends ∙ first.limit;
+  words = keeps.words ∙ first.words;
+}
+
+pub layout_stays : (s t : Space) → KeepsSpace s t → layout_of t ≡ layout_of s
+layout_stays s t keeps = ap (λ (e : List ℕ). record { fragments = length e; limit = λ f. get_or e f 0 }) keeps.ends

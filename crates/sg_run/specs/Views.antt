@@ -14,7 +14,7 @@ use Rattle.sg_run.specs.declared.space.Space.{Space}
 use Rattle.sg_run.specs.declared.mutator.Mutator.{Mutator}
 use Rattle.sg_run.specs.declared.mutator.Tested.{Tested}
 use Rattle.sg_run.specs.declared.mutator.Tested.TheVariants.{NoObject, NoField, At as FieldAt}
-use Rattle.sg_run.specs.Rules.{Layout, Idle, Look, Claim, StoreLength, Actor, within, over, Went}
+use Rattle.sg_run.specs.Rules.{Layout, Idle, Look, Claim, StoreLength, Actor, fresh, within, over, Went}
 
 abbrev pub words_of : Space → Words
 words_of s = record { stop = s.stop; next = λ f. slice_index s.next.items f; word = λ x. slice_index s.words.items x }
@@ -82,8 +82,9 @@ pub record Searches (s : Space) (n f : ℕ) : Type 0 where
 abbrev pub HasRoom : Mutator → Type 0
 HasRoom m = vec_len m.answers < vec_capacity m.answers
 
--- it has no answer, and there is room for n
-pub record MayHave (n : ℕ) (m : Mutator) : Type 0 where
+-- before any script it has empty registers, no buffer and no answer, and there is room for n answers
+pub record IsFresh (m : Mutator) (n : ℕ) : Type 0 where
+  pub begins : (script : List Statement) → actor_of m script ≡ fresh script
   pub none : vec_len m.answers ≡ 0
   pub room : vec_capacity m.answers ≡ n
 

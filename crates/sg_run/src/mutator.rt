@@ -4,8 +4,8 @@ ghost use Rattle.sg_words.specs.Words.{put};
 ghost use Rattle.sg_graph.specs.declared.program.Statement.{Statement};
 ghost use Rattle.sg_graph.specs.Scripts.{shape_of};
 ghost use Rattle.sg_graph.specs.Shapes.{has_field as field_of_sort};
-ghost use Rattle.sg_run.specs.Rules.{reference_answer, over, Went, fresh};
-ghost use Rattle.sg_run.specs.Views.{words_of, layout_of, actor_of, IsSpace, KeepsSpace, HasByteAddresses, FindsRoom, sort_of, IsTested, HoldsObject, IsBufferIn, IsReference, IsNext, HasRoom, CanGo, MayHave, GetsRoom, GetsNone, Claims};
+ghost use Rattle.sg_run.specs.Rules.{reference_answer, over, Went};
+ghost use Rattle.sg_run.specs.Views.{words_of, layout_of, actor_of, IsSpace, KeepsSpace, HasByteAddresses, FindsRoom, sort_of, IsTested, HoldsObject, IsBufferIn, IsReference, IsNext, HasRoom, CanGo, IsFresh, GetsRoom, GetsNone, Claims};
 
 use crate::space::{Room, Space};
 use sg_graph::{Answer, Descriptor, Program, Shape, Statement};
@@ -38,8 +38,7 @@ enum Tested {
 impl Mutator {
     /// A mutator with empty registers and no buffer. Takes memory for this many answers.
     pub(crate) fn new(alloc: Global, statements: usize) -> Result<Mutator, AllocError>
-        ensures fresh { (script : List Statement) → IfOk result (λ mutator. actor_of mutator script ≡ fresh script) }
-        ensures answers { IfOk result (MayHave statements) }
+        ensures { IfOk result (λ mutator. IsFresh mutator statements) }
     {
         Ok(Mutator {
             registers: [0; 16],
