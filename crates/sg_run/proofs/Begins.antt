@@ -1,5 +1,5 @@
 -- What the code asks before a statement follows from the relation of the words to a graph and a book.
-use Rattle.std.proofs.Common.{◌≡◌, ◌≢◌, ℕ, zero, suc, ◌+◌, ◌*◌, ◌/◌, ◌-◌, ◌%◌, ◌^◌, ◌<◌, ◌≤◌, ltb, nat_lt, ◌&&◌, ◌⊎◌, Bool, true, false, Option, Some, None, List, [], ◌∷◌, length, drop, slice_get, get_or, refl, ap, sym, ◌∙◌, subst, inl, inr, arith, rules}
+use Rattle.std.proofs.Common.{◌≡◌, ◌≢◌, ℕ, zero, suc, ◌+◌, ◌*◌, ◌/◌, ◌-◌, ◌%◌, ◌^◌, ◌<◌, ◌≤◌, ltb, nat_lt, ◌&&◌, ◌⊎◌, Bool, true, false, Option, Some, None, List, [], ◌∷◌, length, drop, slice_get, get_or, add-one, refl, ap, sym, ◌∙◌, subst, inl, inr, arith, rules}
 use Rattle.std.proofs.lemmas.Bool.{cases_eq, cases_lt}
 use Rattle.sg_words.specs.Address.{IsAddress, byte_at, word_at}
 use Rattle.sg_words.specs.Tags.{plain_word}
@@ -115,13 +115,13 @@ module _ (bytes : List ℕ) (p : Program) (accepted : IsAcceptedAs bytes p) (s :
 
 can_do : (bytes : List ℕ) (p : Program) (accepted : IsAcceptedAs bytes p) (s : Space) (m : Mutator) (statement : Statement) (rest : List Statement) (first : IsFirstSpace p.config.nursery s)
   (so : SoFar p (layout_of s) (words_of s) (actor_of m (statement ∷ rest))) → IsNamed p.classes statement → Needs (λ r. kind_of_entry (so.stands.entry r)) statement → CanDo p s m statement
-can_do bytes p a s m (New r class) rest first so named needs = (named.0, record { there = named.1; few = a.limits.classes; small = accepted_small bytes p a class },
+can_do bytes p a s m (New r class) rest first so named need = (named.0, record { there = named.1; few = a.limits.classes; small = accepted_small bytes p a class },
   has_byte_addresses bytes p a s m (New r class) rest first so, is_buffer_in bytes p a s m (New r class) rest first so)
-can_do bytes p a s m (Put r i v) rest first so named needs = (holds_object bytes p a s m (Put r i v) rest first so r named.0 needs.0, named.1)
-can_do bytes p a s m (Get d r i) rest first so named needs = (holds_object bytes p a s m (Get d r i) rest first so r named.1 needs, named.0)
-can_do bytes p a s m (PutD r i v) rest first so named needs = (holds_object bytes p a s m (PutD r i v) rest first so r named.0 needs.0, named.1)
-can_do bytes p a s m (GetD d r i) rest first so named needs = (holds_object bytes p a s m (GetD d r i) rest first so r named.1 needs, named.0)
-can_do bytes p a s m (Num d n) rest first so named needs = named
+can_do bytes p a s m (Put r i v) rest first so named need = (holds_object bytes p a s m (Put r i v) rest first so r named.0 need.0, named.1)
+can_do bytes p a s m (Get d r i) rest first so named need = (holds_object bytes p a s m (Get d r i) rest first so r named.1 need, named.0)
+can_do bytes p a s m (PutD r i v) rest first so named need = (holds_object bytes p a s m (PutD r i v) rest first so r named.0 need.0, named.1)
+can_do bytes p a s m (GetD d r i) rest first so named need = (holds_object bytes p a s m (GetD d r i) rest first so r named.1 need, named.0)
+can_do bytes p a s m (Num d n) rest first so named need = named
 
 pub can_go : (bytes : List ℕ) (p : Program) (accepted : IsAcceptedAs bytes p) (s : Space) (m : Mutator) (statement : Statement) (rest : List Statement) (first : IsFirstSpace p.config.nursery s)
   (so : SoFar p (layout_of s) (words_of s) (actor_of m (statement ∷ rest))) → s.stop ≡ 0 → CanGo p s m statement
@@ -141,10 +141,13 @@ no_misuse bytes p a k = elim (cases_lt k (length p.mutators)) [
 ]
 
 -- the next statement of a script
-pub next_written : (items : List Item) (j : ℕ) (s : Statement) → j < length items → get_or items j (One s) ≡ One s → written_out (drop j items) ≡ s ∷ written_out (drop (suc j) items)
-next_written [] j s l e = absurd (omega arith)
-next_written (x ∷ items) zero s l e = ap (λ y. written_out (y ∷ items)) e
-next_written (x ∷ items) (suc j) s l e = next_written items j s (omega arith) e
+written_at : (items : List Item) (j : ℕ) (d : Item) (s : Statement) → j < length items → get_or items j d ≡ One s → written_out (drop j items) ≡ s ∷ written_out (drop (suc j) items)
+written_at [] j d s l e = absurd (omega arith)
+written_at (x ∷ items) zero d s l e = ap (λ y. written_out (y ∷ items)) e
+written_at (x ∷ items) (suc j) d s l e = written_at items j d s (omega arith) e
+
+pub next_written : (items : List Item) (j : ℕ) (d : Item) (s : Statement) → j < length items → get_or items j d ≡ One s → written_out (drop j items) ≡ s ∷ written_out (drop (j + 1) items)
+next_written items j d s l e = written_at items j d s l e ∙ ap (λ k. s ∷ written_out (drop k items)) (sym (add-one j))
 
 pub first_stays : (n : ℕ) (s t : Space) → KeepsSpace s t → IsFirstSpace n s → IsFirstSpace n t
 first_stays n s t keeps first = record {

@@ -1,4 +1,5 @@
 ghost use Rattle.std.specs.Prelude.{◌≡◌, ◌+◌, ◌≤◌, true, IfOk, [], ◌∷◌, Some, length, slice_get, vec_len, vec_capacity};
+ghost use Rattle.sg_graph.specs.declared.program.Item.{Item};
 ghost use Rattle.sg_graph.specs.declared.reports.Leave.{Leave};
 ghost use Rattle.sg_graph.specs.Scripts.{script_of};
 ghost use Rattle.sg_graph.specs.Run.{IsWholeRun, Epoch};
@@ -9,7 +10,7 @@ ghost use Rattle.sg_run.specs.Views.{words_of, layout_of, actor_of, IsFirstSpace
 
 use crate::mutator::Mutator;
 use crate::space::Space;
-use sg_graph::{Answer, EpochReport, Item, Leave, Part, Program, Script};
+use sg_graph::{Answer, EpochReport, Item, Leave, Part, Program, Script, Statement};
 use sg_words::List;
 use std::alloc::{AllocError, Global};
 
@@ -38,9 +39,16 @@ fn run_script(program: &Program, script: &Script, space: &mut Space, mutator: &m
 {
     let items = script.items.as_slice();
     for item in items {
-        match item {
-            Item::One(statement) => mutator.step(program, space, *statement),
-        }
+        mutator.step(program, space, statement_of(item));
+    }
+}
+
+/// The statement of an item.
+fn statement_of(item: &Item) -> Statement
+    ensures { item.now ≡ Item.One result }
+{
+    match item {
+        Item::One(statement) => *statement,
     }
 }
 
