@@ -1,10 +1,11 @@
 ghost use Rattle.std.specs.Prelude.{◌≡◌, ◌+◌, ◌^◌, ◌<◌, ◌≤◌, true, false, List, ◌∷◌, [], length, slice_index, IfOk, MatchOption};
 ghost use Rattle.sg_words.specs.Address.{IsAddress};
-ghost use Rattle.sg_words.specs.Words.{put};
+ghost use Rattle.sg_words.specs.Words.{put, Words};
+ghost use Rattle.sg_graph.specs.declared.program.Program.{Program};
 ghost use Rattle.sg_graph.specs.declared.program.Statement.{Statement};
 ghost use Rattle.sg_graph.specs.Scripts.{shape_of};
 ghost use Rattle.sg_graph.specs.Shapes.{has_field as field_of_sort};
-ghost use Rattle.sg_run.specs.Rules.{reference_answer, over, Went};
+ghost use Rattle.sg_run.specs.Rules.{Layout, reference_answer, over, Went};
 ghost use Rattle.sg_run.specs.Views.{words_of, layout_of, actor_of, IsSpace, KeepsSpace, HasByteAddresses, FindsRoom, sort_of, IsTested, HoldsObject, IsBufferIn, IsReference, IsNext, HasRoom, CanGo, IsFresh, GetsRoom, GetsNone, Claims};
 
 use crate::space::{Room, Space};
@@ -64,27 +65,30 @@ impl Mutator {
         ensures answers { IsNext self.old self.new }
         ensures keeps { KeepsSpace space.old space.new }
     {
+        if space.load_stop() != 0 {
+            unreachable!();
+        }
         match statement {
             Statement::New { r, class } => self.new_object(program, space, r, class),
             Statement::Put { r, field, s } => self.put(program, space, r, field, s),
             Statement::Get { d, r, field } => self.get(program, space, d, r, field),
             Statement::PutD { r, field, s } => self.put_number(program, space, r, field, s),
             Statement::GetD { d, r, field } => self.get_number(program, space, d, r, field),
-            Statement::Num { d, n } => self.number(program, space, d, n),
+            Statement::Num { d, n } => self.number(d, n),
         }
     }
 
-    fn number(&mut self, program: &Program, space: &Space, d: u8, n: u64)
+    /// `num`.
+    fn number(&mut self, d: u8, n: u64)
         requires answers { HasRoom self.old }
-        requires can { CanGo program.now space.now self.old (Statement.Num d n) }
-        ensures went { (rest : List Statement) → Went program.now (layout_of space.now) (actor_of self.old (Statement.Num d n ∷ rest)) (words_of space.now) (actor_of self.new rest) (words_of space.now) }
+        requires d { d < 16 }
+        ensures went { (p : Program) (lay : Layout) (w : Words) (rest : List Statement) → w.stop ≡ 0 → Went p lay (actor_of self.old (Statement.Num d n ∷ rest)) w (actor_of self.new rest) w }
         ensures answers { IsNext self.old self.new }
     {
-        let _ = program;
-        let _ = space;
         self.tell(d, n, Answer::Fine);
     }
 
+    /// `put`.
     fn put(&mut self, program: &Program, space: &mut Space, r: u8, field: u64, s: u8)
         requires space { IsSpace space.old }
         requires answers { HasRoom self.old }
@@ -103,6 +107,7 @@ impl Mutator {
         }
     }
 
+    /// `get`.
     fn get(&mut self, program: &Program, space: &Space, d: u8, r: u8, field: u64)
         requires space { IsSpace space.now }
         requires answers { HasRoom self.old }
@@ -120,6 +125,7 @@ impl Mutator {
         }
     }
 
+    /// `putd`.
     fn put_number(&mut self, program: &Program, space: &mut Space, r: u8, field: u64, s: u8)
         requires space { IsSpace space.old }
         requires answers { HasRoom self.old }
@@ -132,12 +138,14 @@ impl Mutator {
             Tested::NoObject => self.say(Answer::Null),
             Tested::NoField => self.say(Answer::Field),
             Tested::At { place } => {
-                space.store_word(place, self.held(s));
+                let number = self.held(s);
+                space.store_word(place, number);
                 self.say(Answer::Fine);
             }
         }
     }
 
+    /// `getd`.
     fn get_number(&mut self, program: &Program, space: &Space, d: u8, r: u8, field: u64)
         requires space { IsSpace space.now }
         requires answers { HasRoom self.old }
@@ -149,12 +157,13 @@ impl Mutator {
             Tested::NoObject => self.tell(d, 0, Answer::Null),
             Tested::NoField => self.tell(d, 0, Answer::Field),
             Tested::At { place } => {
-                let word = space.load_word(place);
-                self.tell(d, word, Answer::Number(word));
+                let number = space.load_word(place);
+                self.tell(d, number, Answer::Number(number));
             }
         }
     }
 
+    /// `new`: from the buffer or a fragment, else the answer is `full`.
     fn new_object(&mut self, program: &Program, space: &mut Space, r: u8, class: u16)
         requires space { IsSpace space.old }
         requires answers { HasRoom self.old }

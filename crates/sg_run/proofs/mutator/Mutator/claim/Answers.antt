@@ -1,4 +1,4 @@
-use Rattle.std.proofs.Common.{◌≡◌, ap, ◌∙◌}
+use Rattle.std.proofs.Common.{◌≡◌}
 use Rattle.sg_run.specs.Rules.{taken}
 use Rattle.sg_run.specs.Views.{words_of, layout_of, actor_of}
 use Rattle.sg_run.proofs.Steps.{went_claims}

@@ -1,4 +1,4 @@
-use Rattle.std.proofs.Common.{[], List, refl, ap, ◌∙◌}
+use Rattle.std.proofs.Common.{[], refl, ap, ◌∙◌}
 use Rattle.sg_words.specs.Words.{put}
 use Rattle.sg_graph.specs.declared.program.Statement.TheVariants.{Get}
 use Rattle.sg_graph.specs.Shapes.{Reference}

@@ -1,10 +1,10 @@
-use Rattle.std.proofs.Common.{◌+◌, ◌∙◌, ap, sym, []}
+use Rattle.std.proofs.Common.{◌+◌, ◌∙◌, ap, sym}
 use Rattle.sg_words.specs.Words.{put}
 use Rattle.sg_words.specs.Address.{byte_at}
 use Rattle.sg_graph.specs.declared.shapes.Shape.{Shape}
 use Rattle.sg_graph.specs.declared.reports.Answer.TheVariants.{At}
 use Rattle.sg_run.specs.Rules.{over}
-use Rattle.sg_run.specs.Views.{words_of, layout_of, actor_of}
+use Rattle.sg_run.specs.Views.{layout_of, actor_of}
 use Rattle.sg_run.proofs.Steps.{went_then, went_to}
 use Rattle.sg_run.proofs.mutator.Mutator.new_object.Goals as goal
 

@@ -1,4 +1,4 @@
-use Rattle.std.proofs.Common.{[], List, refl}
+use Rattle.std.proofs.Common.{[], refl}
 use Rattle.sg_graph.specs.declared.program.Statement.TheVariants.{Put}
 use Rattle.sg_graph.specs.Shapes.{Reference}
 use Rattle.sg_graph.specs.Statements.{Test}

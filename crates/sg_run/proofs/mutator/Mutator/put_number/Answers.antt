@@ -1,4 +1,4 @@
-use Rattle.std.proofs.Common.{[], List, refl}
+use Rattle.std.proofs.Common.{[], refl}
 use Rattle.sg_graph.specs.declared.program.Statement.TheVariants.{PutD}
 use Rattle.sg_graph.specs.Shapes.{Plain}
 use Rattle.sg_graph.specs.Statements.{Test}
@@ -24,4 +24,4 @@ returns-in-At-clause-went c rest =
     let a = actor_of c.args.self.now [] in
     let test : Test = record { register = c.args.r; field = c.args.field; sort = Plain } in
     went_finds c.args.program.now (layout_of s) a rest (words_of s) c.requires.can.0 (PutD c.args.r c.args.field c.args.s) test refl _ _ c.in-At.ensures.0
-    (went_putd c.args.program.now (layout_of s) a rest (words_of s) c.args.r c.args.field c.args.s c.in-At.place _ _ _ c.in-At.ensures.1 c.held.ensures c.store_word.ensures.words (c.say-in-At.ensures.said rest))
+    (went_putd c.args.program.now (layout_of s) a rest (words_of s) c.args.r c.args.field c.args.s c.in-At.place _ _ _ c.in-At.ensures.1 c.held-number.ensures c.store_word.ensures.words (c.say-in-At.ensures.said rest))

@@ -1,4 +1,4 @@
-use Rattle.std.proofs.Common.{◌<◌, ◌≤◌, ◌+◌, refl, arith}
+use Rattle.std.proofs.Common.{◌≤◌, ◌+◌, refl, arith}
 use Rattle.sg_run.specs.Views.{words_of, layout_of, actor_of}
 use Rattle.sg_run.proofs.Steps.{went_bumps, went_looks, went_then}
 use Rattle.sg_run.proofs.mutator.Mutator.take.Goals as goal

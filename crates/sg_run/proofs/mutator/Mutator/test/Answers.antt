@@ -1,4 +1,4 @@
-use Rattle.std.proofs.Common.{◌≢◌, ◌/◌, length, sym, subst, ◌∙◌, arith}
+use Rattle.std.proofs.Common.{◌≢◌, length, sym, subst, ◌∙◌, arith}
 use Rattle.sg_words.specs.Address.{word_at}
 use Rattle.sg_words.specs.declared.tags.Tag.TheVariants.{Plain}
 use Rattle.sg_run.specs.Views.{words_of, class_at, IsObject}

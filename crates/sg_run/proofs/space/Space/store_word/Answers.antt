@@ -1,5 +1,4 @@
 use Rattle.std.proofs.Common.{ap}
-use Rattle.sg_words.specs.Words.{Words}
 use Rattle.sg_run.specs.Views.{words_of}
 use Rattle.sg_run.proofs.Steps.{put_set}
 use Rattle.sg_run.proofs.space.Space.store_word.Goals as goal
