@@ -62,11 +62,11 @@ module _ (p : Program) (lay : Layout) (w : Words) (g : Graph) (b : Book) (owner 
         class = subst (λ c. c < length p.classes) (sym class) (classed.objects n (omega arith) (ground.objects.given n stands));
         inside = omega (arith, inside.1, head.length);
         references = λ i has.
-          let is : has_field Reference (kind_of p (g.class n)) (g.size n) i ≡ true =
+            let is : has_field Reference (kind_of p (g.class n)) (g.size n) i ≡ true =
             subst (λ c. has_field Reference (kind_of p c) (g.size n) i ≡ true) class (subst (λ m. has_field Reference (kind_of p (class_at w x)) m i ≡ true) head.length has) in
-          let f = field_is (kind_of p (g.class n)) (g.size n) i is in
-          subst (λ v. IsReference v) (sym (ground.fields.holds n i stands f.0))
-          (is_reference (g.field n i) (ground.fields.known n i stands) (subst (λ t. IsOfSort t (g.field n i)) f.1 (ground.fields.sorted n i stands f.0)));
+            let f = field_is (kind_of p (g.class n)) (g.size n) i is in
+            subst (λ v. IsReference v) (sym (ground.fields.holds n i stands f.0))
+            (is_reference (g.field n i) (ground.fields.known n i stands) (subst (λ t. IsOfSort t (g.field n i)) f.1 (ground.fields.sorted n i stands f.0)));
       }
 
   -- the object in a register
@@ -75,14 +75,14 @@ module _ (p : Program) (lay : Layout) (w : Words) (g : Graph) (b : Book) (owner 
   object_in_word (Ref n) v known kind is some = elim known.1 [
     | inl z ↦ absurd (some (is ∙ ap (λ m. byte_at (b.address m)) z ∙ ap byte_at ground.nothing.at_nil))
     | inr head ↦
-      let there : word_at v ≡ b.address n = omega (arith, is) in
-      subst (λ x. IsObject p w (nursery_end p) x) (sym there)
-      (object_at n (λ z. some (is ∙ ap (λ m. byte_at (b.address m)) z ∙ ap byte_at ground.nothing.at_nil)) known.0 head)
+        let there : word_at v ≡ b.address n = omega (arith, is) in
+        subst (λ x. IsObject p w (nursery_end p) x) (sym there)
+        (object_at n (λ z. some (is ∙ ap (λ m. byte_at (b.address m)) z ∙ ap byte_at ground.nothing.at_nil)) known.0 head)
   ]
 
 -- the statement that comes next may begin
 module _ (bytes : List ℕ) (p : Program) (accepted : IsAcceptedAs bytes p) (s : Space) (m : Mutator) (statement : Statement) (rest : List Statement) (first : IsFirstSpace p.config.nursery s)
-  (so : SoFar p (layout_of s) (words_of s) (actor_of m (statement ∷ rest))) where
+    (so : SoFar p (layout_of s) (words_of s) (actor_of m (statement ∷ rest))) where
   classed : IsClassed p so.graph
   classed = classed_along p so.order _ _ so.graph so.book so.explains (classed_first bytes p accepted)
 
@@ -94,13 +94,17 @@ module _ (bytes : List ℕ) (p : Program) (accepted : IsAcceptedAs bytes p) (s :
   needs : Needs (λ r. kind_of_entry (so.stands.entry r)) statement
   needs =
       let all : HasNoMisuse (λ r. kind_of_entry (so.stands.entry r)) (statement ∷ rest) =
-        subst (λ (x : Mutator_of). HasNoMisuse (λ r. kind_of_entry (x.register r)) x.script) so.stands.at.is so.stands.fits in
+      subst (λ (x : Mutator_of). HasNoMisuse (λ r. kind_of_entry (x.register r)) x.script) so.stands.at.is so.stands.fits in
       all.0
 
   holds_object : (r : ℕ) → r < 16 → kind_of_entry (so.stands.entry r) ≡ IsRef → HoldsObject p s m r
-  holds_object r l kind = (l, accepted.limits.classes, λ some.
-    subst (λ n. IsObject p (words_of s) n (word_at (get_or m.registers r 0))) (sym first.words)
-    (object_in_word p (layout_of s) (words_of s) so.graph so.book so.owner so.ground classed accepted.limits.nursery_most (so.stands.entry r) (get_or m.registers r 0) (so.stands.known r) kind (so.stands.regs r) some))
+  holds_object r l kind = (
+    l,
+    accepted.limits.classes,
+    λ some.
+        subst (λ n. IsObject p (words_of s) n (word_at (get_or m.registers r 0))) (sym first.words)
+        (object_in_word p (layout_of s) (words_of s) so.graph so.book so.owner so.ground classed accepted.limits.nursery_most (so.stands.entry r) (get_or m.registers r 0) (so.stands.known r) kind (so.stands.regs r) some),
+  )
 
   has_byte_addresses : HasByteAddresses s
   has_byte_addresses f l =
@@ -114,9 +118,13 @@ module _ (bytes : List ℕ) (p : Program) (accepted : IsAcceptedAs bytes p) (s :
       (omega (arith, inside.0, so.stands.from_is), omega (arith, inside.1, so.stands.to_is, first.words))
 
 can_do : (bytes : List ℕ) (p : Program) (accepted : IsAcceptedAs bytes p) (s : Space) (m : Mutator) (statement : Statement) (rest : List Statement) (first : IsFirstSpace p.config.nursery s)
-  (so : SoFar p (layout_of s) (words_of s) (actor_of m (statement ∷ rest))) → IsNamed p.classes statement → Needs (λ r. kind_of_entry (so.stands.entry r)) statement → CanDo p s m statement
-can_do bytes p a s m (New r class) rest first so named need = (named.0, record { there = named.1; few = a.limits.classes; small = accepted_small bytes p a class },
-  has_byte_addresses bytes p a s m (New r class) rest first so, is_buffer_in bytes p a s m (New r class) rest first so)
+    (so : SoFar p (layout_of s) (words_of s) (actor_of m (statement ∷ rest))) → IsNamed p.classes statement → Needs (λ r. kind_of_entry (so.stands.entry r)) statement → CanDo p s m statement
+can_do bytes p a s m (New r class) rest first so named need = (
+  named.0,
+  record { there = named.1; few = a.limits.classes; small = accepted_small bytes p a class },
+  has_byte_addresses bytes p a s m (New r class) rest first so,
+  is_buffer_in bytes p a s m (New r class) rest first so,
+)
 can_do bytes p a s m (Put r i v) rest first so named need = (holds_object bytes p a s m (Put r i v) rest first so r named.0 need.0, named.1)
 can_do bytes p a s m (Get d r i) rest first so named need = (holds_object bytes p a s m (Get d r i) rest first so r named.1 need, named.0)
 can_do bytes p a s m (PutD r i v) rest first so named need = (holds_object bytes p a s m (PutD r i v) rest first so r named.0 need.0, named.1)
@@ -124,7 +132,7 @@ can_do bytes p a s m (GetD d r i) rest first so named need = (holds_object bytes
 can_do bytes p a s m (Num d n) rest first so named need = named
 
 pub can_go : (bytes : List ℕ) (p : Program) (accepted : IsAcceptedAs bytes p) (s : Space) (m : Mutator) (statement : Statement) (rest : List Statement) (first : IsFirstSpace p.config.nursery s)
-  (so : SoFar p (layout_of s) (words_of s) (actor_of m (statement ∷ rest))) → s.stop ≡ 0 → CanGo p s m statement
+    (so : SoFar p (layout_of s) (words_of s) (actor_of m (statement ∷ rest))) → s.stop ≡ 0 → CanGo p s m statement
 can_go bytes p a s m statement rest first so stop =
     (stop, can_do bytes p a s m statement rest first so (named bytes p a s m statement rest first so) (needs bytes p a s m statement rest first so))
 

@@ -154,7 +154,7 @@ CanGo p s m statement = (s.stop ≡ 0) × CanDo p s m statement
 -- the mutator has the word x for a new object of n words, and no new answer
 pub record GetsRoom (p : Program) (s : Space) (m : Mutator) (n : ℕ) (t : Space) (o : Mutator) (x : ℕ) : Type 0 where
   pub went : (rest : List Statement) (r class : ℕ) → words_of_class p class ≡ n →
-    Went p (layout_of s) (actor_of m (New r class ∷ rest)) (words_of s) (within (actor_of o rest) rest (StoreLength r class x)) (words_of t)
+      Went p (layout_of s) (actor_of m (New r class ∷ rest)) (words_of s) (within (actor_of o rest) rest (StoreLength r class x)) (words_of t)
   pub above : nursery_base ≤ x
   pub inside : x + n ≤ length s.words.items
   pub answers : o.answers ≡ m.answers
@@ -162,7 +162,7 @@ pub record GetsRoom (p : Program) (s : Space) (m : Mutator) (n : ℕ) (t : Space
 -- it is told that there is no room, and nothing has changed
 pub record GetsNone (p : Program) (s : Space) (m : Mutator) (n : ℕ) (t : Space) (o : Mutator) : Type 0 where
   pub went : (rest : List Statement) (r class : ℕ) → words_of_class p class ≡ n →
-    Went p (layout_of s) (actor_of m (New r class ∷ rest)) (words_of s) (over (actor_of o rest) rest (put (actor_of o rest).reg r 0) Full) (words_of t)
+      Went p (layout_of s) (actor_of m (New r class ∷ rest)) (words_of s) (over (actor_of o rest) rest (put (actor_of o rest).reg r 0) Full) (words_of t)
   pub space : t ≡ s
   pub mutator : o ≡ m
 

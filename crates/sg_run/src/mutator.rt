@@ -228,7 +228,14 @@ impl Mutator {
     }
 
     /// The object test: whether the object in register `r` has this field, and the field is of this sort.
-    fn test(&self, program: &Program, space: &Space, r: u8, field: u64, is_reference: bool) -> Tested
+    fn test(
+        &self,
+        program: &Program,
+        space: &Space,
+        r: u8,
+        field: u64,
+        is_reference: bool,
+    ) -> Tested
         requires space { IsSpace space.now }
         requires object { HoldsObject program.now space.now self.now r }
         ensures { IsTested program.now (words_of space.now) (slice_index self.now.registers r) field (sort_of is_reference) (length space.now.words.items) result }
