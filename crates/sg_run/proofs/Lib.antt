@@ -6,4 +6,7 @@ pub mod Loads
 pub mod Accesses
 pub mod Places
 pub mod Whole
+pub mod Steps
 pub mod Law
+pub mod Classes
+pub mod Begins

@@ -3,3 +3,4 @@ pub mod Accepted
 pub mod Rules
 pub mod Opening
 pub mod OneOrder
+pub mod Views

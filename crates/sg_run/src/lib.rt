@@ -2,7 +2,9 @@
 #![tactic(auto)]
 
 mod execution;
+mod mutator;
 mod order;
 mod parse;
+mod space;
 
 pub use order::one_order;
