@@ -55,15 +55,15 @@ module _ (p : Program) (lay : Layout) (w : Words) (g : Graph) (b : Book) (owner 
   object_at : (n : ℕ) → n ≢ 0 → b.stands n ≡ true → Headed w g b n → IsObject p w (nursery_end p) (b.address n)
   object_at n some stands head =
       let x = b.address n in
-      let class : class_at w x ≡ g.class n = omega (arith, head.tag) in
+      let class : class_at w x ≡ g.class n = omega (arith, head.0) in
       let inside = ground.objects.inside n (omega arith) stands in
       record {
-        tag = omega (arith, head.tag);
+        tag = omega (arith, head.0);
         class = subst (λ c. c < length p.classes) (sym class) (classed.objects n (omega arith) (ground.objects.given n stands));
-        inside = omega (arith, inside.1, head.length);
+        inside = omega (arith, inside.1, head.1);
         references = λ i has.
             let is : has_field Reference (kind_of p (g.class n)) (g.size n) i ≡ true =
-            subst (λ c. has_field Reference (kind_of p c) (g.size n) i ≡ true) class (subst (λ m. has_field Reference (kind_of p (class_at w x)) m i ≡ true) head.length has) in
+            subst (λ c. has_field Reference (kind_of p c) (g.size n) i ≡ true) class (subst (λ m. has_field Reference (kind_of p (class_at w x)) m i ≡ true) head.1 has) in
             let f = field_is (kind_of p (g.class n)) (g.size n) i is in
             subst (λ v. IsReference v) (sym (ground.fields.holds n i stands f.0))
             (is_reference (g.field n i) (ground.fields.known n i stands) (subst (λ t. IsOfSort t (g.field n i)) f.1 (ground.fields.sorted n i stands f.0)));
