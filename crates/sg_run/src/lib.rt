@@ -3,3 +3,6 @@
 
 mod execution;
 mod parse;
+mod trace;
+
+pub use trace::append_epoch;
