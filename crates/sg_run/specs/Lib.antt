@@ -1,2 +1,6 @@
 pub mod Text
 pub mod Accepted
+pub mod Command
+pub mod Ends
+pub mod Input
+pub mod Top

@@ -1,8 +1,14 @@
 //! The program's top call.
 #![tactic(auto)]
 
+mod command;
 mod execution;
+mod gate;
+mod input;
+mod output;
 mod parse;
 mod trace;
 
+pub use gate::{Gate, OpenGate};
+pub use input::ReadError;
 pub use trace::append_epoch;
