@@ -1,4 +1,6 @@
 // The answers of calls that did not succeed.
+ghost use Rattle.std.specs.Prelude.{Some, codes};
+
 use std::alloc::AllocError;
 use std::error::Error;
 use std::fmt;
@@ -11,8 +13,10 @@ pub type OutOfMemory = AllocError;
 pub struct Failed;
 
 impl fmt::Display for Failed {
+    ghost output = { λ _. Some (codes "a read or a write failed") };
+
     fn fmt<W: fmt::Write>(&self, f: &mut fmt::Formatter<W>) -> fmt::Result {
-        write!(f, "a read or a write failed")
+        f.write_str("a read or a write failed")
     }
 }
 

@@ -1,5 +1,5 @@
 -- A list of one word.
-use Rattle.std.proofs.Common.{◌≡◌, ℕ, ◌+◌, ◌<◌, ◌≤◌, List, [], ◌∷◌, length, get_or, map, ap, refl, arith, sym, ◌∙◌, subst}
+use Rattle.std.proofs.Common.{◌≡◌, ℕ, ◌<◌, ◌≤◌, List, [], ◌∷◌, length, get_or, map, ap, arith, sym, ◌∙◌}
 
 -- what a function makes of the only element
 map_single : {A : Type 0} (f : A → List ℕ) (xs : List A) (x : A) → 1 ≤ length xs → length xs < 2 → x ≡ get_or xs 0 x → map f xs ≡ f x ∷ []
@@ -13,5 +13,5 @@ pub only_word : {A : Type 0} (f : A → List ℕ) (xs : List A) (x : A) (wanted 
 only_word f xs x wanted P low high e (to, from) =
     let one : map f xs ≡ f x ∷ [] = map_single f xs x low high e in (
       λ p. one ∙ ap (λ w. w ∷ []) (to p),
-      λ q. let joined : f x ∷ [] ≡ wanted ∷ [] = sym one ∙ q in from (cc)
+      λ q. let joined : f x ∷ [] ≡ wanted ∷ [] = sym one ∙ q in from (cc),
     )

@@ -1,6 +1,5 @@
 -- What is read of an input, and why reading stops.
-use Rattle.std.specs.Prelude.{◌≡◌, ℕ, ◌<◌, ◌⊎◌, List, length, Option, IfSome}
-use Rattle.std.specs.Io.KnownBytes.{IsAtEnd}
+use Rattle.std.specs.Prelude.{◌≡◌, ℕ, ◌<◌, ◌⊎◌, List, length}
 use Rattle.sg_io.specs.Faults.{Rose}
 use Rattle.sg_run.specs.declared.input.ReadError.{ReadError}
 use Rattle.sg_run.specs.declared.input.ReadError.TheVariants.{Source, Memory}

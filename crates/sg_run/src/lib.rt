@@ -7,8 +7,10 @@ mod gate;
 mod input;
 mod output;
 mod parse;
+mod top;
 mod trace;
 
 pub use gate::{Gate, OpenGate};
 pub use input::ReadError;
+pub use top::run;
 pub use trace::append_epoch;

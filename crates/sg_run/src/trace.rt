@@ -12,7 +12,11 @@ use std::alloc::{AllocError, Global};
 /// `end` behind the last epoch.
 ///
 /// The only error is want of memory, and then `out` has the bytes that it had before. Linear in the text.
-pub fn append_epoch(alloc: Global, out: &mut Vec<u8>, report: &EpochReport) -> Result<(), AllocError>
+pub fn append_epoch(
+    alloc: Global,
+    out: &mut Vec<u8>,
+    report: &EpochReport,
+) -> Result<(), AllocError>
     ensures appended { IfOk result (λ _. out.new.items ≡ out.old.items ++ epoch_text report.now) }
     ensures kept { IfErr result (λ _. out.new.items ≡ out.old.items) }
 {
@@ -47,7 +51,12 @@ fn append_part(out: &mut Vec<u8>, part: &Part) -> Result<(), AllocError>
     append_leave(out, part.mutator, part.leave)
 }
 
-fn append_answers(out: &mut Vec<u8>, mutator: u32, first: u32, answers: &[Answer]) -> Result<(), AllocError>
+fn append_answers(
+    out: &mut Vec<u8>,
+    mutator: u32,
+    first: u32,
+    answers: &[Answer],
+) -> Result<(), AllocError>
     ensures { IfOk result (λ _. out.new.items ≡ out.old.items ++ answer_lines mutator first answers.now) }
 {
     for (index, answer) in answers.iter().enumerate() {
@@ -56,7 +65,12 @@ fn append_answers(out: &mut Vec<u8>, mutator: u32, first: u32, answers: &[Answer
     Ok(())
 }
 
-fn append_answer_line(out: &mut Vec<u8>, mutator: u32, statement: u64, answer: Answer) -> Result<(), AllocError>
+fn append_answer_line(
+    out: &mut Vec<u8>,
+    mutator: u32,
+    statement: u64,
+    answer: Answer,
+) -> Result<(), AllocError>
     ensures { IfOk result (λ _. out.new.items ≡ out.old.items ++ answer_line mutator statement answer) }
 {
     append_number(out, u64::from(mutator))?;

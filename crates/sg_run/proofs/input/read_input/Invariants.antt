@@ -6,7 +6,7 @@ use Rattle.sg_run.proofs.input.read_input.Given as goal
 abbrev pub invariant-loop-piece : goal.invariant-loop-piece
 invariant-loop-piece g l = record {
   read : Consumes (g.S.Source.left l.initial.source) (g.S.Source.left l.source) l.bytes.items;
-  counted : g.S.Source.faults l.initial.source ≤ g.S.Source.faults l.source
+  counted : g.S.Source.faults l.initial.source ≤ g.S.Source.faults l.source;
 }
 
 -- each turn takes a byte, ends or fails

@@ -7,7 +7,7 @@ loop-at-preserved g c =
     record {
       within = within_further c.args.piece.now c.from.result.now c.loop-at.at c.in-Ok.count (omega arith) c.from.ensures c.in-Ok.ensures.progress.0;
       taken = taken_further _ _ _ c.args.piece.now c.from.result.now c.loop-at.at c.in-Ok.count c.loop-at.invariant.taken c.from.ensures c.in-Ok.ensures.bytes;
-      counted = omega (arith, c.loop-at.invariant.counted, c.in-Ok.ensures.cause.never_falls)
+      counted = omega (arith, c.loop-at.invariant.counted, c.in-Ok.ensures.cause.never_falls);
     }
 
 pub returns-in-Err-clause-taken : goal.returns-in-Err-clause-taken

@@ -7,7 +7,7 @@ abbrev pub invariant-loop-at : goal.invariant-loop-at
 invariant-loop-at g l = record {
   within : l.at ≤ length l.piece;
   taken : Appends (g.O.Sink.taken l.initial.sink) (g.O.Sink.taken l.sink) (take l.at l.piece);
-  counted : g.O.Sink.faults l.initial.sink ≤ g.O.Sink.faults l.sink
+  counted : g.O.Sink.faults l.initial.sink ≤ g.O.Sink.faults l.sink;
 }
 
 abbrev pub decreases-loop-at : goal.decreases-loop-at
