@@ -14,7 +14,7 @@ const PIECE: usize = 4096;
 
 /// Why reading stopped early.
 #[derive(Clone, Copy, Debug, PartialEq, Eq)]
-pub enum ReadError {
+pub(crate) enum ReadError {
     /// The source failed.
     Source,
     /// There was no memory for the bytes.
@@ -25,7 +25,7 @@ pub enum ReadError {
 ///
 /// It reads in pieces of at most 4,096 bytes: each takes at least one byte, ends the input or fails. Linear in the
 /// bytes.
-pub fn read_input<S: Source>(alloc: Global, source: &mut S) -> Result<Vec<u8>, ReadError>
+pub(crate) fn read_input<S: Source>(alloc: Global, source: &mut S) -> Result<Vec<u8>, ReadError>
     ensures whole { IfOk result (λ bytes. IfSome (S.left source.old) (ServesFor bytes.items)) }
     ensures at_end { IfOk result (λ bytes. length bytes.items ≤ 1048576 → IsAtEnd (S.left source.new)) }
     ensures never_falls { S.faults source.old ≤ S.faults source.new }

@@ -11,6 +11,8 @@ mod top;
 mod trace;
 
 pub use gate::{Gate, OpenGate};
-pub use input::ReadError;
 pub use top::run;
 pub use trace::append_epoch;
+
+#[cfg(test)]
+mod tests;

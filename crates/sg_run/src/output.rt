@@ -8,7 +8,7 @@ use sg_io::{Failed, Sink};
 
 /// Writes the whole piece: what the sink left is offered again from where it stopped, until all of it is taken or a
 /// write fails. Then some first bytes were taken, possibly none or all.
-pub fn write_piece<O: Sink>(sink: &mut O, piece: &[u8]) -> Result<(), Failed>
+pub(crate) fn write_piece<O: Sink>(sink: &mut O, piece: &[u8]) -> Result<(), Failed>
     ensures taken { MatchResult result (λ _. Appends (O.taken sink.old) (O.taken sink.new) piece.now)
         (λ _. TakesSome (O.taken sink.old) (O.taken sink.new) piece.now) }
     ensures cause { CountsFaults (O.faults sink.old) (O.faults sink.new) result }
