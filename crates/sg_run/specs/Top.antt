@@ -1,6 +1,6 @@
 -- What the top call promises, by its status: 0 done, 1 no command, 2 not accepted, 3 the source failed, 4 the sink
 -- failed, 5 no memory. Clauses on bytes hold where the source and the sink tell their bytes.
-use Rattle.std.specs.Prelude.{◌≡◌, ℕ, ◌⊎◌, List, IfSome}
+use Rattle.std.specs.Prelude.{◌≡◌, ℕ, ◌≤◌, ◌⊎◌, List, IfSome}
 use Rattle.std.specs.Io.KnownBytes.{Appends, Keeps, IsAtEnd}
 use Rattle.sg_io.specs.Progress.{TakesSome}
 use Rattle.sg_graph.specs.declared.program.Program.{Program}
@@ -66,3 +66,14 @@ pub record Front (words : List (List ℕ)) (old new : Ends) (status : ℕ) : Typ
 abbrev pub Complete : List (List ℕ) → Ends → Ends → ℕ → Type 0
 Complete words old new status =
     IsRunCommand words → IfSome old.left (λ input. IsAccepted input → ¬ ReadFails old new → ¬ WriteFails old new → (status ≡ 0) ⊎ (status ≡ 5))
+
+-- all that is promised of a call
+pub record Promises (words : List (List ℕ)) (old new : Ends) (status : ℕ) : Type 0 where
+  pub headline : Headline words old new status
+  pub usage : Usage words old new status
+  pub refusal : Refusal words old new status
+  pub read_fault : ReadFault words old new status
+  pub write_fault : WriteFault old new status
+  pub front : Front words old new status
+  pub complete : Complete words old new status
+  pub known : status ≤ 5

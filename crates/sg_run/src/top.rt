@@ -7,7 +7,7 @@ ghost use Rattle.sg_run.specs.Accepted.{IsAccepted, IsAcceptedAs, IsAcceptedProg
 ghost use Rattle.sg_run.specs.Ends.{ends_of};
 ghost use Rattle.sg_run.specs.Input.{StopsReading};
 ghost use Rattle.sg_run.specs.Status.{status_of};
-ghost use Rattle.sg_run.specs.Top.{Headline, Usage, Refusal, ReadFault, WriteFault, Front, Complete};
+ghost use Rattle.sg_run.specs.Top.{Headline, Usage, Refusal, ReadFault, WriteFault, Front, Complete, Promises};
 
 use crate::command::is_run;
 use crate::execution::execute;
@@ -94,21 +94,8 @@ fn conclude<S: Source, O: Sink>(
     source: &mut S,
     sink: &mut O,
 ) -> Ending
-    ensures headline { Headline (map string_bytes words.now) (ends_of S.left S.faults O.taken O.faults source.old sink.old)
+    ensures { Promises (map string_bytes words.now) (ends_of S.left S.faults O.taken O.faults source.old sink.old)
         (ends_of S.left S.faults O.taken O.faults source.new sink.new) (status_of result) }
-    ensures usage { Usage (map string_bytes words.now) (ends_of S.left S.faults O.taken O.faults source.old sink.old)
-        (ends_of S.left S.faults O.taken O.faults source.new sink.new) (status_of result) }
-    ensures refusal { Refusal (map string_bytes words.now) (ends_of S.left S.faults O.taken O.faults source.old sink.old)
-        (ends_of S.left S.faults O.taken O.faults source.new sink.new) (status_of result) }
-    ensures read_fault { ReadFault (map string_bytes words.now) (ends_of S.left S.faults O.taken O.faults source.old sink.old)
-        (ends_of S.left S.faults O.taken O.faults source.new sink.new) (status_of result) }
-    ensures write_fault { WriteFault (ends_of S.left S.faults O.taken O.faults source.old sink.old)
-        (ends_of S.left S.faults O.taken O.faults source.new sink.new) (status_of result) }
-    ensures front { Front (map string_bytes words.now) (ends_of S.left S.faults O.taken O.faults source.old sink.old)
-        (ends_of S.left S.faults O.taken O.faults source.new sink.new) (status_of result) }
-    ensures complete { Complete (map string_bytes words.now) (ends_of S.left S.faults O.taken O.faults source.old sink.old)
-        (ends_of S.left S.faults O.taken O.faults source.new sink.new) (status_of result) }
-    ensures status { status_of result ≤ 5 }
 {
     if !is_run(words) {
         return match write_piece(sink, b"usage: sgenlab run\n") {
