@@ -10,3 +10,6 @@ pub mod Steps
 pub mod Law
 pub mod Classes
 pub mod Begins
+mod Fronts
+mod Pieces
+mod Words

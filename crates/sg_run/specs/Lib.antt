@@ -4,3 +4,8 @@ pub mod Rules
 pub mod Opening
 pub mod OneOrder
 pub mod Views
+pub mod Command
+pub mod Ends
+pub mod Input
+pub mod Status
+pub mod Top
