@@ -6,4 +6,10 @@ pub mod Loads
 pub mod Accesses
 pub mod Places
 pub mod Whole
+pub mod Steps
 pub mod Law
+pub mod Classes
+pub mod Begins
+mod Fronts
+mod Pieces
+mod Words

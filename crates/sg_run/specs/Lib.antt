@@ -3,3 +3,9 @@ pub mod Accepted
 pub mod Rules
 pub mod Opening
 pub mod OneOrder
+pub mod Views
+pub mod Command
+pub mod Ends
+pub mod Input
+pub mod Status
+pub mod Top

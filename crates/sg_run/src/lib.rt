@@ -1,8 +1,24 @@
-//! The program's top call.
+//! Runs a program on the simulated heap: from the bytes of a source to the trace in a sink.
+//!
+//! The top call is [`run`], whose contract is the repository's main promise.
 #![tactic(auto)]
 
+mod command;
 mod execution;
+mod gate;
+mod input;
+mod mutator;
 mod order;
+mod output;
 mod parse;
+mod space;
+mod top;
+mod trace;
 
+pub use gate::{Gate, OpenGate};
 pub use order::one_order;
+pub use top::run;
+pub use trace::append_epoch;
+
+#[cfg(test)]
+mod tests;

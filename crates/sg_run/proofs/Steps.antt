@@ -1,0 +1,161 @@
+-- What a piece of code did is a list of next steps of its mutator: one lemma for each way through a statement, over plain data.
+use Rattle.std.proofs.Common.{◌≡◌, ◌≢◌, ℕ, ◌+◌, ◌*◌, ◌/◌, ◌%◌, ◌<◌, ◌≤◌, Bool, true, false, Some, List, [], ◌∷◌, ◌++◌, length, set, get_or, refl, ap, ◌∙◌, sym, subst, inl, inr, arith, get_or-set_same, get_or-set_other}
+use Rattle.std.proofs.Math.Path.{fun_ext}
+use Rattle.std.proofs.lemmas.Bool.{cases_eq}
+use Rattle.sg_words.specs.Address.{byte_at, word_at}
+use Rattle.sg_words.specs.Tags.{plain_word}
+use Rattle.sg_words.specs.declared.steps.Place.TheVariants.{Next, Word}
+use Rattle.sg_words.specs.declared.steps.Step.{Step}
+use Rattle.sg_words.specs.declared.steps.Step.TheVariants.{Begin, Load, Store, Won}
+use Rattle.sg_words.specs.declared.steps.Tick.{Tick}
+use Rattle.sg_words.specs.Words.{put, Words, read, write, Saw, after_step, after, Legal}
+use Rattle.sg_graph.specs.declared.program.Program.{Program}
+use Rattle.sg_graph.specs.declared.program.Statement.{Statement}
+use Rattle.sg_graph.specs.declared.program.Statement.TheVariants.{New, Put, Get, PutD, GetD, Num}
+use Rattle.sg_graph.specs.declared.reports.Answer.TheVariants.{At, Null, Number, Fine, Field, Full}
+use Rattle.sg_graph.specs.Scripts.{kind_of, fields_of}
+use Rattle.sg_graph.specs.Statements.{Test, test_of}
+use Rattle.sg_graph.specs.Book.{words_of_class}
+use Rattle.sg_run.specs.declared.space.Space.{Space}
+use Rattle.sg_run.specs.Rules.{Layout, Actor, Mid, TestTag, TestLength, FailTag, FailLength, Access, Look, Claim, StoreLength, StoreTag, before, within, over, owning, cleared, reference_answer, taken, object_in, Comes, Follows, Went}
+use Rattle.sg_run.specs.Rules.Comes.{test_null, test_begins, test_fails, loads_tag, loads_length, fails_tag, fails_length, put_stores, putd_stores, get_loads, getd_loads, num_sets, new_bumps, new_looks, look_finds, look_goes_on, look_ends, claim_wins, stores_length, stores_tag}
+use Rattle.sg_run.specs.Views.{words_of, layout_of, class_at, IsMeasured, LooksFrom, FindsNone, Searches}
+use Rattle.sg_run.proofs.Puts.{put-at, put-other}
+
+-- a write of a list is a change of the function that reads it
+pub put_set : (xs : List ℕ) (k v : ℕ) → k < length xs → (λ j. get_or (set xs k v) j 0) ≡ put (λ j. get_or xs j 0) k v
+put_set xs k v l = fun_ext (λ j. elim (cases_eq j k) [
+  | inl e ↦ ap (λ i. get_or (set xs k v) i 0) e ∙ get_or-set_same xs k v 0 l ∙ sym (put-at _ k v j e)
+  | inr n ↦ get_or-set_other xs k j v 0 n ∙ sym (put-other _ k v j n)
+])
+
+-- no step
+pub went_none : (p : Program) (lay : Layout) (a b : Actor) (w v : Words) → b ≡ a → v ≡ w → Went p lay a w b v
+went_none p lay a b w v e f = record { ticks = []; legal = tt; after = f; follows = e }
+
+-- one step, and then more
+pub went_first : (p : Program) (lay : Layout) (a a1 b : Actor) (w v1 v : Words) (s : Step) (d : Bool) → Comes p lay a s d a1 → Saw w s → v1 ≡ after_step w s → Went p lay a1 v1 b v → Went p lay a w b v
+went_first p lay a a1 b w v1 v s d c q e r =
+    let m = subst (λ x. Went p lay a1 x b v) e r in
+    record { ticks = record { step = s; decides = d } ∷ m.ticks; legal = (q, m.legal); after = m.after; follows = (a1, c, m.follows) }
+
+-- the last step
+pub went_last : (p : Program) (lay : Layout) (a b c : Actor) (w v : Words) (s : Step) (d : Bool) → Comes p lay a s d b → Saw w s → v ≡ after_step w s → c ≡ b → Went p lay a w c v
+went_last p lay a b c w v s d r q e f = went_first p lay a b c w v v s d r q e (went_none p lay b c v v f refl)
+
+after-append : (w : Words) (ss ts : List Tick) → after w (ss ++ ts) ≡ after (after w ss) ts
+after-append w [] ts = refl
+after-append w (s ∷ ss) ts = after-append (after_step w s.step) ss ts
+
+legal-append : (w : Words) (ss ts : List Tick) → Legal w ss → Legal (after w ss) ts → Legal w (ss ++ ts)
+legal-append w [] ts p q = q
+legal-append w (s ∷ ss) ts p q = (p.0, legal-append (after_step w s.step) ss ts p.1 q)
+
+follows-append : (p : Program) (lay : Layout) (a b c : Actor) (ss ts : List Tick) → Follows p lay a ss b → Follows p lay b ts c → Follows p lay a (ss ++ ts) c
+follows-append p lay a b c [] ts f g = subst (λ x. Follows p lay x ts c) f g
+follows-append p lay a b c (s ∷ ss) ts f g = (f.0, f.1, follows-append p lay f.0 b c ss ts f.2 g)
+
+-- some steps, and then more
+pub went_then : (p : Program) (lay : Layout) (a b c : Actor) (w v u : Words) → Went p lay a w b v → Went p lay b v c u → Went p lay a w c u
+went_then p lay a b c w v u f g =
+    let h = subst (λ x. Went p lay b x c u) f.after g in record {
+      ticks = f.ticks ++ h.ticks;
+      legal = legal-append w f.ticks h.ticks f.legal h.legal;
+      after = h.after ∙ sym (after-append w f.ticks h.ticks);
+      follows = follows-append p lay a b c f.ticks h.ticks f.follows h.follows;
+    }
+
+-- the same mutator or layout, written otherwise
+pub went_to : (p : Program) (lay : Layout) (a b c : Actor) (w v : Words) → c ≡ b → Went p lay a w b v → Went p lay a w c v
+went_to p lay a b c w v e f = subst (λ x. Went p lay a w x v) (sym e) f
+
+pub went_in : (p : Program) (lay l : Layout) (a b : Actor) (w v : Words) → l ≡ lay → Went p lay a w b v → Went p l a w b v
+went_in p lay l a b w v e f = subst (λ x. Went p x a w b v) (sym e) f
+
+module _ (p : Program) (lay : Layout) (a : Actor) (rest : List Statement) (w : Words) where
+  module _ (going : w.stop ≡ 0) where
+    pub went_num : (d n : ℕ) (b : Actor) → b ≡ over a rest (put a.reg d n) Fine → Went p lay (before a (Num d n) rest) w b w
+    went_num d n b e = went_last p lay _ _ b w w (Begin 0 0 (w.word 0) (w.word 1)) true (num_sets a rest d n 0 (w.word 0) (w.word 1)) (going, refl, refl) refl e
+
+    -- the ways through an object test
+    module _ (s : Statement) (test : Test) (is : test_of s ≡ Some test) where
+      pub went_null : (b : Actor) → a.reg test.register ≡ 0 → b ≡ over a rest (cleared s a.reg) Null → Went p lay (before a s rest) w b w
+      went_null b z e = went_last p lay _ _ b w w (Begin 0 0 (w.word 0) (w.word 1)) true (test_null a s rest test 0 (w.word 0) (w.word 1) is z) (going, refl, refl) refl e
+
+      pub went_misses : (b : Actor) → IsMeasured p w (a.reg test.register) test.field test.sort false → b ≡ over a rest (cleared s a.reg) Field → Went p lay (before a s rest) w b w
+      went_misses b m e =
+          let x = object_in a test.register in
+          let class = class_at w x in
+          let len = w.word (x + 1) in
+          went_first p lay _ _ b w w w (Begin 0 x (plain_word class) len) true (test_fails a s rest test class len is m.some m.finds) (going, m.tag, refl) refl
+          (went_first p lay _ _ b w w w (Load (Word x) (plain_word class)) false (fails_tag a s rest test class) m.tag refl
+          (went_last p lay _ _ b w w (Load (Word (x + 1)) len) false (fails_length a s rest test class len m.finds) refl refl e))
+
+      pub went_finds : (b : Actor) (v : Words) → IsMeasured p w (a.reg test.register) test.field test.sort true → Went p lay (within a rest (Access s)) w b v → Went p lay (before a s rest) w b v
+      went_finds b v m f =
+          let x = object_in a test.register in
+          let class = class_at w x in
+          let len = w.word (x + 1) in
+          went_first p lay _ _ b w w v (Begin 0 x (plain_word class) len) false (test_begins a s rest test class len is m.some m.finds) (going, m.tag, refl) refl
+          (went_first p lay _ _ b w w v (Load (Word x) (plain_word class)) false (loads_tag a s rest test class) m.tag refl
+          (went_first p lay _ _ b w w v (Load (Word (x + 1)) len) false (loads_length a s rest test class len m.finds) refl refl f))
+
+    -- a new object from the buffer, or from the fragments
+    pub went_bumps : (r class n : ℕ) → words_of_class p class ≡ n → a.from + n ≤ a.to → Went p lay (before a (New r class) rest) w (within (owning a (a.from + n) a.to) rest (StoreLength r class a.from)) w
+    went_bumps r class n e l =
+        subst (λ m. Went p lay (before a (New r class) rest) w (within (owning a (a.from + m) a.to) rest (StoreLength r class a.from)) w) e
+        (went_last p lay _ _ _ w w (Begin 0 0 (w.word 0) (w.word 1)) true (new_bumps a rest r class 0 (w.word 0) (w.word 1) (subst (λ m. a.from + m ≤ a.to) (sym e) l)) (going, refl, refl) refl refl)
+
+    pub went_looks : (r class n : ℕ) (b : Actor) (v : Words) → words_of_class p class ≡ n → a.to < a.from + n → 0 < lay.fragments → Went p lay (within a rest (Look r class 0)) w b v → Went p lay (before a (New r class) rest) w b v
+    went_looks r class n b v e l some f =
+        went_first p lay _ _ b w w v (Begin 0 0 (w.word 0) (w.word 1)) false (new_looks a rest r class 0 (w.word 0) (w.word 1) (subst (λ m. a.to < a.from + m) (sym e) l) some) (going, refl, refl) refl f
+
+  pub went_put : (r i s x val : ℕ) (b : Actor) (v : Words) → x ≡ object_in a r + 2 + i → val ≡ a.reg s → v ≡ write w (Word x) val → b ≡ over a rest a.reg Fine → Went p lay (within a rest (Access (Put r i s))) w b v
+  went_put r i s x val b v ex ev st e = went_last p lay _ _ b w v _ true (put_stores a rest r i s) tt (st ∙ ap (λ y. write w (Word y) val) ex ∙ ap (λ y. write w (Word (object_in a r + 2 + i)) y) ev) e
+
+  pub went_putd : (r i s x val : ℕ) (b : Actor) (v : Words) → x ≡ object_in a r + 2 + i → val ≡ a.reg s → v ≡ write w (Word x) val → b ≡ over a rest a.reg Fine → Went p lay (within a rest (Access (PutD r i s))) w b v
+  went_putd r i s x val b v ex ev st e = went_last p lay _ _ b w v _ true (putd_stores a rest r i s) tt (st ∙ ap (λ y. write w (Word y) val) ex ∙ ap (λ y. write w (Word (object_in a r + 2 + i)) y) ev) e
+
+  pub went_get : (d r i x val : ℕ) (b : Actor) → x ≡ object_in a r + 2 + i → w.word x ≡ val → b ≡ over a rest (put a.reg d val) (reference_answer val) → Went p lay (within a rest (Access (Get d r i))) w b w
+  went_get d r i x val b ex l e = went_last p lay _ _ b w w _ true (get_loads a rest d r i val) (subst (λ y. w.word y ≡ val) ex l) refl e
+
+  pub went_getd : (d r i x val : ℕ) (b : Actor) → x ≡ object_in a r + 2 + i → w.word x ≡ val → b ≡ over a rest (put a.reg d val) (Number val) → Went p lay (within a rest (Access (GetD d r i))) w b w
+  went_getd d r i x val b ex l e = went_last p lay _ _ b w w _ true (getd_loads a rest d r i val) (subst (λ y. w.word y ≡ val) ex l) refl e
+
+  -- the exchange of a next word
+  pub went_claims : (r class f next n t : ℕ) (v : Words) → words_of_class p class ≡ n → t ≡ taken p lay f next n → w.next f ≡ byte_at next → v ≡ write w (Next f) (byte_at (next + t)) →
+      Went p lay (within a rest (Claim r class f next)) w (within (owning a (next + n) (next + t)) rest (StoreLength r class next)) v
+  went_claims r class f next n t v e h q st =
+      subst (λ x. Went p lay (within a rest (Claim r class f next)) w (within (owning a (next + n) (next + x)) rest (StoreLength r class next)) v) (sym h)
+      (subst (λ m. Went p lay (within a rest (Claim r class f next)) w (within (owning a (next + m) (next + taken p lay f next m)) rest (StoreLength r class next)) v) e
+      (went_last p lay _ _ _ w v _ true (claim_wins a rest r class f next) q (st ∙ ap (λ x. write w (Next f) (byte_at (next + x))) (h ∙ ap (taken p lay f next) (sym e))) refl))
+
+  -- the header of a new object
+  pub went_header : (r class x n tag : ℕ) (u v : Words) → fields_of p class ≡ n → tag ≡ plain_word class → u ≡ write w (Word (x + 1)) n → v ≡ write u (Word x) tag →
+      Went p lay (within a rest (StoreLength r class x)) w (over a rest (put a.reg r (byte_at x)) (At (byte_at x))) v
+  went_header r class x n tag u v e h f g =
+      went_first p lay _ _ _ w u v _ false (stores_length a rest r class x) tt (f ∙ ap (λ y. write w (Word (x + 1)) y) (sym e))
+      (went_last p lay _ _ _ u v _ false (stores_tag a rest r class x) tt (g ∙ ap (λ y. write u (Word x) y) h) refl)
+
+-- the search is at its begin
+pub searches_first : (s : Space) (n : ℕ) → 0 < length s.ends.items → Searches s n 0
+searches_first s n l = record {
+  looks = λ q p a rest r class e. went_none p (layout_of s) _ _ _ _ refl refl;
+  ends = λ q. absurd (omega arith);
+}
+
+-- fragment f has room
+pub search_finds : (s : Space) (n f next : ℕ) → Searches s n f → f < length s.ends.items → get_or s.next.items f 0 ≡ byte_at next → next + n ≤ get_or s.ends.items f 0 →
+    LooksFrom s n 0 (λ a rest r class. within a rest (Claim r class f next))
+search_finds s n f next so l q room p a rest r class e =
+    went_then p (layout_of s) _ _ _ _ _ _ (so.looks l p a rest r class e)
+    (went_last p (layout_of s) _ _ _ (words_of s) (words_of s) _ false (look_finds a rest r class f next (subst (λ m. next + m ≤ get_or s.ends.items f 0) (sym e) room)) q refl refl)
+
+-- fragment f has none
+pub search_goes_on : (s : Space) (n f next : ℕ) → Searches s n f → f < length s.ends.items → get_or s.next.items f 0 ≡ byte_at next → get_or s.ends.items f 0 < next + n → Searches s n (f + 1)
+search_goes_on s n f next so l q full = record {
+  looks = λ more p a rest r class e. went_then p (layout_of s) _ _ _ _ _ _ (so.looks l p a rest r class e)
+      (went_last p (layout_of s) _ _ _ (words_of s) (words_of s) _ false (look_goes_on a rest r class f next (subst (λ m. get_or s.ends.items f 0 < next + m) (sym e) full) more) q refl refl);
+  ends = λ done p a rest r class e. went_then p (layout_of s) _ _ _ _ _ _ (so.looks l p a rest r class e)
+      (went_last p (layout_of s) _ _ _ (words_of s) (words_of s) _ true (look_ends a rest r class f next (subst (λ m. get_or s.ends.items f 0 < next + m) (sym e) full) (omega arith)) q refl refl);
+}

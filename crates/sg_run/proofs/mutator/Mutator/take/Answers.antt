@@ -1,0 +1,42 @@
+use Rattle.std.proofs.Common.{◌≤◌, ◌+◌, refl, arith}
+use Rattle.sg_run.specs.Views.{words_of, layout_of, actor_of}
+use Rattle.sg_run.proofs.Steps.{went_bumps, went_looks, went_then}
+use Rattle.sg_run.proofs.mutator.Mutator.take.Goals as goal
+
+pub returns-then-words-saturating_sub-clause-went : goal.returns-then-words-saturating_sub-clause-went
+returns-then-words-saturating_sub-clause-went c =
+    let s = c.args.space.now in
+    let m = c.args.self.now in
+    let fits : m.from + c.args.words ≤ m.to = omega (arith, c.saturating_sub.ensures, c.if-words-saturating_sub.true, c.requires.some) in
+    let lies = c.requires.buffer (omega (arith, c.requires.some)) in
+    record {
+      went = λ rest r class e. went_bumps c.args.program.now (layout_of s) (actor_of m rest) rest (words_of s) c.requires.going r class c.args.words e fits;
+      above = lies.0;
+      inside = omega (arith, lies.1);
+      answers = refl;
+    }
+
+pub returns-in_default-clause-went : goal.returns-in_default-clause-went
+returns-in_default-clause-went c =
+    let s = c.args.space.now in
+    let m = c.args.self.now in
+    record {
+      went = λ rest r class e. went_looks c.args.program.now (layout_of s) (actor_of m rest) rest (words_of s) c.requires.going r class c.args.words _ _ e (omega (arith, c.saturating_sub.ensures)) c.requires.space.some
+          (c.in_default.ensures.none c.args.program.now (actor_of m rest) rest r class e);
+      space = refl;
+      mutator = refl;
+    }
+
+pub returns-clause-went : goal.returns-clause-went
+returns-clause-went c =
+    let s = c.args.space.now in
+    let m = c.args.self.now in
+    let room = c.in-Some.room in
+    let found = c.in-Some.ensures.found in
+    record {
+      went = λ rest r class e. went_looks c.args.program.now (layout_of s) (actor_of m rest) rest (words_of s) c.requires.going r class c.args.words _ _ e (omega (arith, c.saturating_sub.ensures)) c.requires.space.some
+          (went_then c.args.program.now (layout_of s) _ _ _ _ _ _ (found.went c.args.program.now (actor_of m rest) rest r class e) (c.claim.ensures.went rest r class e));
+      above = found.above;
+      inside = omega (arith, found.room, c.requires.space.limits room.fragment found.there);
+      answers = c.claim.ensures.answers;
+    }
