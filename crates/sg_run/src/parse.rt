@@ -4,6 +4,9 @@ ghost use Rattle.sg_run.specs.Accepted.{IsAccepted, IsAcceptedAs};
 use sg_graph::Program;
 use std::alloc::{AllocError, Global};
 
+mod lines;
+mod words;
+
 /// The program as which the bytes are accepted; `None` where they are not. Linear in the bytes.
 pub fn parse(alloc: Global, bytes: &[u8]) -> Result<Option<Program>, AllocError>
     ensures found { IfOk result (λ read. IfSome read (IsAcceptedAs bytes.now)) }
