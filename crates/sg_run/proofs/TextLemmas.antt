@@ -1,6 +1,7 @@
 -- Lines and words of a text, from the front.
-use Rattle.std.proofs.Common.{◌≡◌, ℕ, ◌+◌, ◌<◌, ◌≤◌, suc, Bool, true, false, not, cond, ◌&&◌, List, [], ◌∷◌, length, take, drop, get_or, ◌++◌, append_assoc, filter, map, refl, sym, ap, ◌∙◌, inl, inr, arith}
+use Rattle.std.proofs.Common.{◌≡◌, ℕ, ◌+◌, ◌-◌, ◌<◌, ◌≤◌, suc, Bool, true, false, not, cond, ◌&&◌, List, [], ◌∷◌, length, take, drop, get_or, ◌++◌, append_assoc, filter, map, refl, sym, ap, ◌∙◌, inl, inr, arith}
 use Rattle.std.specs.List.{position_or_len}
+use Rattle.std.proofs.Math.Seq.{take-length}
 use Rattle.std.proofs.lemmas.Bool.{cases_Bool}
 use Rattle.sg_run.specs.Text.{parted_by, onto_first, is_line_feed, is_blank, is_empty, lines_of, words_of, is_proper, content}
 use Rattle.sg_run.specs.Reading.{words_in, proper, with_words, Cuts}
@@ -80,3 +81,14 @@ pub words_more : (before : List (List ℕ)) (text rest word more : List ℕ) (n 
 words_more before text rest word more n some dark n-is word-is more-is e =
     let front : words_in rest ≡ word ∷ words_in more = rw (word-is, more-is, n-is) (words_from rest some dark) in
     e ∙ ap (λ (words : List (List ℕ)). before ++ words) front ∙ sym (append_assoc before (word ∷ []) (words_in more))
+
+pub cut_empty : (bytes line rest : List ℕ) (n : ℕ) → n ≡ position_or_len is_line_feed bytes → line ≡ take n bytes → rest ≡ drop n bytes → length rest < 1 → Cuts bytes line rest
+cut_empty bytes line rest n n-is line-is rest-is none = rw (line-is, rest-is) (cut_last bytes n n-is (rw (← rest-is) (omega arith)))
+
+whole_front : (rest : List ℕ) → take (length rest - 1) (drop 1 rest) ≡ drop 1 rest
+whole_front [] = refl
+whole_front (c ∷ cs) = let len : length (c ∷ cs) - 1 ≡ length cs = omega arith in rw len (take-length cs)
+
+pub cut_some : (bytes line rest : List ℕ) (n : ℕ) → n ≡ position_or_len is_line_feed bytes → line ≡ take n bytes → rest ≡ drop n bytes → 1 ≤ length rest → Cuts bytes line (take (length rest - 1) (drop 1 rest))
+cut_some bytes line rest n n-is line-is rest-is some =
+    rw (whole_front rest, line-is, rest-is) (cut_more bytes n n-is (rw (← rest-is) (omega arith)))

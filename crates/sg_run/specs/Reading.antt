@@ -1,7 +1,17 @@
 -- What the steps of the reading answer.
-use Rattle.std.specs.Prelude.{◌≡◌, ℕ, ◌<◌, Bool, true, not, List, [], ◌∷◌, length, filter, ◌||◌, ◌&&◌}
-use Rattle.std.specs.List.{list_all}
-use Rattle.sg_run.specs.Text.{parted_by, is_blank, is_printable, is_empty, is_proper, lines_of, words_of, content}
+use Rattle.std.specs.Prelude.{◌≡◌, ℕ, ◌<◌, ◌≤◌, ◌%◌, ◌⊎◌, Bool, true, false, not, if◌then◌else◌, List, [], ◌∷◌, length, filter, slice_index_or, ◌||◌, ◌&&◌, Option, Some, codes}
+use Rattle.std.specs.List.{list_all, AllByRecursion}
+use Rattle.sg_graph.specs.Kinds.{Kind}
+use Rattle.sg_graph.specs.Kinds.Kind.{IsRef, IsInt}
+use Rattle.sg_graph.specs.declared.shapes.Shape.{Shape}
+use Rattle.sg_graph.specs.declared.program.Class.{Class}
+use Rattle.sg_graph.specs.declared.program.Item.{Item}
+use Rattle.sg_run.specs.Text.{parted_by, is_blank, is_printable, is_empty, is_proper, lines_of, words_of, content, head_line, mutator_line, end_line, IsNumber, IsPlainShape, IsMapShape, IsClassLine, IsClassName, IsItemLine}
+use Rattle.sg_run.specs.Accepted.{most_fields, IsSmallClass}
+
+-- whatever has the property is the answer
+abbrev pub Only : {A : Type 0} → (A → Type 0) → Option A → Type 0
+Only {A} P answer = (x : A) → P x → answer ≡ Some x
 
 -- the words of a text that has no comment
 abbrev pub words_in : List ℕ → List (List ℕ)
@@ -29,3 +39,49 @@ pub record Cuts (bytes line rest : List ℕ) : Type 0 where
 abbrev pub IsNext : List ℕ → List (List ℕ) → List ℕ → Type 0
 IsNext bytes [] rest = (proper bytes ≡ true) × (content bytes ≡ [])
 IsNext bytes (w ∷ ws) rest = (proper bytes ≡ proper rest) × (content bytes ≡ (w ∷ ws) ∷ content rest) × (length rest < length bytes)
+
+-- `plain N` or `map MASK`, with few enough fields
+abbrev pub IsShape : List (List ℕ) → Shape → Type 0
+IsShape words shape = (IsPlainShape words shape ⊎ IsMapShape words shape) × (shape.fields ≤ most_fields shape.kind)
+
+-- no two classes have one name
+abbrev pub AreDistinct : List Class → Type 0
+AreDistinct classes = (i j : ℕ) (name : List ℕ) → IsClassName classes name i → IsClassName classes name j → i ≡ j
+
+-- the classes are few and small, and each is declared once
+pub record AreLimited (classes : List Class) : Type 0 where
+  pub few : length classes ≤ 256
+  pub small : AllByRecursion IsSmallClass classes
+  pub distinct : AreDistinct classes
+
+-- the lines begin with those of the classes, and behind the line `mutator` stands the rest
+abbrev pub Declares : List (List (List ℕ)) → List Class → List (List (List ℕ)) → Type 0
+Declares [] classes rest = ⊥
+Declares (line ∷ lines) [] rest = (line ≡ mutator_line) × (rest ≡ lines)
+Declares (line ∷ lines) (class ∷ classes) rest = IsClassLine line class × Declares lines classes rest
+
+-- if the bytes are proper and declare classes within the limits, these and the lines behind them are as P says
+abbrev pub DeclaresOnly : List ℕ → (List Class → List (List (List ℕ)) → Type 0) → Type 0
+DeclaresOnly bytes P = (classes : List Class) (lines : List (List (List ℕ))) → proper bytes ≡ true → AreLimited classes → Declares (content bytes) classes lines → P classes lines
+
+-- the lines are those of the items, and then `end`
+abbrev pub IsBody : List Class → List (List (List ℕ)) → List Item → Type 0
+IsBody classes [] items = ⊥
+IsBody classes (line ∷ lines) [] = (line ≡ end_line) × (lines ≡ [])
+IsBody classes (line ∷ lines) (item ∷ items) = IsItemLine classes line item × IsBody classes lines items
+
+-- a nursery may have so many words
+abbrev pub IsNursery : ℕ → Type 0
+IsNursery n = (256 ≤ n) × (n ≤ 65536) × (n % 64 ≡ 0)
+
+-- the lines begin with those of the settings, by which the nursery has n words
+abbrev pub Sets : List (List (List ℕ)) → ℕ → List (List (List ℕ)) → Type 0
+Sets lines n rest = ((lines ≡ rest) × (n ≡ 4096)) ⊎ ((word : List ℕ) × (lines ≡ (codes "nursery" ∷ word ∷ []) ∷ rest) × IsNumber word n)
+
+-- the lines begin with the head and the settings
+abbrev pub Begins : List (List (List ℕ)) → ℕ → List (List (List ℕ)) → Type 0
+Begins lines n rest = (tail : List (List (List ℕ))) × (lines ≡ head_line ∷ tail) × Sets tail n rest
+
+-- the kinds by flags, which are true for numbers
+abbrev pub kinds_by : List Bool → ℕ → Kind
+kinds_by numbers r = if slice_index_or numbers r false then IsInt else IsRef

@@ -4,7 +4,10 @@ ghost use Rattle.sg_run.specs.Accepted.{IsAccepted, IsAcceptedAs};
 use sg_graph::Program;
 use std::alloc::{AllocError, Global};
 
+mod classes;
+mod kinds;
 mod lines;
+mod statements;
 mod words;
 
 /// The program as which the bytes are accepted; `None` where they are not. Linear in the bytes.
