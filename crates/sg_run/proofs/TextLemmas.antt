@@ -92,3 +92,18 @@ whole_front (c ∷ cs) = let len : length (c ∷ cs) - 1 ≡ length cs = omega a
 pub cut_some : (bytes line rest : List ℕ) (n : ℕ) → n ≡ position_or_len is_line_feed bytes → line ≡ take n bytes → rest ≡ drop n bytes → 1 ≤ length rest → Cuts bytes line (take (length rest - 1) (drop 1 rest))
 cut_some bytes line rest n n-is line-is rest-is some =
     rw (whole_front rest, line-is, rest-is) (cut_more bytes n n-is (rw (← rest-is) (omega arith)))
+
+pub three : {A B : Type 0} (f : A → B) (words : List A) (d : A) → 3 ≤ length words → length words < 4 → map f words ≡ f (get_or words 0 d) ∷ f (get_or words 1 d) ∷ f (get_or words 2 d) ∷ []
+three f [] d least most = absurd (omega arith)
+three f (x ∷ []) d least most = absurd (omega arith)
+three f (x ∷ y ∷ []) d least most = absurd (omega arith)
+three f (x ∷ y ∷ z ∷ []) d least most = refl
+three f (x ∷ y ∷ z ∷ u ∷ us) d least most = absurd (omega arith)
+
+pub four : {A B : Type 0} (f : A → B) (words : List A) (d : A) → 4 ≤ length words → length words < 5 → map f words ≡ f (get_or words 0 d) ∷ f (get_or words 1 d) ∷ f (get_or words 2 d) ∷ f (get_or words 3 d) ∷ []
+four f [] d least most = absurd (omega arith)
+four f (x ∷ []) d least most = absurd (omega arith)
+four f (x ∷ y ∷ []) d least most = absurd (omega arith)
+four f (x ∷ y ∷ z ∷ []) d least most = absurd (omega arith)
+four f (x ∷ y ∷ z ∷ u ∷ []) d least most = refl
+four f (x ∷ y ∷ z ∷ u ∷ v ∷ vs) d least most = absurd (omega arith)

@@ -80,6 +80,12 @@ fn class(alloc: Global, words: &[&[u8]]) -> Result<Option<Class>, AllocError>
     }))
 }
 
+fn name_of(class: &Class) -> &[u8]
+    ensures { result.now ≡ class.now.name }
+{
+    class.name.bytes.as_slice()
+}
+
 /// The number of the class of this name, the first one if there are several.
 pub(super) fn class_named(classes: &[Class], word: &[u8]) -> Option<u16>
     requires { length classes.now ≤ 256 }
@@ -87,7 +93,7 @@ pub(super) fn class_named(classes: &[Class], word: &[u8]) -> Option<u16>
     ensures none { IfNone result ((c : ℕ) → ¬ IsClassName classes.now word.now c) }
 {
     for (at, class) in classes.iter().enumerate() {
-        if says(class.name.bytes.as_slice(), word) {
+        if says(name_of(class), word) {
             return Some(at as u16);
         }
     }
@@ -105,16 +111,17 @@ pub(super) fn classes(alloc: Global, bytes: &[u8]) -> Result<Option<(List<Class>
         let Some(line) = next_line(alloc, rest)? else {
             return Ok(None);
         };
-        if is_one(&line.words, b"mutator") {
+        let words = line.words.as_slice();
+        if is_one(words, b"mutator") {
             return Ok(Some((List::from_vec(classes), line.rest)));
         }
         if classes.len() == 256 {
             return Ok(None);
         }
-        let Some(class) = class(alloc, &line.words)? else {
+        let Some(class) = class(alloc, words)? else {
             return Ok(None);
         };
-        if class_named(&classes, class.name.bytes.as_slice()).is_some() {
+        if class_named(classes.as_slice(), name_of(&class)).is_some() {
             return Ok(None);
         }
         classes.push(class)?;

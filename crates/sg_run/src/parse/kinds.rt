@@ -1,6 +1,7 @@
 //! The kinds of what registers hold.
 ghost use Rattle.std.specs.Prelude.{◌≡◌, ◌↔◌, ℕ, IsTrue};
 ghost use Rattle.sg_graph.specs.Scripts.{written_out};
+ghost use Rattle.sg_graph.specs.declared.program.Item.TheVariants.{One};
 ghost use Rattle.sg_graph.specs.Kinds.{first_kinds, Needs, kinds_after, HasNoMisuse};
 ghost use Rattle.sg_run.specs.Reading.{kinds_by};
 
@@ -25,8 +26,17 @@ fn note(numbers: &mut [bool; 256], statement: Statement)
     match statement {
         Statement::New { r, .. } => numbers[r as usize] = false,
         Statement::Get { d, .. } => numbers[d as usize] = false,
-        Statement::GetD { d, .. } | Statement::Num { d, .. } => numbers[d as usize] = true,
+        Statement::GetD { d, .. } => numbers[d as usize] = true,
+        Statement::Num { d, .. } => numbers[d as usize] = true,
         Statement::Put { .. } | Statement::PutD { .. } => {}
+    }
+}
+
+fn statement_of(item: &Item) -> Statement
+    ensures { item.now ≡ One result }
+{
+    match *item {
+        Item::One(statement) => statement,
     }
 }
 
@@ -36,7 +46,7 @@ pub(super) fn has_no_misuse(items: &[Item]) -> bool
 {
     let mut numbers = [false; 256];
     for item in items {
-        let Item::One(statement) = *item;
+        let statement = statement_of(item);
         if !is_fit(&numbers, statement) {
             return false;
         }

@@ -111,11 +111,14 @@ pub(super) fn items(alloc: Global, classes: &[Class], bytes: &[u8]) -> Result<Op
         let Some(line) = next_line(alloc, rest)? else {
             return Ok(None);
         };
-        if is_one(&line.words, b"end") {
-            let over = is_over(alloc, line.rest)?;
-            return Ok(if over { Some(List::from_vec(items)) } else { None });
+        let words = line.words.as_slice();
+        if is_one(words, b"end") {
+            if is_over(alloc, line.rest)? {
+                return Ok(Some(List::from_vec(items)));
+            }
+            return Ok(None);
         }
-        let Some(statement) = statement(classes, &line.words) else {
+        let Some(statement) = statement(classes, words) else {
             return Ok(None);
         };
         items.push(Item::One(statement))?;
