@@ -14,7 +14,7 @@ use Rattle.sg_run.specs.Reading.{Only, proper, IsNext, IsBody}
 
 -- ---- a statement by its first word
 
-abbrev words_eq : List ℕ → List ℕ → Bool
+abbrev pub words_eq : List ℕ → List ℕ → Bool
 words_eq [] [] = true
 words_eq [] (d ∷ ds) = false
 words_eq (c ∷ cs) [] = false
@@ -28,7 +28,7 @@ words_eq_self (c ∷ cs) = rw (eq-eqb c c refl, words_eq_self cs) refl
 pub apart : (u v : List ℕ) → u ≡ v → words_eq u v ≡ false → ⊥
 apart u v e ne = true≢false (sym (subst (λ (w : List ℕ). words_eq u w ≡ true) e (words_eq_self u)) ∙ ne)
 
-abbrev first : List (List ℕ) → List ℕ
+abbrev pub first : List (List ℕ) → List ℕ
 first [] = []
 first (w ∷ ws) = w
 

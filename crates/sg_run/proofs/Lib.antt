@@ -3,3 +3,5 @@ pub mod WordLemmas
 pub mod ClassLemmas
 pub mod ItemLemmas
 pub mod KindLemmas
+pub mod HeadLemmas
+pub mod ProgramLemmas

@@ -6,7 +6,8 @@ use Rattle.sg_graph.specs.Kinds.Kind.{IsRef, IsInt}
 use Rattle.sg_graph.specs.declared.shapes.Shape.{Shape}
 use Rattle.sg_graph.specs.declared.program.Class.{Class}
 use Rattle.sg_graph.specs.declared.program.Item.{Item}
-use Rattle.sg_run.specs.Text.{parted_by, is_blank, is_printable, is_empty, is_proper, lines_of, words_of, content, head_line, mutator_line, end_line, IsNumber, IsPlainShape, IsMapShape, IsClassLine, IsClassName, IsItemLine}
+use Rattle.sg_graph.specs.declared.program.Program.{Program}
+use Rattle.sg_run.specs.Text.{parted_by, is_blank, is_printable, is_empty, is_proper, lines_of, words_of, content, head_line, mutator_line, end_line, IsNumber, IsPlainShape, IsMapShape, IsClassLine, IsClassName, IsItemLine, defaults}
 use Rattle.sg_run.specs.Accepted.{most_fields, IsSmallClass}
 
 -- whatever has the property is the answer
@@ -82,6 +83,18 @@ Sets lines n rest = ((lines ≡ rest) × (n ≡ 4096)) ⊎ ((word : List ℕ) ×
 abbrev pub Begins : List (List (List ℕ)) → ℕ → List (List (List ℕ)) → Type 0
 Begins lines n rest = (tail : List (List (List ℕ))) × (lines ≡ head_line ∷ tail) × Sets tail n rest
 
+-- if the bytes are proper and begin with settings before classes, these and the lines behind them are as P says
+abbrev pub SetsOnly : List ℕ → (ℕ → List (List (List ℕ)) → Type 0) → Type 0
+SetsOnly bytes P = (n : ℕ) (rest : List (List (List ℕ))) (classes : List Class) (lines : List (List (List ℕ))) → proper bytes ≡ true → IsNursery n → Sets (content bytes) n rest → Declares rest classes lines → P n rest
+
+-- the same for the head and the settings
+abbrev pub BeginsOnly : List ℕ → (ℕ → List (List (List ℕ)) → Type 0) → Type 0
+BeginsOnly bytes P = (n : ℕ) (rest : List (List (List ℕ))) (classes : List Class) (lines : List (List (List ℕ))) → proper bytes ≡ true → IsNursery n → Begins (content bytes) n rest → Declares rest classes lines → P n rest
+
 -- the kinds by flags, which are true for numbers
 abbrev pub kinds_by : List Bool → ℕ → Kind
 kinds_by numbers r = if slice_index_or numbers r false then IsInt else IsRef
+
+-- the program of one mutator
+abbrev pub program_of : ℕ → List Class → List Item → Program
+program_of n classes items = record { config = record defaults { nursery = n }; classes = classes; mutators = record { items = items } ∷ [] }

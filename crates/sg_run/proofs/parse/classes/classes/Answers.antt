@@ -12,7 +12,7 @@ returns-then-is_one-clause-found c =
 pub returns-in_default-2-clause-only : goal.returns-in_default-2-clause-only
 returns-in_default-2-clause-only c = λ classes lines proper limited h.
     let next : IsNext c.loop-classes.rest.now (map (λ word. word.now) c.as_slice-words.result.now) c.in-Some.line.rest.now = rw c.as_slice-words.ensures.value (rw c.in-Some.is at c.in_ok-line.ensures.found) in
-    classes_no_class c.args.bytes.now c.loop-classes.rest.now c.loop-classes.classes.items (map (λ word. word.now) c.as_slice-words.result.now) c.in-Some.line.rest.now c.loop-classes.invariant next (iff_false c.is_one.ensures c.if-is_one.false) ? classes lines limited h
+    classes_no_class c.args.bytes.now c.loop-classes.rest.now c.loop-classes.classes.items (map (λ word. word.now) c.as_slice-words.result.now) c.in-Some.line.rest.now c.loop-classes.invariant next (iff_false c.is_one.ensures c.if-is_one.false) (rw c.in_default-2.is at c.in_ok-class.ensures.only) classes lines limited h
 
 pub returns-then-is_some-clause-only : goal.returns-then-is_some-clause-only
 returns-then-is_some-clause-only c = λ classes lines proper limited h.
