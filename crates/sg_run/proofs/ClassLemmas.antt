@@ -106,8 +106,8 @@ class_left bytes rest cs words after all lines so_far next other limited h =
     elim (declares_next rest words after b.0 lines next b.2) [
       | inl k ↦ absurd (other k.0)
       | inr k ↦
-        let whole : all ≡ cs ++ k.0 ∷ k.1 = b.1 ∙ ap (λ (m : List Class). cs ++ m) k.2 in
-        (k.0, k.1, whole, k.3, small_at cs k.1 k.0 (subst (λ (m : List Class). AllByRecursion IsSmallClass m) whole limited.small), k.4)
+          let whole : all ≡ cs ++ k.0 ∷ k.1 = b.1 ∙ ap (λ (m : List Class). cs ++ m) k.2 in
+          (k.0, k.1, whole, k.3, small_at cs k.1 k.0 (subst (λ (m : List Class). AllByRecursion IsSmallClass m) whole limited.small), k.4)
     ]
 
 pub classes_more : (bytes rest : List ℕ) (cs : List Class) (words : List (List ℕ)) (after : List ℕ) (c : Class)
@@ -119,9 +119,9 @@ classes_more bytes rest cs words after c so_far next line only few new =
       proper = so_far.proper ∙ step.0;
       onward = λ more lines h. rw append_assoc (so_far.onward (c ∷ more) lines (rw step.1 (line.0, h)));
       back = λ all lines limited h.
-        let left = class_left bytes rest cs words after all lines so_far next (not_mutator words c line.0) limited h in
-        let same : c ≡ left.0 = let found = only left.0 (left.3, left.4) in cc in
-        (left.1, left.2 ∙ push_front cs left.1 c left.0 same, left.5);
+          let left = class_left bytes rest cs words after all lines so_far next (not_mutator words c line.0) limited h in
+          let same : c ≡ left.0 = let found = only left.0 (left.3, left.4) in cc in
+          (left.1, left.2 ∙ push_front cs left.1 c left.0 same, left.5);
       limited = record {
         few = let most = so_far.limited.few in omega (arith, length-append cs (c ∷ []));
         small = small_push cs c so_far.limited.small line.1;

@@ -120,13 +120,13 @@ items_more cs bytes rest xs words after s so_far next line only =
       proper = so_far.proper ∙ step.0;
       onward = λ more h. rw append_assoc (so_far.onward (One s ∷ more) (rw step.1 (line, h)));
       back = λ all h.
-        let b = so_far.back all h in
-        elim (body_next cs rest words after b.0 next b.2) [
-          | inl k ↦ absurd (not_end cs words s line k.0)
-          | inr k ↦
-            let same : s ≡ k.0 = let found = only k.0 k.3 in cc in
-            (k.1, b.1 ∙ ap (λ (m : List Item). xs ++ m) k.2 ∙ push_front xs k.1 s k.0 same, k.4)
-        ];
+          let b = so_far.back all h in
+          elim (body_next cs rest words after b.0 next b.2) [
+            | inl k ↦ absurd (not_end cs words s line k.0)
+            | inr k ↦
+                let same : s ≡ k.0 = let found = only k.0 k.3 in cc in
+                (k.1, b.1 ∙ ap (λ (m : List Item). xs ++ m) k.2 ∙ push_front xs k.1 s k.0 same, k.4)
+          ];
     }
 
 pub items_found : (cs : List Class) (bytes rest : List ℕ) (xs : List Item) (words : List (List ℕ)) (after : List ℕ) → ItemsSoFar cs bytes rest xs → IsNext rest words after → words ≡ end_line

@@ -47,9 +47,9 @@ accepted bytes first second n classes items short head declared body kinds =
     let front = declares_parts (content first) classes (content second) declared.1 in
     let script = body_parts classes (content second) items body.1 in
     let order : content bytes ≡ head_line ∷ settings.0 ++ front.0 ++ (mutator_line ∷ script.0 ++ end_line ∷ []) =
-        head.1.1
-        ∙ ap (λ (ls : List (List (List ℕ))). head_line ∷ ls) (settings.1 ∙ ap (λ (ls : List (List (List ℕ))). settings.0 ++ ls) (front.1 ∙ ap (λ (ls : List (List (List ℕ))). front.0 ++ mutator_line ∷ ls) script.1))
-        ∙ joined settings.0 front.0 script.0 in
+    head.1.1
+    ∙ ap (λ (ls : List (List (List ℕ))). head_line ∷ ls) (settings.1 ∙ ap (λ (ls : List (List (List ℕ))). settings.0 ++ ls) (front.1 ∙ ap (λ (ls : List (List (List ℕ))). front.0 ++ mutator_line ∷ ls) script.1))
+    ∙ joined settings.0 front.0 script.0 in
     record {
       short = short;
       reads = record {
@@ -126,7 +126,7 @@ parts bytes p a =
     let r = a.reads.program in
     let one = scripts_one p.classes r.scripts p.mutators r.are_scripts a.limits.mutators_least r.few in
     let order : content bytes ≡ head_line ∷ (r.settings ++ (r.classes ++ mutator_line ∷ (one.2 ++ end_line ∷ []))) =
-        r.in_order ∙ ap (λ (ls : List (List (List ℕ))). head_line ∷ r.settings ++ r.classes ++ ls) one.3 ∙ sym (joined r.settings r.classes one.2) in
+    r.in_order ∙ ap (λ (ls : List (List (List ℕ))). head_line ∷ r.settings ++ r.classes ++ ls) one.3 ∙ sym (joined r.settings r.classes one.2) in
     record {
       n = p.config.nursery;
       classes = p.classes;

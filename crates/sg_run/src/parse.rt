@@ -45,7 +45,12 @@ pub fn parse(alloc: Global, bytes: &[u8]) -> Result<Option<Program>, AllocError>
 }
 
 /// The program of one mutator.
-fn program(alloc: Global, nursery: u32, classes: List<Class>, items: List<Item>) -> Result<Program, AllocError>
+fn program(
+    alloc: Global,
+    nursery: u32,
+    classes: List<Class>,
+    items: List<Item>,
+) -> Result<Program, AllocError>
     ensures { IfOk result (λ p. p ≡ program_of nursery classes items) }
 {
     let mut scripts = Vec::new(alloc);

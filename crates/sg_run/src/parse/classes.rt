@@ -101,7 +101,10 @@ pub(super) fn class_named(classes: &[Class], word: &[u8]) -> Option<u16>
 }
 
 /// The classes up to the line `mutator`, and the bytes behind that line.
-pub(super) fn classes(alloc: Global, bytes: &[u8]) -> Result<Option<(List<Class>, &[u8])>, AllocError>
+pub(super) fn classes(
+    alloc: Global,
+    bytes: &[u8],
+) -> Result<Option<(List<Class>, &[u8])>, AllocError>
     ensures found { IfOk result (λ read. IfSome read (λ x. (proper bytes.now ≡ proper x.1.now) × Declares (content bytes.now) x.0 (content x.1.now) × AreLimited x.0)) }
     ensures only { IfOk result (λ read. DeclaresOnly bytes.now (λ classes lines. IsSomeAnd read (λ x. (x.0 ≡ classes) × (content x.1.now ≡ lines)))) }
 {

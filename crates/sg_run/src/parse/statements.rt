@@ -100,7 +100,11 @@ fn is_over(alloc: Global, bytes: &[u8]) -> Result<bool, AllocError>
 }
 
 /// The items up to the line `end`, which is the last one.
-pub(super) fn items(alloc: Global, classes: &[Class], bytes: &[u8]) -> Result<Option<List<Item>>, AllocError>
+pub(super) fn items(
+    alloc: Global,
+    classes: &[Class],
+    bytes: &[u8],
+) -> Result<Option<List<Item>>, AllocError>
     requires { AreLimited classes.now }
     ensures found { IfOk result (λ read. IfSome read (λ items. (proper bytes.now ≡ true) × IsBody classes.now (content bytes.now) items)) }
     ensures only { IfOk result (λ read. Only (λ items. (proper bytes.now ≡ true) × IsBody classes.now (content bytes.now) items) read) }

@@ -24,7 +24,7 @@ returns-in_default-3-clause-none c = λ a.
     let only_classes = rw c.in-Some-2.is at c.in_ok-classes.ensures.only in
     let declared : HasClasses c.in-Some.rest.now c.in-Some-2.classes c.in-Some-2.rest.now = record { proper = found_classes.0; only = only_classes } in
     no_items c.args.bytes.now c.in-Some.nursery c.in-Some.rest.now c.in-Some-2.classes c.in-Some-2.rest.now head declared
-      (only_body c.as_slice.result.now c.in-Some-2.classes c.in-Some-2.rest.now _ c.as_slice.ensures (rw c.in_default-3.is at c.in_ok-items.ensures.only)) (parts c.args.bytes.now a.0 a.1)
+    (only_body c.as_slice.result.now c.in-Some-2.classes c.in-Some-2.rest.now _ c.as_slice.ensures (rw c.in_default-3.is at c.in_ok-items.ensures.only)) (parts c.args.bytes.now a.0 a.1)
 
 pub returns-then-not-has_no_misuse-clause-none : goal.returns-then-not-has_no_misuse-clause-none
 returns-then-not-has_no_misuse-clause-none c = λ a.
@@ -35,7 +35,7 @@ returns-then-not-has_no_misuse-clause-none c = λ a.
     let only_classes = rw c.in-Some-2.is at c.in_ok-classes.ensures.only in
     let declared : HasClasses c.in-Some.rest.now c.in-Some-2.classes c.in-Some-2.rest.now = record { proper = found_classes.0; only = only_classes } in
     misused c.args.bytes.now c.in-Some.nursery c.in-Some.rest.now c.in-Some-2.classes c.in-Some-2.rest.now c.in-Some-3.items head declared
-      (only_body c.as_slice.result.now c.in-Some-2.classes c.in-Some-2.rest.now _ c.as_slice.ensures (rw c.in-Some-3.is at c.in_ok-items.ensures.only)) (λ h. iff_false c.has_no_misuse.ensures c.if-not-has_no_misuse.true (rw c.as_slice-2.ensures h)) (parts c.args.bytes.now a.0 a.1)
+    (only_body c.as_slice.result.now c.in-Some-2.classes c.in-Some-2.rest.now _ c.as_slice.ensures (rw c.in-Some-3.is at c.in_ok-items.ensures.only)) (λ h. iff_false c.has_no_misuse.ensures c.if-not-has_no_misuse.true (rw c.as_slice-2.ensures h)) (parts c.args.bytes.now a.0 a.1)
 
 pub returns-clause-found : goal.returns-clause-found
 returns-clause-found c =
