@@ -13,8 +13,6 @@ mod lines;
 mod statements;
 mod words;
 
-use classes::classes;
-use head::head;
 use kinds::has_no_misuse;
 use statements::items;
 
@@ -29,10 +27,10 @@ pub fn parse(alloc: Global, bytes: &[u8]) -> Result<Option<Program>, AllocError>
     if bytes.len() > MOST_BYTES {
         return Ok(None);
     }
-    let Some((nursery, rest)) = head(alloc, bytes)? else {
+    let Some((nursery, rest)) = head::head(alloc, bytes)? else {
         return Ok(None);
     };
-    let Some((classes, rest)) = classes(alloc, rest)? else {
+    let Some((classes, rest)) = classes::classes(alloc, rest)? else {
         return Ok(None);
     };
     let Some(items) = items(alloc, classes.as_slice(), rest)? else {
