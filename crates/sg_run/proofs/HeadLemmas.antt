@@ -1,8 +1,8 @@
 -- The head and the settings.
-use Rattle.std.proofs.Common.{◌≡◌, ℕ, ◌<◌, ◌⊎◌, true, false, Option, Some, None, List, [], ◌∷◌, refl, sym, ap, subst, ◌∙◌, inl, inr, arith}
+use Rattle.std.proofs.Common.{◌≡◌, ℕ, Some, None, List, [], ◌∷◌, refl, sym, ap, subst, ◌∙◌, inl, inr}
 use Rattle.std.specs.Prelude.{codes}
 use Rattle.sg_graph.specs.declared.program.Class.{Class}
-use Rattle.sg_run.specs.Text.{content, head_line, mutator_line, IsNumber, IsClassLine}
+use Rattle.sg_run.specs.Text.{content, head_line, IsNumber}
 use Rattle.sg_run.specs.Reading.{Only, proper, IsNext, Declares, IsNursery, Sets, Begins}
 use Rattle.sg_run.proofs.ItemLemmas.{apart, first}
 

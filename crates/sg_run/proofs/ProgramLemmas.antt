@@ -1,5 +1,5 @@
 -- A program by its parts.
-use Rattle.std.proofs.Common.{◌≡◌, ℕ, zero, suc, ◌<◌, ◌≤◌, ◌⊎◌, true, false, Option, Some, None, List, [], ◌∷◌, ◌++◌, length, refl, sym, ap, subst, ◌∙◌, inl, inr, append_assoc, arith}
+use Rattle.std.proofs.Common.{◌≡◌, ℕ, zero, suc, ◌<◌, ◌≤◌, true, Option, Some, None, List, [], ◌∷◌, ◌++◌, length, refl, sym, ap, subst, ◌∙◌, inl, inr, append_assoc, arith}
 use Rattle.std.specs.Prelude.{codes, slice_get}
 use Rattle.std.proofs.lemmas.Option.{same_Some}
 use Rattle.sg_graph.specs.Epoch.{Pairwise}
@@ -10,8 +10,8 @@ use Rattle.sg_graph.specs.declared.program.Class.{Class}
 use Rattle.sg_graph.specs.declared.program.Item.{Item}
 use Rattle.sg_graph.specs.declared.program.Script.{Script}
 use Rattle.sg_graph.specs.declared.program.Program.{Program}
-use Rattle.sg_run.specs.Text.{content, head_line, mutator_line, end_line, defaults, IsNumber, IsClassLine, IsItemLine, AreScripts, AreSettings, IsProgram, Reads}
-use Rattle.sg_run.specs.Accepted.{IsAcceptedAs, IsWithinLimits}
+use Rattle.sg_run.specs.Text.{content, head_line, mutator_line, end_line, defaults, IsNumber, IsClassLine, IsItemLine, AreScripts, AreSettings}
+use Rattle.sg_run.specs.Accepted.{IsAcceptedAs}
 use Rattle.sg_run.specs.Reading.{Only, proper, Declares, DeclaresOnly, AreLimited, IsBody, IsNursery, Sets, Begins, BeginsOnly, program_of}
 
 joined : (settings front body : List (List (List ℕ))) → head_line ∷ (settings ++ (front ++ mutator_line ∷ (body ++ end_line ∷ []))) ≡ head_line ∷ settings ++ front ++ (mutator_line ∷ body ++ end_line ∷ [])

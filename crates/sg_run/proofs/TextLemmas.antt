@@ -1,10 +1,10 @@
 -- Lines and words of a text, from the front.
-use Rattle.std.proofs.Common.{◌≡◌, ℕ, ◌+◌, ◌-◌, ◌<◌, ◌≤◌, suc, Bool, true, false, not, cond, ◌&&◌, List, [], ◌∷◌, length, take, drop, get_or, ◌++◌, append_assoc, filter, map, refl, sym, ap, ◌∙◌, inl, inr, arith}
+use Rattle.std.proofs.Common.{◌≡◌, ℕ, ◌+◌, ◌-◌, ◌<◌, ◌≤◌, suc, Bool, true, false, not, List, [], ◌∷◌, length, take, drop, get_or, ◌++◌, append_assoc, filter, map, refl, sym, ap, ◌∙◌, inl, inr, arith}
 use Rattle.std.specs.List.{position_or_len}
 use Rattle.std.proofs.Math.Seq.{take-length}
 use Rattle.std.proofs.lemmas.Bool.{cases_Bool}
-use Rattle.sg_run.specs.Text.{parted_by, onto_first, is_line_feed, is_blank, is_empty, lines_of, words_of, is_proper, content}
-use Rattle.sg_run.specs.Reading.{words_in, proper, with_words, Cuts}
+use Rattle.sg_run.specs.Text.{parted_by, is_line_feed, is_blank, is_empty, lines_of, words_of}
+use Rattle.sg_run.specs.Reading.{words_in, with_words, Cuts}
 
 one_more : (n : ℕ) → 1 + n ≡ suc n
 one_more n = omega arith

@@ -1,4 +1,4 @@
-use Rattle.std.proofs.Common.{ℕ, sym, ◌∙◌, arith, below_more}
+use Rattle.std.proofs.Common.{sym, ◌∙◌, arith, below_more}
 use Rattle.std.proofs.lemmas.Bool.{iff_false}
 use Rattle.sg_run.proofs.ClassLemmas.{name_other, name_within}
 use Rattle.sg_run.proofs.parse.classes.class_named.Goals as goal

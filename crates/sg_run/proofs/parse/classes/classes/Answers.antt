@@ -1,7 +1,7 @@
 use Rattle.std.proofs.Common.{map, sym, ◌∙◌, arith}
 use Rattle.std.proofs.lemmas.Bool.{iff_false}
 use Rattle.sg_run.specs.Reading.{IsNext}
-use Rattle.sg_run.proofs.ClassLemmas.{classes_found, classes_only, classes_many, classes_no_class, classes_twice, classes_more, is_taken, is_free, moved, moved_back}
+use Rattle.sg_run.proofs.ClassLemmas.{classes_found, classes_no_class, classes_twice, classes_more, is_taken, is_free, moved, moved_back}
 use Rattle.sg_run.proofs.parse.classes.classes.Goals as goal
 
 pub returns-then-is_one-clause-found : goal.returns-then-is_one-clause-found

@@ -1,6 +1,6 @@
-use Rattle.std.proofs.Common.{ℕ, arith, replicate, false}
+use Rattle.std.proofs.Common.{replicate, false}
 use Rattle.sg_graph.specs.Scripts.{written_out}
-use Rattle.sg_run.proofs.KindLemmas.{all_false, misuse_begin, misuse_more, misuse_found}
+use Rattle.sg_run.proofs.KindLemmas.{all_false, misuse_begin, misuse_more}
 use Rattle.sg_graph.specs.Kinds.{first_kinds, HasNoMisuse}
 use Rattle.sg_run.specs.Reading.{kinds_by}
 use Rattle.sg_run.proofs.parse.kinds.has_no_misuse.Goals as goal

@@ -1,7 +1,7 @@
-use Rattle.std.proofs.Common.{◌≡◌, ℕ, ◌<◌, false, true, eqb, get_or, sym, arith, length, ◌≤◌}
+use Rattle.std.proofs.Common.{sym, arith, length}
 use Rattle.std.proofs.lemmas.Bool.{eq-eqb}
 use Rattle.std.proofs.lemmas.List.Sums.{position_or_len_is}
-use Rattle.sg_run.specs.Text.{is_blank, is_line_feed}
+use Rattle.sg_run.specs.Text.{is_line_feed}
 use Rattle.sg_run.proofs.parse.lines.line_len.Goals as goal
 
 pub returns-then-byte-eq10-clause-value : goal.returns-then-byte-eq10-clause-value

@@ -1,5 +1,4 @@
 use Rattle.std.proofs.Common.{◌≡◌, ℕ, ◌<◌, false, eqb, get_or}
-use Rattle.sg_run.specs.Text.{is_blank}
 use Rattle.sg_run.proofs.parse.lines.line_len.Given as goal
 
 abbrev pub invariant-loop-at : goal.invariant-loop-at

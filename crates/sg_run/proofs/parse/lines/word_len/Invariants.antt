@@ -1,4 +1,4 @@
-use Rattle.std.proofs.Common.{◌≡◌, ℕ, ◌<◌, false, eqb, get_or}
+use Rattle.std.proofs.Common.{◌≡◌, ℕ, ◌<◌, false, get_or}
 use Rattle.sg_run.specs.Text.{is_blank}
 use Rattle.sg_run.proofs.parse.lines.word_len.Given as goal
 

@@ -1,4 +1,4 @@
-use Rattle.std.proofs.Common.{map, sym, arith}
+use Rattle.std.proofs.Common.{map, sym}
 use Rattle.std.proofs.lemmas.List.{map-append}
 use Rattle.sg_run.proofs.TextLemmas.{words_more}
 use Rattle.sg_run.proofs.parse.lines.words_in.Goals as goal

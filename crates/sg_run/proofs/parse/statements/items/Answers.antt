@@ -1,7 +1,6 @@
 use Rattle.std.proofs.Common.{map}
-use Rattle.std.proofs.lemmas.Bool.{iff_false}
 use Rattle.sg_run.specs.Reading.{IsNext}
-use Rattle.sg_run.proofs.ItemLemmas.{items_found, items_only, items_beyond, items_no_statement, items_more}
+use Rattle.sg_run.proofs.ItemLemmas.{items_found, items_more}
 use Rattle.sg_run.proofs.parse.statements.items.Goals as goal
 
 pub returns-then-branch-clause-found : goal.returns-then-branch-clause-found

@@ -1,4 +1,4 @@
-use Rattle.std.proofs.Common.{ℕ, Option, Some, None}
+use Rattle.std.proofs.Common.{ℕ, Some, None}
 use Rattle.std.proofs.lemmas.Option.{none-some}
 use Rattle.sg_run.proofs.ItemLemmas.{made, put_only, put_d_only, get_only, get_d_only}
 use Rattle.sg_graph.specs.declared.program.Statement.TheVariants.{Put, Get, PutD, GetD}

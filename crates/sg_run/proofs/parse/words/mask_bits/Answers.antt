@@ -1,4 +1,4 @@
-use Rattle.std.proofs.Common.{◌≡◌, ◌≤◌, ◌-◌, cond, eqb, get_or, length, arith}
+use Rattle.std.proofs.Common.{◌≡◌, ◌-◌, eqb, get_or, length, arith}
 use Rattle.sg_run.proofs.WordLemmas.{mask_more, mask_small, mask_fits}
 use Rattle.sg_run.proofs.parse.words.mask_bits.Goals as goal
 

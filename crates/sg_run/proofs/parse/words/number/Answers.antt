@@ -1,6 +1,5 @@
-use Rattle.std.proofs.Common.{◌≡◌, ℕ, arith, sym, Some, None, get_or, length, ◌<◌, eqb}
-use Rattle.std.proofs.lemmas.Bool.{eqb-true, eqb-false}
-use Rattle.sg_run.specs.Text.{IsNumber}
+use Rattle.std.proofs.Common.{◌≡◌, arith, sym, length}
+use Rattle.std.proofs.lemmas.Bool.{eqb-true}
 use Rattle.sg_run.proofs.WordLemmas.{number_nonempty, number_unsigned, number_without_zeros, number_ascii, zero_alone, parsed_found, parsed_again, number_unique}
 use Rattle.sg_run.proofs.parse.words.number.Goals as goal
 
