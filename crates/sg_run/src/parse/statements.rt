@@ -1,5 +1,6 @@
 //! The lines of statements.
-ghost use Rattle.std.specs.Prelude.{◌≡◌, ◌≤◌, ◌↔◌, ℕ, [], ◌∷◌, true, length, IfOk, IfSome, IsTrue, map};
+ghost use Rattle.std.specs.Prelude.{◌≡◌, ◌≤◌, ◌↔◌, List as Sequence, [], ◌∷◌, true, length, IfOk, IfSome, IsTrue, map};
+ghost use Rattle.sg_graph.specs.declared.program.Class.{Class as AnyClass};
 ghost use Rattle.sg_run.specs.Text.{content, IsNumber, IsRegister, IsStatementLine};
 ghost use Rattle.sg_run.specs.Reading.{Only, proper, AreLimited, IsBody};
 
@@ -51,12 +52,11 @@ fn short(classes: &[Class], verb: &[u8], a: &[u8], b: &[u8]) -> Option<Statement
     None
 }
 
-/// A statement of four words.
-fn long(classes: &[Class], verb: &[u8], a: &[u8], b: &[u8], c: &[u8]) -> Option<Statement>
-    ensures found { IfSome result (IsStatementLine classes.now (verb.now ∷ a.now ∷ b.now ∷ c.now ∷ [])) }
-    ensures only { Only (IsStatementLine classes.now (verb.now ∷ a.now ∷ b.now ∷ c.now ∷ [])) result }
+/// A statement of four words, none of which is the name of a class.
+fn long(verb: &[u8], a: &[u8], b: &[u8], c: &[u8]) -> Option<Statement>
+    ensures found { (classes : Sequence AnyClass) → IfSome result (IsStatementLine classes (verb.now ∷ a.now ∷ b.now ∷ c.now ∷ [])) }
+    ensures only { (classes : Sequence AnyClass) → Only (IsStatementLine classes (verb.now ∷ a.now ∷ b.now ∷ c.now ∷ [])) result }
 {
-    let _ = classes;
     if says(verb, b"put") {
         let (r, field, s) = store(a, b, c)?;
         return Some(Statement::Put { r, field, s });
@@ -84,7 +84,7 @@ fn statement(classes: &[Class], words: &[&[u8]]) -> Option<Statement>
 {
     match *words {
         [verb, a, b] => short(classes, verb, a, b),
-        [verb, a, b, c] => long(classes, verb, a, b, c),
+        [verb, a, b, c] => long(verb, a, b, c),
         _ => None,
     }
 }

@@ -2,11 +2,12 @@
 ghost use Rattle.std.specs.Prelude.{◌≡◌, ◌<◌, ◌^◌, ℕ, length, IfSome, Some};
 ghost use Rattle.std.specs.List.{list_all};
 ghost use Rattle.sg_run.specs.Text.{IsNumber, IsRegister, is_letter, is_name_byte, is_name, is_mask_byte, mask_bits};
+ghost use Rattle.sg_run.specs.Reading.{Only};
 
 /// The number that the word spells.
 pub(super) fn number(word: &[u8]) -> Option<u64>
     ensures found { IfSome result (IsNumber word.now) }
-    ensures only { (n : ℕ) → IsNumber word.now n → result ≡ Some n }
+    ensures only { Only (IsNumber word.now) result }
 {
     if word.is_empty() {
         return None;
@@ -26,7 +27,7 @@ pub(super) fn number(word: &[u8]) -> Option<u64>
 /// The register that the word names.
 pub(super) fn register(word: &[u8]) -> Option<u8>
     ensures found { IfSome result (IsRegister word.now) }
-    ensures only { (r : ℕ) → IsRegister word.now r → result ≡ Some r }
+    ensures only { Only (IsRegister word.now) result }
 {
     match word {
         [b'r', digits @ ..] => match number(digits) {
