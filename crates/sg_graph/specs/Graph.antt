@@ -1,5 +1,5 @@
 -- The heap of named objects that never move and are never removed.
-use Rattle.std.specs.Prelude.{ℕ, suc, Bool, true, false, if◌then◌else◌, List}
+use Rattle.std.specs.Prelude.{ℕ, suc, Bool, false, if◌then◌else◌, List}
 use Rattle.sg_words.specs.Words.{put}
 use Rattle.sg_graph.specs.declared.program.Statement.{Statement}
 use Rattle.sg_graph.specs.declared.program.Program.{Program}

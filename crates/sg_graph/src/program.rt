@@ -1,7 +1,6 @@
+use crate::shapes::Shape;
 use sg_words::List;
 use std::marker::Model;
-
-use crate::shapes::Shape;
 
 /// The settings of a program. Sizes are in words, blocks or pages, as their names say.
 #[derive(Clone, Copy, Debug, PartialEq, Eq)]

@@ -1,8 +1,7 @@
 -- Each rule by which a mutator goes on keeps the relation: the load and the store of a field.
-use Rattle.std.proofs.Common.{◌≡◌, ◌≢◌, ℕ, ◌+◌, ◌<◌, ◌≤◌, ◌&&◌, not, cond, nat_lt, Bool, true, false, Option, Some, None, List, [], ◌∷◌, ◌++◌, inl, inr, sym, refl, ap, ◌∙◌, subst, le_refl, arith}
+use Rattle.std.proofs.Common.{◌≡◌, ◌≢◌, ℕ, ◌+◌, ◌<◌, ◌≤◌, ◌&&◌, not, nat_lt, Bool, true, false, Option, Some, None, List, ◌∷◌, inl, inr, sym, refl, ap, ◌∙◌, subst, le_refl, arith}
 use Rattle.std.proofs.lemmas.Bool.{cases_eq, eq-eqb, ne_eqb, cond-true, cond-false, ltb-true}
-use Rattle.sg_words.specs.Address.{byte_at, word_at}
-use Rattle.sg_words.specs.Tags.{plain_word}
+use Rattle.sg_words.specs.Address.{byte_at}
 use Rattle.sg_words.specs.declared.steps.Place.TheVariants.{Word}
 use Rattle.sg_words.specs.Words.{put, Words, write}
 use Rattle.sg_graph.specs.declared.program.Statement.{Statement}
@@ -11,18 +10,18 @@ use Rattle.sg_graph.specs.declared.program.Program.{Program}
 use Rattle.sg_graph.specs.declared.shapes.Descriptor.{Descriptor}
 use Rattle.sg_graph.specs.declared.reports.Answer.{Answer}
 use Rattle.sg_graph.specs.declared.reports.Answer.TheVariants.{At, Nil, Number, Fine}
-use Rattle.sg_graph.specs.Shapes.{Sort, Reference, Plain, has_field, holds_reference}
+use Rattle.sg_graph.specs.Shapes.{Reference, Plain, has_field, holds_reference}
 use Rattle.sg_graph.specs.Scripts.{kind_of}
-use Rattle.sg_graph.specs.Kinds.{Kind, IsRef, IsInt, Needs, kinds_after, HasNoMisuse}
-use Rattle.sg_graph.specs.Graph.{Entry, Ref, Int, Mutator, Graph, stored, goes_on}
-use Rattle.sg_graph.specs.Statements.{Test, test_of, Finds, Does}
-use Rattle.sg_graph.specs.Book.{Book, Books}
+use Rattle.sg_graph.specs.Kinds.{IsRef, IsInt}
+use Rattle.sg_graph.specs.Graph.{Entry, Ref, Int, Graph, stored}
+use Rattle.sg_graph.specs.Statements.{Test, test_of, Finds}
+use Rattle.sg_graph.specs.Book.{Book}
 use Rattle.sg_run.specs.Rules.{Layout, Access, Actor, within, over, reference_answer, object_in}
 use Rattle.sg_run.proofs.Puts.{put-at, put-other, put-all, put-along}
 use Rattle.sg_run.proofs.Frame.{entry_later}
-use Rattle.sg_run.proofs.Relation.{Known, KnownEntry, word_of, Owner, Of, Ground, IsOfSort, IsMutator, Tested, kind_of_entry, Stands, Later, Kept}
+use Rattle.sg_run.proofs.Relation.{Known, KnownEntry, word_of, Owner, Ground, IsOfSort, Tested, kind_of_entry, Stands, Later, Kept}
 use Rattle.sg_run.proofs.Moves.{Change, unchanged, decided, fits_as}
-use Rattle.sg_run.proofs.Loads.{word_at-byte_at, is_ref, is_int, same_object, name_nil, known_nil, object_at, known_at}
+use Rattle.sg_run.proofs.Loads.{is_ref, is_int, same_object, name_nil, object_at, known_at}
 
 both : (x y : Bool) → x && y ≡ true → (x ≡ true) × (y ≡ true)
 both true y e = (refl, e)
@@ -135,10 +134,13 @@ module _ (p : Program) (lay : Layout) (w : Words) (g : Graph) (b : Book) (said :
     val = word_of b.address e
 
     pub known_stored : (m : ℕ) → Known w g b m → Known (write w (Word (b.address n + 2 + i)) (word_of b.address e)) g b m
-    known_stored m q = (q.0, elim q.1 [
-      | inl z ↦ inl z
-      | inr h ↦ inr (tag_off n at val sn (omega arith) (omega arith) (omega arith) m q.0 ∙ h.0, length_off n at val sn (omega arith) (omega arith) (omega arith) m q.0 ∙ h.1)
-    ])
+    known_stored m q = (
+      q.0,
+      elim q.1 [
+        | inl z ↦ inl z
+        | inr h ↦ inr (tag_off n at val sn (omega arith) (omega arith) (omega arith) m q.0 ∙ h.0, length_off n at val sn (omega arith) (omega arith) (omega arith) m q.0 ∙ h.1)
+      ],
+    )
 
     pub entry_stored : (x : Entry) → KnownEntry w g b x → KnownEntry (write w (Word (b.address n + 2 + i)) (word_of b.address e)) (stored g n i e) b x
     entry_stored (Ref m) q = known_stored m q
@@ -164,12 +166,12 @@ module _ (p : Program) (lay : Layout) (w : Words) (g : Graph) (b : Book) (said :
     field_stored = record {
       owner = owner;
       later = later_stored n at val sn (omega arith) (omega arith) (put g.field n (put (g.field n) i e)) known_stored
-        (λ m q x. length_off n at val sn (omega arith) (omega arith) (omega arith) m q ∙ x);
+          (λ m q x. length_off n at val sn (omega arith) (omega arith) (omega arith) m q ∙ x);
       ground = ground_stored n at val sn (omega arith) (omega arith) (put g.field n (put (g.field n) i e)) holds_stored
-        (λ m j q. field_all (λ m j x. b.stands m ≡ true → KnownEntry (write w (Word at) val) g b x)
+          (λ m j q. field_all (λ m j x. b.stands m ≡ true → KnownEntry (write w (Word at) val) g b x)
           (λ _. entry_later w g b (write w (Word at) val) g b e known_stored ke)
           (λ m j s. entry_later w g b (write w (Word at) val) g b (g.field m j) known_stored (t.fields.known m j s)) m j q)
-        (λ m j q r. field_all (λ m j x. b.stands m ≡ true → j < g.size m → IsOfSort (holds_reference (kind_of p (g.class m)) j (g.size m)) x) (λ _ _. se) t.fields.sorted m j q r);
+          (λ m j q r. field_all (λ m j x. b.stands m ≡ true → j < g.size m → IsOfSort (holds_reference (kind_of p (g.class m)) j (g.size m)) x) (λ _ _. se) t.fields.sorted m j q r);
     }
 
   module _ (a : Actor) (rest : List Statement) where
@@ -190,8 +192,8 @@ module _ (p : Program) (lay : Layout) (w : Words) (g : Graph) (b : Book) (said :
         subst (λ z. Kept p lay w g b said k true (write w (Word (z + 2 + i)) (a.reg s)) (over a rest a.reg Fine)) (sym ea)
         (subst (λ z. Kept p lay w g b said k true (write w (Word (b.address n + 2 + i)) z) (over a rest a.reg Fine)) (sym (es ∙ ap (word_of b.address) target.1))
         (decided p lay w g b said k (write w (Word (b.address n + 2 + i)) (word_of b.address (Ref target.0))) (stored g n i (Ref target.0)) b ch _ (Put r i s) rest st st.entry Fine a.reg Fine st.at.2
-          (n, target.0, finds_as p g st.entry (Put r i s ∷ rest) (Put r i s) test x, target.1, refl) refl refl refl st.regs
-          (λ q. known (st.entry q) (st.known q)) refl tt (λ q. refl)))
+        (n, target.0, finds_as p g st.entry (Put r i s ∷ rest) (Put r i s) test x, target.1, refl) refl refl refl st.regs
+        (λ q. known (st.entry q) (st.known q)) refl tt (λ q. refl)))
 
     -- the deciding store of a number
     pub puts_number : (r i s : ℕ) → Stands p lay w g b said k (within a rest (Access (PutD r i s))) → Kept p lay w g b said k true (write w (Word (object_in a r + 2 + i)) (a.reg s)) (over a rest a.reg Fine)
@@ -209,8 +211,8 @@ module _ (p : Program) (lay : Layout) (w : Words) (g : Graph) (b : Book) (said :
         subst (λ z. Kept p lay w g b said k true (write w (Word (z + 2 + i)) (a.reg s)) (over a rest a.reg Fine)) (sym ea)
         (subst (λ z. Kept p lay w g b said k true (write w (Word (b.address n + 2 + i)) z) (over a rest a.reg Fine)) (sym (es ∙ ap (word_of b.address) number.1))
         (decided p lay w g b said k (write w (Word (b.address n + 2 + i)) (word_of b.address (Int number.0))) (stored g n i (Int number.0)) b ch _ (PutD r i s) rest st st.entry Fine a.reg Fine st.at.2
-          (n, number.0, finds_as p g st.entry (PutD r i s ∷ rest) (PutD r i s) test x, number.1, refl) refl refl refl st.regs
-          (λ q. known (st.entry q) (st.known q)) refl tt (λ q. refl)))
+        (n, number.0, finds_as p g st.entry (PutD r i s ∷ rest) (PutD r i s) test x, number.1, refl) refl refl refl st.regs
+        (λ q. known (st.entry q) (st.known q)) refl tt (λ q. refl)))
 
     -- the deciding load of a reference
     pub gets : (d r i v : ℕ) → w.word (object_in a r + 2 + i) ≡ v → Stands p lay w g b said k (within a rest (Access (Get d r i))) → Kept p lay w g b said k true w (over a rest (put a.reg d v) (reference_answer v))

@@ -1,11 +1,9 @@
 -- What the code asks before a statement follows from the relation of the words to a graph and a book.
-use Rattle.std.proofs.Common.{◌≡◌, ◌≢◌, ℕ, zero, suc, ◌+◌, ◌*◌, ◌/◌, ◌-◌, ◌%◌, ◌^◌, ◌<◌, ◌≤◌, ltb, nat_lt, ◌&&◌, ◌⊎◌, Bool, true, false, Option, Some, None, List, [], ◌∷◌, length, drop, slice_get, get_or, add-one, refl, ap, sym, ◌∙◌, subst, inl, inr, arith, rules}
+use Rattle.std.proofs.Common.{◌≡◌, ◌≢◌, ℕ, zero, suc, ◌+◌, ◌<◌, ◌≤◌, true, None, List, [], ◌∷◌, length, drop, slice_get, get_or, add-one, refl, ap, sym, ◌∙◌, subst, inl, inr, arith, rules}
 use Rattle.std.proofs.lemmas.Bool.{cases_eq, cases_lt}
-use Rattle.sg_words.specs.Address.{IsAddress, byte_at, word_at}
-use Rattle.sg_words.specs.Tags.{plain_word}
+use Rattle.sg_words.specs.Address.{byte_at, word_at}
 use Rattle.sg_words.specs.Words.{Words}
 use Rattle.sg_graph.specs.declared.shapes.Descriptor.{Descriptor}
-use Rattle.sg_graph.specs.declared.shapes.Descriptor.TheVariants.{PtrFree, Bitmap}
 use Rattle.sg_graph.specs.declared.program.Statement.{Statement}
 use Rattle.sg_graph.specs.declared.program.Statement.TheVariants.{New, Put, Get, PutD, GetD, Num}
 use Rattle.sg_graph.specs.declared.program.Item.{Item}
@@ -15,14 +13,14 @@ use Rattle.sg_graph.specs.Shapes.{holds_reference, has_field, Reference}
 use Rattle.sg_graph.specs.Scripts.{kind_of, written_out, script_of, statements_at}
 use Rattle.sg_graph.specs.Kinds.{IsRef, first_kinds, Needs, HasNoMisuse}
 use Rattle.sg_graph.specs.Graph.{Entry, Ref, Int, Mutator as Mutator_of, Graph}
-use Rattle.sg_graph.specs.Book.{Book, nursery_base, nursery_end}
+use Rattle.sg_graph.specs.Book.{Book, nursery_end}
 use Rattle.sg_run.specs.declared.space.Space.{Space}
 use Rattle.sg_run.specs.declared.mutator.Mutator.{Mutator}
 use Rattle.sg_run.specs.Accepted.{IsAcceptedAs}
-use Rattle.sg_run.specs.Rules.{Layout, Actor}
+use Rattle.sg_run.specs.Rules.{Layout}
 use Rattle.sg_run.specs.Opening.{IsFirstLayout}
-use Rattle.sg_run.specs.Views.{words_of, layout_of, actor_of, IsFirstSpace, IsSpace, class_at, IsReference, IsObject, HoldsObject, IsBufferIn, HasByteAddresses, HasClass, KeepsSpace, CanDo, CanGo}
-use Rattle.sg_run.proofs.Relation.{Owner, Headed, Known, KnownEntry, word_of, IsOfSort, Ground, Stands, kind_of_entry}
+use Rattle.sg_run.specs.Views.{words_of, layout_of, actor_of, IsFirstSpace, IsSpace, class_at, IsReference, IsObject, HoldsObject, IsBufferIn, HasByteAddresses, KeepsSpace, CanDo, CanGo}
+use Rattle.sg_run.proofs.Relation.{Owner, Headed, KnownEntry, word_of, IsOfSort, Ground, kind_of_entry}
 use Rattle.sg_run.proofs.Law.{SoFar}
 use Rattle.sg_run.proofs.Classes.{IsNamed, AreNamed, IsClassed, accepted_small, classed_first, classed_along}
 

@@ -1,8 +1,7 @@
 -- The statements of an accepted program name registers and classes that there are, and so each object has a class of the program.
-use Rattle.std.proofs.Common.{◌≡◌, false, ◌≢◌, ℕ, zero, suc, ◌+◌, ◌<◌, ◌≤◌, Option, Some, None, List, [], ◌∷◌, length, map, slice_get, refl, ap, sym, ◌∙◌, subst, inl, inr, arith}
+use Rattle.std.proofs.Common.{◌≡◌, false, ℕ, zero, suc, ◌<◌, ◌≤◌, List, [], ◌∷◌, length, slice_get, sym, subst, inl, inr, arith}
 use Rattle.std.proofs.lemmas.Bool.{cases_eq}
 use Rattle.std.specs.List.{AllByRecursion}
-use Rattle.sg_words.specs.Words.{put}
 use Rattle.sg_graph.specs.declared.shapes.Descriptor.{Descriptor}
 use Rattle.sg_graph.specs.declared.shapes.Descriptor.TheVariants.{PtrFree, Bitmap}
 use Rattle.sg_graph.specs.declared.program.Class.{Class}

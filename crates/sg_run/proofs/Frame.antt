@@ -1,5 +1,5 @@
 -- A step of one mutator keeps what the others rest on.
-use Rattle.std.proofs.Common.{◌≡◌, ◌≢◌, ℕ, ◌+◌, ◌<◌, ◌≤◌, subst, Bool, true, List, [], ◌∷◌, ◌++◌, map, inl, inr, sym, refl, ap, ◌∙◌, ap₂, arith}
+use Rattle.std.proofs.Common.{◌≡◌, ◌≢◌, ℕ, ◌+◌, subst, Bool, true, List, [], ◌∷◌, ◌++◌, map, sym, refl, ap, ◌∙◌, ap₂, arith}
 use Rattle.sg_words.specs.Address.{byte_at}
 use Rattle.sg_words.specs.Words.{Words}
 use Rattle.sg_graph.specs.declared.program.Statement.{Statement}
@@ -112,7 +112,7 @@ module _ (p : Program) (lay : Layout) (w : Words) (g : Graph) (b : Book) (said :
   mid_later entry answers rest (StoreTag r class x) q m = (
     placed entry answers rest r class x m.0,
     (let at = m.0.address in let size = m.0.size in
-    ap (λ y. v.word (y + 1)) (sym at) ∙ l.length_word m.0.name m.0.stands m.0.some (ap (λ y. w.word (y + 1)) at ∙ m.1 ∙ sym size) ∙ size),
+        ap (λ y. v.word (y + 1)) (sym at) ∙ l.length_word m.0.name m.0.stands m.0.some (ap (λ y. w.word (y + 1)) at ∙ m.1 ∙ sym size) ∙ size),
   )
 
   fits_later : HasNoMisuse (kinds_in g j) (g.mutator j).script → HasNoMisuse (kinds_in h j) (h.mutator j).script

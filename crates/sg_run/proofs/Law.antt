@@ -1,8 +1,7 @@
 -- From the atomic steps of a mutator to one order of whole statements.
-use Rattle.std.proofs.Common.{◌≡◌, ◌≢◌, ℕ, suc, ◌+◌, ◌<◌, ◌≤◌, ◌==◌, ◌↔◌, Bool, true, false, IsTrue, not, filter, List, [], ◌∷◌, ◌++◌, map, length, inl, inr, sym, refl, ap, ◌∙◌, subst, le_refl, zero-le, arith}
+use Rattle.std.proofs.Common.{◌≡◌, ℕ, ◌+◌, ◌<◌, ◌≤◌, ◌==◌, true, not, filter, List, [], ◌∷◌, map, length, inl, sym, refl, ap, ◌∙◌, subst, le_refl, zero-le, arith}
 use Rattle.std.proofs.Math.Path.{fun_ext}
 use Rattle.std.proofs.lemmas.Bool.{eqb-true}
-use Rattle.sg_words.specs.Address.{byte_at}
 use Rattle.sg_words.specs.Words.{Words, after}
 use Rattle.sg_words.specs.Events.{ticks, by_one}
 use Rattle.sg_graph.specs.declared.program.Program.{Program}
@@ -108,8 +107,8 @@ so_far p lay w0 w a kinds first opening went =
       explains = x.explains;
       ground = subst (λ v. Ground p lay v x.graph x.book x.world.owner) e x.world.ground;
       stands = subst (λ v. Stands p lay v x.graph x.book (λ k. answers_of k x.order) 0 a) e
-        (subst (λ (says : ℕ → List Answer). Stands p lay (after w0 (ticks (by_one 0 went.ticks))) x.graph x.book says 0 a) s
-        (subst (λ y. Stands p lay (after w0 (ticks (by_one 0 went.ticks))) x.graph x.book x.says 0 y) (put-same (λ k. fresh (script_of p k)) 0 a) (x.world.stands 0)));
+          (subst (λ (says : ℕ → List Answer). Stands p lay (after w0 (ticks (by_one 0 went.ticks))) x.graph x.book says 0 a) s
+          (subst (λ y. Stands p lay (after w0 (ticks (by_one 0 went.ticks))) x.graph x.book x.says 0 y) (put-same (λ k. fresh (script_of p k)) 0 a) (x.world.stands 0)));
     }
 
 -- a mutator between two statements is where the graph's mutator is

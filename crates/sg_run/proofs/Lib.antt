@@ -13,3 +13,10 @@ pub mod Begins
 mod Fronts
 mod Pieces
 mod Words
+pub mod TextLemmas
+pub mod WordLemmas
+pub mod ClassLemmas
+pub mod ItemLemmas
+pub mod KindLemmas
+pub mod HeadLemmas
+pub mod ProgramLemmas

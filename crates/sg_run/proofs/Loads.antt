@@ -1,7 +1,6 @@
 -- Each rule by which a mutator goes on keeps the relation: the rules that change no word.
-use Rattle.std.proofs.Common.{◌≡◌, ◌≢◌, ℕ, ◌+◌, ◌*◌, ◌<◌, ◌≤◌, ◌⊎◌, Bool, true, false, Option, Some, None, List, [], ◌∷◌, ◌++◌, inl, inr, sym, refl, ap, ◌∙◌, subst, le_refl, zero-le, arith}
-use Rattle.std.proofs.lemmas.Bool.{cases_eq, eq-eqb, ne_eqb, cond-true, cond-false}
-use Rattle.std.proofs.lemmas.Nat.{div-mul-add}
+use Rattle.std.proofs.Common.{◌≡◌, ◌≢◌, ℕ, ◌+◌, ◌<◌, ◌≤◌, true, false, Option, Some, None, List, [], ◌∷◌, ◌++◌, inl, inr, sym, refl, ap, ◌∙◌, subst, arith}
+use Rattle.std.proofs.lemmas.Bool.{cases_eq}
 use Rattle.sg_words.specs.Address.{byte_at, word_at}
 use Rattle.sg_words.specs.Tags.{plain_word}
 use Rattle.sg_words.specs.Words.{put, Words}
@@ -9,18 +8,17 @@ use Rattle.sg_graph.specs.declared.program.Statement.{Statement}
 use Rattle.sg_graph.specs.declared.program.Statement.TheVariants.{New, Put, Get, PutD, GetD, Num}
 use Rattle.sg_graph.specs.declared.program.Program.{Program}
 use Rattle.sg_graph.specs.declared.reports.Answer.{Answer}
-use Rattle.sg_graph.specs.declared.reports.Answer.TheVariants.{At, Nil, Null, Number, Fine, Field, Full}
-use Rattle.sg_graph.specs.Shapes.{Sort, Reference, Plain, has_field, holds_reference}
+use Rattle.sg_graph.specs.declared.reports.Answer.TheVariants.{Null, Fine, Field, Full}
+use Rattle.sg_graph.specs.Shapes.{has_field}
 use Rattle.sg_graph.specs.Scripts.{kind_of}
-use Rattle.sg_graph.specs.Kinds.{Kind, IsRef, IsInt, Needs, kinds_after, HasNoMisuse}
+use Rattle.sg_graph.specs.Kinds.{Kind, IsRef, IsInt, Needs, kinds_after}
 use Rattle.sg_graph.specs.Graph.{Entry, Ref, Int, Mutator, Graph, goes_on}
-use Rattle.sg_graph.specs.Statements.{Test, test_of, emptied, FindsNone, Misses, Finds, Does}
-use Rattle.sg_graph.specs.Book.{Book, Books, words_of_class, LacksRoom}
-use Rattle.sg_graph.specs.Epoch.{by_address}
-use Rattle.sg_run.specs.Rules.{Layout, Mid, Idle, TestTag, TestLength, FailTag, FailLength, Access, Look, Claim, Actor, before, within, over, cleared, reference_answer, object_in}
-use Rattle.sg_run.proofs.Puts.{put-at, put-other, put-all, put-along}
+use Rattle.sg_graph.specs.Statements.{Test, test_of, emptied, FindsNone, Misses, Does}
+use Rattle.sg_graph.specs.Book.{Book, Books, words_of_class}
+use Rattle.sg_run.specs.Rules.{Layout, TestTag, TestLength, FailTag, FailLength, Access, Look, Claim, Actor, before, within, over, cleared, object_in}
+use Rattle.sg_run.proofs.Puts.{put-all, put-along}
 use Rattle.sg_run.proofs.Frame.{answers_push, given_push}
-use Rattle.sg_run.proofs.Relation.{Known, KnownEntry, word_of, Owner, Of, Ground, IsOfSort, IsMutator, Tight, Tested, kind_of_entry, Stands, Kept}
+use Rattle.sg_run.proofs.Relation.{Known, KnownEntry, word_of, Owner, Ground, Tight, kind_of_entry, Stands, Kept}
 use Rattle.sg_run.proofs.Moves.{unchanged, silent, again, fits_as, fits_after, is_after, turned, decided, misuse_along}
 
 -- the word at the byte address of a word
@@ -270,4 +268,3 @@ module _ (p : Program) (lay : Layout) (w : Words) (g : Graph) (b : Book) (said :
         let h = tighter (words_of_class p class) f next st.at.0 e l st.at.1 in
         decided p lay w g b said k w g b (unchanged p lay w g b said k owner t) _ (New r class) rest st (emptied (New r class) st.entry) Full (put a.reg r 0) Full st.at.2
         refl (record { short = h.short; none = λ j q. h.below j (let x = t.fragments.number in omega arith) }, refl) refl refl (regs_emptied _ st (New r class)) (known_emptied _ st (New r class)) refl tt (kinds_emptied (New r class) st.entry)
-

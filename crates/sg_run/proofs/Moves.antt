@@ -1,5 +1,5 @@
 -- What all rules share: a step that changes nothing, a step that decides, and a step with which a statement ends.
-use Rattle.std.proofs.Common.{◌≡◌, ◌≢◌, ℕ, ◌+◌, ◌≤◌, Bool, true, false, List, [], ◌∷◌, ◌++◌, map, sym, refl, ap, ◌∙◌, subst, ap₂, le_refl, arith}
+use Rattle.std.proofs.Common.{◌≡◌, ℕ, true, false, List, [], ◌∷◌, ◌++◌, sym, refl, ap, ◌∙◌, subst, ap₂, le_refl}
 use Rattle.std.proofs.Math.Path.{fun_ext}
 use Rattle.sg_words.specs.Words.{put, Words}
 use Rattle.sg_graph.specs.declared.program.Statement.{Statement}
@@ -13,7 +13,7 @@ use Rattle.sg_graph.specs.Epoch.{by_address}
 use Rattle.sg_run.specs.Rules.{Layout, Mid, Actor, within, over}
 use Rattle.sg_run.proofs.Puts.{put-same, put-other}
 use Rattle.sg_run.proofs.Frame.{answers_later, answers_push, given_later, given_push}
-use Rattle.sg_run.proofs.Relation.{Known, KnownEntry, word_of, Owner, Ground, IsGiven, IsMutator, AtMid, kind_of_entry, kinds_in, Stands, Later, Kept}
+use Rattle.sg_run.proofs.Relation.{KnownEntry, word_of, Owner, Ground, IsGiven, IsMutator, AtMid, kind_of_entry, kinds_in, Stands, Later, Kept}
 
 pub later_refl : (w : Words) (g : Graph) (b : Book) (said : ℕ → List Answer) (k : ℕ) → Later w g b said w g b said k
 later_refl w g b said k = record {

@@ -1,5 +1,5 @@
 -- Each rule by which a mutator goes on keeps the relation: a new object gets its place, its length and its tag.
-use Rattle.std.proofs.Common.{◌≡◌, ◌≢◌, ℕ, suc, ◌+◌, ◌-◌, ◌<◌, ◌≤◌, min, max, cond, Bool, true, false, List, [], ◌∷◌, ◌++◌, ◌⊎◌, map, inl, inr, sym, refl, ap, ◌∙◌, subst, ap₂, le_refl, zero-le, arith}
+use Rattle.std.proofs.Common.{◌≡◌, ◌≢◌, ℕ, suc, ◌+◌, ◌-◌, ◌<◌, ◌≤◌, min, max, cond, Bool, true, false, List, [], ◌∷◌, ◌++◌, ◌⊎◌, inl, inr, sym, refl, ap, ◌∙◌, subst, ap₂, le_refl, arith}
 use Rattle.std.proofs.lemmas.Bool.{cases_eq}
 use Rattle.sg_words.specs.Address.{byte_at}
 use Rattle.sg_words.specs.Tags.{plain_word}
@@ -13,13 +13,13 @@ use Rattle.sg_graph.specs.declared.reports.Answer.TheVariants.{At}
 use Rattle.sg_graph.specs.Shapes.{holds_reference}
 use Rattle.sg_graph.specs.Scripts.{kind_of, fields_of}
 use Rattle.sg_graph.specs.Kinds.{IsRef}
-use Rattle.sg_graph.specs.Graph.{Entry, Ref, Int, Graph, grown, goes_on, empty_field}
-use Rattle.sg_graph.specs.Book.{Section, Book, Books, Young, placed, words_of_class, share, nursery_base, nursery_end}
+use Rattle.sg_graph.specs.Graph.{Entry, Ref, Int, Graph, grown, empty_field}
+use Rattle.sg_graph.specs.Book.{Book, Books, placed, words_of_class, share, nursery_base, nursery_end}
 use Rattle.sg_run.specs.Rules.{Layout, Claim, StoreLength, StoreTag, Actor, before, within, over, owning, taken}
 use Rattle.sg_run.proofs.Puts.{put-at, put-same, put-other, put-all, put-along, within_range, range-in, range-below, range-above, range-keeps}
 use Rattle.sg_run.proofs.Frame.{answers_later, answers_push, given_later, given_push}
-use Rattle.sg_run.proofs.Relation.{Known, KnownEntry, word_of, Owner, Of, Frag, Buf, Ground, IsOfSort, IsMutator, Placed, kind_of_entry, Stands, Later, Kept}
-use Rattle.sg_run.proofs.Moves.{Change, silent, turned, is_after, fits_after, fits_as, misuse_along}
+use Rattle.sg_run.proofs.Relation.{Known, KnownEntry, word_of, Owner, Of, Frag, Buf, Ground, IsOfSort, IsMutator, kind_of_entry, Stands, Later, Kept}
+use Rattle.sg_run.proofs.Moves.{silent, turned, is_after, fits_after, fits_as, misuse_along}
 use Rattle.sg_run.proofs.Accesses.{same_there, ground_stored, later_stored, length_off, tag_off, fields_off}
 
 -- an empty field of a sort holds a name or a number, as the sort says
@@ -75,10 +75,13 @@ module _ (p : Program) (lay : Layout) (w : Words) (g : Graph) (b : Book) (said :
   stands_old m q = put-other b.stands (suc g.count) true m (not_new m q) ∙ q
 
   known_old : (m : ℕ) → Known w g b m → Known (record w { next = wnext }) (grown p g k class) new_book m
-  known_old m q = (stands_old m q.0, elim q.1 [
-    | inl z ↦ inl z
-    | inr h ↦ inr (ap w.word (at_old m q.0) ∙ h.0 ∙ sym (ap plain_word (class_old m q.0)), ap (λ a. w.word (a + 1)) (at_old m q.0) ∙ h.1 ∙ sym (size_old m q.0))
-  ])
+  known_old m q = (
+    stands_old m q.0,
+    elim q.1 [
+      | inl z ↦ inl z
+      | inr h ↦ inr (ap w.word (at_old m q.0) ∙ h.0 ∙ sym (ap plain_word (class_old m q.0)), ap (λ a. w.word (a + 1)) (at_old m q.0) ∙ h.1 ∙ sym (size_old m q.0))
+    ],
+  )
 
   entry_old : (e : Entry) → KnownEntry w g b e → KnownEntry (record w { next = wnext }) (grown p g k class) new_book e
   entry_old (Ref m) q = known_old m q
@@ -198,8 +201,8 @@ module _ (p : Program) (lay : Layout) (w : Words) (g : Graph) (b : Book) (said :
           ahead = is_after p lay w g b said k (grown p g k class) (New r class) rest st.entry (put st.entry r (Ref (suc g.count))) st.answers (At (suc g.count)) m;
         };
         fits = fits_after p lay w g b said k (grown p g k class) rest (put st.entry r (Ref (suc g.count))) (misuse_along _ _ rest
-          (put-along kind_of_entry (λ q. kind_of_entry (st.entry q)) st.entry r IsRef (Ref (suc g.count)) (λ q. refl) refl)
-          (fits_as p lay w g b said k st.entry (New r class ∷ rest) st.answers m st.fits).1);
+            (put-along kind_of_entry (λ q. kind_of_entry (st.entry q)) st.entry r IsRef (Ref (suc g.count)) (λ q. refl) refl)
+            (fits_as p lay w g b said k st.entry (New r class ∷ rest) st.answers m st.fits).1);
       })
 
 module _ (p : Program) (lay : Layout) (w : Words) (g : Graph) (b : Book) (said : ℕ → List Answer) (k : ℕ) (owner : ℕ → Owner) (t : Ground p lay w g b owner) where
@@ -308,13 +311,16 @@ module _ (p : Program) (lay : Layout) (w : Words) (g : Graph) (b : Book) (said :
         | inr o ↦ put-other w.next f _ j o ∙ t.fragments.words j q ∙ sym (ap byte_at (put-other b.next f (b.next f + s) j o))
       ])
       (within a rest (Claim r class f (b.next f))) rest r st st.at.3
-      (inr (f, record {
-        short = st.at.1.short;
-        there = lf;
-        room = room;
-        lowest = st.at.1.below;
-        after = λ i. record (placed b (suc g.count) (b.next f)) { next = put b.next f (b.next f + es i); from = put b.from k (b.next f + m); to = put b.to k (b.next f + es i) };
-      }))
+      (inr (
+        f,
+        record {
+          short = st.at.1.short;
+          there = lf;
+          room = room;
+          lowest = st.at.1.below;
+          after = λ i. record (placed b (suc g.count) (b.next f)) { next = put b.next f (b.next f + es i); from = put b.from k (b.next f + m); to = put b.to k (b.next f + es i) };
+        },
+      ))
       (b.next f) (b.next f + m) (b.next f + s) refl (sym (put-same b.from k _)) (sym (put-same b.to k _))
 
   pub claims : (a : Actor) (rest : List Statement) (r class f next : ℕ) → w.next f ≡ byte_at next → Stands p lay w g b said k (within a rest (Claim r class f next)) →
@@ -326,8 +332,8 @@ module _ (p : Program) (lay : Layout) (w : Words) (g : Graph) (b : Book) (said :
       let en : next ≡ b.next f = omega arith in
       let lim = t.fragments.limits f lf in
       (subst (λ x. Stands p lay w g b said k (within a rest (Claim r class f x)) →
-          Kept p lay w g b said k true (write w (Next f) (byte_at (x + taken p lay f x (words_of_class p class)))) (within (owning a (x + words_of_class p class) (x + taken p lay f x (words_of_class p class))) rest (StoreLength r class x)))
-        (sym en) (claims_at a rest r class f lf (taken p lay f (b.next f) (words_of_class p class)) (ap (λ l. min (l - b.next f) (max (words_of_class p class) p.config.buffer)) (sym lim)))) st
+      Kept p lay w g b said k true (write w (Next f) (byte_at (x + taken p lay f x (words_of_class p class)))) (within (owning a (x + words_of_class p class) (x + taken p lay f x (words_of_class p class))) rest (StoreLength r class x)))
+      (sym en) (claims_at a rest r class f lf (taken p lay f (b.next f) (words_of_class p class)) (ap (λ l. min (l - b.next f) (max (words_of_class p class) p.config.buffer)) (sym lim)))) st
 
   -- the store of a new object's length
   pub writes_length : (a : Actor) (rest : List Statement) (r class x : ℕ) → Stands p lay w g b said k (within a rest (StoreLength r class x)) →
@@ -345,10 +351,13 @@ module _ (p : Program) (lay : Layout) (w : Words) (g : Graph) (b : Book) (said :
         | inl z ↦ put-at w.word (x + 1) val (b.address o + 1) z ∙ sym size ∙ ap g.size (sym (there o (b.address o + 1) q (omega arith) (omega arith) z))
         | inr z ↦ put-other w.word (x + 1) val (b.address o + 1) z ∙ e
       ] in
-      let known : (o : ℕ) → Known w g b o → Known (write w (Word (x + 1)) val) g b o = λ o q. (q.0, elim q.1 [
-        | inl z ↦ inl z
-        | inr h ↦ inr (tag_off p lay w g b said k owner t new (x + 1) val m.stands from to (omega arith) o q.0 ∙ h.0, length o q.0 h.1)
-      ]) in
+      let known : (o : ℕ) → Known w g b o → Known (write w (Word (x + 1)) val) g b o = λ o q. (
+        q.0,
+        elim q.1 [
+          | inl z ↦ inl z
+          | inr h ↦ inr (tag_off p lay w g b said k owner t new (x + 1) val m.stands from to (omega arith) o q.0 ∙ h.0, length o q.0 h.1)
+        ],
+      ) in
       let entry = entry_by w g b (write w (Word (x + 1)) val) known in
       silent p lay w g b said k (write w (Word (x + 1)) val) g b (record {
         owner = owner;
@@ -388,12 +397,20 @@ module _ (p : Program) (lay : Layout) (w : Words) (g : Graph) (b : Book) (said :
         | inl z ↦ put-at w.word x val (b.address o) z ∙ ap plain_word (sym m.class_is) ∙ ap (λ i. plain_word (g.class i)) (sym (there o (b.address o) q (omega arith) (omega arith) z))
         | inr z ↦ put-other w.word x val (b.address o) z ∙ e
       ] in
-      let known : (o : ℕ) → Known w g b o → Known (write w (Word x) val) g b o = λ o q. (q.0, elim q.1 [
-        | inl z ↦ inl z
-        | inr h ↦ inr (tag o q.0 h.0, length_off p lay w g b said k owner t new x val m.stands from to off o q.0 ∙ h.1)
-      ]) in
-      let known_new : Known (write w (Word x) val) g b new = (m.stands, inr (put-at w.word x val (b.address new) at ∙ ap plain_word (sym m.class_is),
-        length_off p lay w g b said k owner t new x val m.stands from to off new m.stands ∙ ap (λ y. w.word (y + 1)) at ∙ st.at.1 ∙ sym size)) in
+      let known : (o : ℕ) → Known w g b o → Known (write w (Word x) val) g b o = λ o q. (
+        q.0,
+        elim q.1 [
+          | inl z ↦ inl z
+          | inr h ↦ inr (tag o q.0 h.0, length_off p lay w g b said k owner t new x val m.stands from to off o q.0 ∙ h.1)
+        ],
+      ) in
+      let known_new : Known (write w (Word x) val) g b new = (
+        m.stands,
+        inr (
+          put-at w.word x val (b.address new) at ∙ ap plain_word (sym m.class_is),
+          length_off p lay w g b said k owner t new x val m.stands from to off new m.stands ∙ ap (λ y. w.word (y + 1)) at ∙ st.at.1 ∙ sym size,
+        ),
+      ) in
       let entry = entry_by w g b (write w (Word x) val) known in
       silent p lay w g b said k (write w (Word x) val) g b (record {
         owner = owner;

@@ -1,5 +1,5 @@
 -- How the words, and the mutators in mid-statement, stand to the graph, the book and the answers by names.
-use Rattle.std.proofs.Common.{◌≡◌, ◌≢◌, ℕ, ◌+◌, ◌<◌, ◌≤◌, Bool, true, false, Option, Some, List, [], ◌∷◌, ◌++◌, ◌⊎◌, map}
+use Rattle.std.proofs.Common.{◌≡◌, ◌≢◌, ℕ, ◌+◌, ◌<◌, ◌≤◌, Bool, true, false, Some, List, [], ◌∷◌, ◌++◌, ◌⊎◌, map}
 use Rattle.sg_words.specs.Address.{byte_at}
 use Rattle.sg_words.specs.Tags.{plain_word}
 use Rattle.sg_words.specs.Words.{put, Words}
@@ -14,7 +14,7 @@ use Rattle.sg_graph.specs.Kinds.{Kind, IsRef, IsInt, HasNoMisuse}
 use Rattle.sg_graph.specs.Graph.{Entry, Ref, Int, Graph}
 use Rattle.sg_graph.specs.Statements.{Test, test_of, emptied}
 use Rattle.sg_graph.specs.Book.{Book, words_of_class, IsShort, LacksRoom, nursery_base, nursery_end}
-use Rattle.sg_graph.specs.Epoch.{Said, Turn, by_address}
+use Rattle.sg_graph.specs.Epoch.{Turn, by_address}
 use Rattle.sg_run.specs.Rules.{Layout, Mid, Idle, TestTag, TestLength, FailTag, FailLength, Access, Look, Claim, StoreLength, StoreTag, Actor}
 
 -- the tag and the length of the object are written

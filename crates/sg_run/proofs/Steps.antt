@@ -1,25 +1,25 @@
 -- What a piece of code did is a list of next steps of its mutator: one lemma for each way through a statement, over plain data.
-use Rattle.std.proofs.Common.{◌≡◌, ◌≢◌, ℕ, ◌+◌, ◌*◌, ◌/◌, ◌%◌, ◌<◌, ◌≤◌, Bool, true, false, Some, List, [], ◌∷◌, ◌++◌, length, set, get_or, refl, ap, ◌∙◌, sym, subst, inl, inr, arith, get_or-set_same, get_or-set_other}
+use Rattle.std.proofs.Common.{◌≡◌, ℕ, ◌+◌, ◌<◌, ◌≤◌, Bool, true, false, Some, List, [], ◌∷◌, ◌++◌, length, set, get_or, refl, ap, ◌∙◌, sym, subst, inl, inr, arith, get_or-set_same, get_or-set_other}
 use Rattle.std.proofs.Math.Path.{fun_ext}
 use Rattle.std.proofs.lemmas.Bool.{cases_eq}
-use Rattle.sg_words.specs.Address.{byte_at, word_at}
+use Rattle.sg_words.specs.Address.{byte_at}
 use Rattle.sg_words.specs.Tags.{plain_word}
 use Rattle.sg_words.specs.declared.steps.Place.TheVariants.{Next, Word}
 use Rattle.sg_words.specs.declared.steps.Step.{Step}
-use Rattle.sg_words.specs.declared.steps.Step.TheVariants.{Begin, Load, Store, Won}
+use Rattle.sg_words.specs.declared.steps.Step.TheVariants.{Begin, Load}
 use Rattle.sg_words.specs.declared.steps.Tick.{Tick}
-use Rattle.sg_words.specs.Words.{put, Words, read, write, Saw, after_step, after, Legal}
+use Rattle.sg_words.specs.Words.{put, Words, write, Saw, after_step, after, Legal}
 use Rattle.sg_graph.specs.declared.program.Program.{Program}
 use Rattle.sg_graph.specs.declared.program.Statement.{Statement}
 use Rattle.sg_graph.specs.declared.program.Statement.TheVariants.{New, Put, Get, PutD, GetD, Num}
-use Rattle.sg_graph.specs.declared.reports.Answer.TheVariants.{At, Null, Number, Fine, Field, Full}
-use Rattle.sg_graph.specs.Scripts.{kind_of, fields_of}
+use Rattle.sg_graph.specs.declared.reports.Answer.TheVariants.{At, Null, Number, Fine, Field}
+use Rattle.sg_graph.specs.Scripts.{fields_of}
 use Rattle.sg_graph.specs.Statements.{Test, test_of}
 use Rattle.sg_graph.specs.Book.{words_of_class}
 use Rattle.sg_run.specs.declared.space.Space.{Space}
-use Rattle.sg_run.specs.Rules.{Layout, Actor, Mid, TestTag, TestLength, FailTag, FailLength, Access, Look, Claim, StoreLength, StoreTag, before, within, over, owning, cleared, reference_answer, taken, object_in, Comes, Follows, Went}
+use Rattle.sg_run.specs.Rules.{Layout, Actor, Access, Look, Claim, StoreLength, before, within, over, owning, cleared, reference_answer, taken, object_in, Comes, Follows, Went}
 use Rattle.sg_run.specs.Rules.Comes.{test_null, test_begins, test_fails, loads_tag, loads_length, fails_tag, fails_length, put_stores, putd_stores, get_loads, getd_loads, num_sets, new_bumps, new_looks, look_finds, look_goes_on, look_ends, claim_wins, stores_length, stores_tag}
-use Rattle.sg_run.specs.Views.{words_of, layout_of, class_at, IsMeasured, LooksFrom, FindsNone, Searches}
+use Rattle.sg_run.specs.Views.{words_of, layout_of, class_at, IsMeasured, LooksFrom, Searches}
 use Rattle.sg_run.proofs.Puts.{put-at, put-other}
 
 -- a write of a list is a change of the function that reads it

@@ -1,5 +1,5 @@
 -- The induction over the list of events: one order of whole statements explains every legal list.
-use Rattle.std.proofs.Common.{◌≡◌, ◌≢◌, ℕ, zero, suc, ◌+◌, ◌<◌, ◌≤◌, Bool, true, false, cond, eqb, List, [], ◌∷◌, ◌++◌, map, length, inl, inr, sym, refl, ap, ◌∙◌, subst, append_assoc, append-nil, le_refl, zero-le, arith}
+use Rattle.std.proofs.Common.{◌≡◌, ℕ, Bool, true, false, eqb, List, [], ◌∷◌, ◌++◌, map, inl, inr, sym, refl, ap, ◌∙◌, subst, append_assoc, append-nil}
 use Rattle.std.proofs.lemmas.Bool.{cases_eq, eq-eqb, ne_eqb, cond-true, cond-false}
 use Rattle.sg_words.specs.declared.steps.Step.{Step}
 use Rattle.sg_words.specs.declared.steps.Tick.{Tick}
@@ -9,10 +9,10 @@ use Rattle.sg_graph.specs.declared.program.Program.{Program}
 use Rattle.sg_graph.specs.declared.reports.Answer.{Answer}
 use Rattle.sg_graph.specs.Graph.{Graph}
 use Rattle.sg_graph.specs.Book.{Book}
-use Rattle.sg_graph.specs.Epoch.{Said, Turn, Explains, answers_of}
+use Rattle.sg_graph.specs.Epoch.{Said, Explains, answers_of}
 use Rattle.sg_run.specs.Rules.{Layout, Actor, Comes, Follows}
 use Rattle.sg_run.specs.Rules.Comes.{test_null, test_begins, test_fails, loads_tag, loads_length, fails_tag, fails_length, put_stores, putd_stores, get_loads, getd_loads, num_sets, new_bumps, new_looks, look_finds, look_goes_on, look_ends, claim_wins, stores_length, stores_tag}
-use Rattle.sg_run.proofs.Puts.{put-at, put-same, put-other, put-all, part-same, part-other, part-own, part-none, ticks-own}
+use Rattle.sg_run.proofs.Puts.{put-at, put-other, put-all, part-same, part-other, part-own, part-none, ticks-own}
 use Rattle.sg_run.proofs.Relation.{Owner, Ground, Stands, Moves, Kept, World}
 use Rattle.sg_run.proofs.Frame.{stands_later}
 use Rattle.sg_run.proofs.Loads.{nulls, begins, fails, sees_tag, sees_length, sees_failing_tag, tells_field, sets_number, searches, finds_room, finds_small, tells_full}
@@ -114,7 +114,7 @@ one_by_one p lay (e ∷ es) w g b said actors last wo legal follows =
       owner = step.owner;
       ground = step.ground;
       stands = put-all (λ j a. Stands p lay (after_step w e.tick.step) step.h step.c step.said' j a) actors k a' step.stands
-        (λ j n. stands_later p lay w g b said (after_step w e.tick.step) step.h step.c step.said' k j step.later n (actors j) (wo.stands j));
+          (λ j n. stands_later p lay w g b said (after_step w e.tick.step) step.h step.c step.said' k j step.later n (actors j) (wo.stands j));
     })
     legal.1
     (put-all (λ j a. Follows p lay a (part j es) (last j)) actors k a' mine.2 (λ j n. subst (λ q. Follows p lay (actors j) q (last j)) (part-other j e es n) (follows j))))

@@ -9,3 +9,4 @@ pub mod Ends
 pub mod Input
 pub mod Status
 pub mod Top
+pub mod Reading

@@ -1,5 +1,5 @@
 -- The law of one order: what the atomic steps of any number of mutators, in any legal list, say of whole statements.
-use Rattle.std.specs.Prelude.{◌≡◌, ℕ, List, [], map}
+use Rattle.std.specs.Prelude.{◌≡◌, ℕ, List, map}
 use Rattle.sg_words.specs.Words.{Words, Legal}
 use Rattle.sg_words.specs.Events.{Event, ticks, part, order_of}
 use Rattle.sg_graph.specs.declared.program.Program.{Program}

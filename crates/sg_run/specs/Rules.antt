@@ -1,6 +1,6 @@
 -- The private state of a mutator, and its program: which atomic step comes next, whether that step decides the statement,
 -- and what the mutator is after it.
-use Rattle.std.specs.Prelude.{◌≡◌, ◌≢◌, ℕ, ◌+◌, ◌-◌, ◌<◌, ◌≤◌, ◌==◌, if◌then◌else◌, min, max, Bool, true, false, Option, Some, List, [], ◌∷◌, ◌++◌}
+use Rattle.std.specs.Prelude.{◌≡◌, ◌≢◌, ℕ, ◌+◌, ◌-◌, ◌<◌, ◌≤◌, ◌==◌, if◌then◌else◌, min, max, Bool, true, false, Some, List, [], ◌∷◌, ◌++◌}
 use Rattle.sg_words.specs.Address.{byte_at, word_at}
 use Rattle.sg_words.specs.Tags.{plain_word}
 use Rattle.sg_words.specs.declared.steps.Place.TheVariants.{Next, Word}
@@ -96,51 +96,51 @@ object_in a r = word_at (a.reg r)
 pub data Comes (p : Program) (lay : Layout) : Actor → Step → Bool → Actor → Type 0 where
   -- the object test: no object; an object with such a field; an object without
   test_null : (a : Actor) (s : Statement) (rest : List Statement) (test : Test) (x tag len : ℕ) → test_of s ≡ Some test → a.reg test.register ≡ 0 →
-    Comes p lay (before a s rest) (Begin 0 x tag len) true (over a rest (cleared s a.reg) Null)
+      Comes p lay (before a s rest) (Begin 0 x tag len) true (over a rest (cleared s a.reg) Null)
   test_begins : (a : Actor) (s : Statement) (rest : List Statement) (test : Test) (class len : ℕ) → test_of s ≡ Some test → a.reg test.register ≢ 0 →
-    has_field test.sort (kind_of p class) len test.field ≡ true →
-    Comes p lay (before a s rest) (Begin 0 (object_in a test.register) (plain_word class) len) false (within a rest (TestTag s test))
+      has_field test.sort (kind_of p class) len test.field ≡ true →
+      Comes p lay (before a s rest) (Begin 0 (object_in a test.register) (plain_word class) len) false (within a rest (TestTag s test))
   test_fails : (a : Actor) (s : Statement) (rest : List Statement) (test : Test) (class len : ℕ) → test_of s ≡ Some test → a.reg test.register ≢ 0 →
-    has_field test.sort (kind_of p class) len test.field ≡ false →
-    Comes p lay (before a s rest) (Begin 0 (object_in a test.register) (plain_word class) len) true (within a rest (FailTag s test))
+      has_field test.sort (kind_of p class) len test.field ≡ false →
+      Comes p lay (before a s rest) (Begin 0 (object_in a test.register) (plain_word class) len) true (within a rest (FailTag s test))
   loads_tag : (a : Actor) (s : Statement) (rest : List Statement) (test : Test) (class : ℕ) →
-    Comes p lay (within a rest (TestTag s test)) (Load (Word (object_in a test.register)) (plain_word class)) false (within a rest (TestLength s test class))
+      Comes p lay (within a rest (TestTag s test)) (Load (Word (object_in a test.register)) (plain_word class)) false (within a rest (TestLength s test class))
   loads_length : (a : Actor) (s : Statement) (rest : List Statement) (test : Test) (class len : ℕ) → has_field test.sort (kind_of p class) len test.field ≡ true →
-    Comes p lay (within a rest (TestLength s test class)) (Load (Word (object_in a test.register + 1)) len) false (within a rest (Access s))
+      Comes p lay (within a rest (TestLength s test class)) (Load (Word (object_in a test.register + 1)) len) false (within a rest (Access s))
   fails_tag : (a : Actor) (s : Statement) (rest : List Statement) (test : Test) (class : ℕ) →
-    Comes p lay (within a rest (FailTag s test)) (Load (Word (object_in a test.register)) (plain_word class)) false (within a rest (FailLength s test class))
+      Comes p lay (within a rest (FailTag s test)) (Load (Word (object_in a test.register)) (plain_word class)) false (within a rest (FailLength s test class))
   fails_length : (a : Actor) (s : Statement) (rest : List Statement) (test : Test) (class len : ℕ) → has_field test.sort (kind_of p class) len test.field ≡ false →
-    Comes p lay (within a rest (FailLength s test class)) (Load (Word (object_in a test.register + 1)) len) false (over a rest (cleared s a.reg) Field)
+      Comes p lay (within a rest (FailLength s test class)) (Load (Word (object_in a test.register + 1)) len) false (over a rest (cleared s a.reg) Field)
   -- the load or the store of the field
   put_stores : (a : Actor) (rest : List Statement) (r i s : ℕ) →
-    Comes p lay (within a rest (Access (Put r i s))) (Store (Word (object_in a r + 2 + i)) (a.reg s)) true (over a rest a.reg Fine)
+      Comes p lay (within a rest (Access (Put r i s))) (Store (Word (object_in a r + 2 + i)) (a.reg s)) true (over a rest a.reg Fine)
   putd_stores : (a : Actor) (rest : List Statement) (r i s : ℕ) →
-    Comes p lay (within a rest (Access (PutD r i s))) (Store (Word (object_in a r + 2 + i)) (a.reg s)) true (over a rest a.reg Fine)
+      Comes p lay (within a rest (Access (PutD r i s))) (Store (Word (object_in a r + 2 + i)) (a.reg s)) true (over a rest a.reg Fine)
   get_loads : (a : Actor) (rest : List Statement) (d r i v : ℕ) →
-    Comes p lay (within a rest (Access (Get d r i))) (Load (Word (object_in a r + 2 + i)) v) true (over a rest (put a.reg d v) (reference_answer v))
+      Comes p lay (within a rest (Access (Get d r i))) (Load (Word (object_in a r + 2 + i)) v) true (over a rest (put a.reg d v) (reference_answer v))
   getd_loads : (a : Actor) (rest : List Statement) (d r i v : ℕ) →
-    Comes p lay (within a rest (Access (GetD d r i))) (Load (Word (object_in a r + 2 + i)) v) true (over a rest (put a.reg d v) (Number v))
+      Comes p lay (within a rest (Access (GetD d r i))) (Load (Word (object_in a r + 2 + i)) v) true (over a rest (put a.reg d v) (Number v))
   -- a number
   num_sets : (a : Actor) (rest : List Statement) (d n x tag len : ℕ) → Comes p lay (before a (Num d n) rest) (Begin 0 x tag len) true (over a rest (put a.reg d n) Fine)
   -- a new object: from the buffer, or from the lowest fragment that has room
   new_bumps : (a : Actor) (rest : List Statement) (r class x tag len : ℕ) → a.from + words_of_class p class ≤ a.to →
-    Comes p lay (before a (New r class) rest) (Begin 0 x tag len) true (within (owning a (a.from + words_of_class p class) a.to) rest (StoreLength r class a.from))
+      Comes p lay (before a (New r class) rest) (Begin 0 x tag len) true (within (owning a (a.from + words_of_class p class) a.to) rest (StoreLength r class a.from))
   new_looks : (a : Actor) (rest : List Statement) (r class x tag len : ℕ) → a.to < a.from + words_of_class p class → 0 < lay.fragments →
-    Comes p lay (before a (New r class) rest) (Begin 0 x tag len) false (within a rest (Look r class 0))
+      Comes p lay (before a (New r class) rest) (Begin 0 x tag len) false (within a rest (Look r class 0))
   look_finds : (a : Actor) (rest : List Statement) (r class f next : ℕ) → next + words_of_class p class ≤ lay.limit f →
-    Comes p lay (within a rest (Look r class f)) (Load (Next f) (byte_at next)) false (within a rest (Claim r class f next))
+      Comes p lay (within a rest (Look r class f)) (Load (Next f) (byte_at next)) false (within a rest (Claim r class f next))
   look_goes_on : (a : Actor) (rest : List Statement) (r class f next : ℕ) → lay.limit f < next + words_of_class p class → f + 1 < lay.fragments →
-    Comes p lay (within a rest (Look r class f)) (Load (Next f) (byte_at next)) false (within a rest (Look r class (f + 1)))
+      Comes p lay (within a rest (Look r class f)) (Load (Next f) (byte_at next)) false (within a rest (Look r class (f + 1)))
   -- there is no room: the last look decides
   look_ends : (a : Actor) (rest : List Statement) (r class f next : ℕ) → lay.limit f < next + words_of_class p class → lay.fragments ≤ f + 1 →
-    Comes p lay (within a rest (Look r class f)) (Load (Next f) (byte_at next)) true (over a rest (put a.reg r 0) Full)
+      Comes p lay (within a rest (Look r class f)) (Load (Next f) (byte_at next)) true (over a rest (put a.reg r 0) Full)
   claim_wins : (a : Actor) (rest : List Statement) (r class f next : ℕ) →
-    Comes p lay (within a rest (Claim r class f next)) (Won (Next f) (byte_at next) (byte_at (next + taken p lay f next (words_of_class p class)))) true
+      Comes p lay (within a rest (Claim r class f next)) (Won (Next f) (byte_at next) (byte_at (next + taken p lay f next (words_of_class p class)))) true
       (within (owning a (next + words_of_class p class) (next + taken p lay f next (words_of_class p class))) rest (StoreLength r class next))
   stores_length : (a : Actor) (rest : List Statement) (r class x : ℕ) →
-    Comes p lay (within a rest (StoreLength r class x)) (Store (Word (x + 1)) (fields_of p class)) false (within a rest (StoreTag r class x))
+      Comes p lay (within a rest (StoreLength r class x)) (Store (Word (x + 1)) (fields_of p class)) false (within a rest (StoreTag r class x))
   stores_tag : (a : Actor) (rest : List Statement) (r class x : ℕ) →
-    Comes p lay (within a rest (StoreTag r class x)) (Store (Word x) (plain_word class)) false (over a rest (put a.reg r (byte_at x)) (At (byte_at x)))
+      Comes p lay (within a rest (StoreTag r class x)) (Store (Word x) (plain_word class)) false (over a rest (put a.reg r (byte_at x)) (At (byte_at x)))
 
 -- these steps are the next ones of a mutator, which is `last` after them
 abbrev pub Follows : Program → Layout → Actor → List Tick → Actor → Type 0

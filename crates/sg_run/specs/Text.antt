@@ -1,9 +1,8 @@
 -- The grammar of the input: which program a text reads as. It speaks of the words of each line.
-use Rattle.std.specs.Prelude.{◌≡◌, ◌≢◌, ℕ, ◌+◌, ◌*◌, ◌^◌, ◌<◌, ◌≤◌, ◌==◌, ◌&&◌, ◌||◌, nat_le, ◌⊎◌, Bool, true, false, not, IsTrue, if◌then◌else◌, Option, Some, List, [], ◌∷◌, ◌++◌, length, map, filter, slice_get, take_while, codes}
+use Rattle.std.specs.Prelude.{◌≡◌, ℕ, ◌+◌, ◌*◌, ◌^◌, ◌<◌, ◌≤◌, ◌==◌, ◌&&◌, ◌||◌, nat_le, ◌⊎◌, Bool, true, false, not, IsTrue, if◌then◌else◌, Some, List, [], ◌∷◌, ◌++◌, length, map, filter, slice_get, take_while, codes}
 use Rattle.std.specs.List.{list_all}
 use Rattle.std.specs.Fmt.{decimal}
 use Rattle.sg_graph.specs.Epoch.{Pairwise}
-use Rattle.sg_graph.specs.declared.shapes.Descriptor.{Descriptor}
 use Rattle.sg_graph.specs.declared.shapes.Descriptor.TheVariants.{PtrFree, Bitmap}
 use Rattle.sg_graph.specs.declared.shapes.Shape.{Shape}
 use Rattle.sg_graph.specs.declared.program.Config.{Config}

@@ -4,5 +4,4 @@ ghost use Rattle.sg_run.specs.OneOrder.{OneOrder};
 /// order of whole statements, that of the deciding steps. It does nothing; its contract is the law.
 pub fn one_order()
     ensures { OneOrder }
-{
-}
+{}

@@ -1,5 +1,5 @@
 -- The steps of several actors in one list.
-use Rattle.std.specs.Prelude.{◌≡◌, ℕ, ◌==◌, if◌then◌else◌, List, [], ◌∷◌}
+use Rattle.std.specs.Prelude.{ℕ, ◌==◌, if◌then◌else◌, List, [], ◌∷◌}
 use Rattle.sg_words.specs.declared.steps.Tick.{Tick}
 
 -- the actor with this number made this step

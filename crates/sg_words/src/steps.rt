@@ -21,11 +21,21 @@ pub enum Step {
         length: u64,
     },
     /// A load.
-    Load { place: Place, saw: u64 },
+    Load {
+        place: Place,
+        saw: u64,
+    },
     /// A store.
-    Store { place: Place, new: u64 },
+    Store {
+        place: Place,
+        new: u64,
+    },
     /// A compare and exchange that found what it expected.
-    Won { place: Place, seen: u64, new: u64 },
+    Won {
+        place: Place,
+        seen: u64,
+        new: u64,
+    },
     /// A compare and exchange that found another word, and changed nothing.
     Lost {
         place: Place,

@@ -1,5 +1,5 @@
 -- a number below 2 ^ 64 has no bit from 64 on
-use Rattle.std.proofs.Common.{◌≡◌, ◌==◌, ℕ, ◌∙◌, sym, ap}
+use Rattle.std.proofs.Common.{◌==◌, ℕ, ◌∙◌, sym, ap}
 use Rattle.std.proofs.lemmas.Bool.{le-ltb}
 use Rattle.std.proofs.lemmas.Nat.Bits.{bit_at_above}
 use Rattle.sg_graph.proofs.shapes.has_bit.Goals as goal

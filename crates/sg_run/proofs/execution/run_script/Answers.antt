@@ -1,5 +1,5 @@
-use Rattle.std.proofs.Common.{◌≡◌, ◌+◌, List, ◌∷◌, drop, length, ap, sym, refl, ◌∙◌, arith}
-use Rattle.sg_graph.specs.Scripts.{written_out, statements_at, script_of}
+use Rattle.std.proofs.Common.{◌+◌, ◌∷◌, drop, length, ap, sym, refl, ◌∙◌, arith}
+use Rattle.sg_graph.specs.Scripts.{written_out, statements_at}
 use Rattle.sg_run.specs.Rules.{fresh}
 use Rattle.sg_run.specs.Views.{words_of, layout_of, actor_of}
 use Rattle.sg_run.proofs.Steps.{went_none, went_then, went_to, went_in}
