@@ -6,11 +6,15 @@
 
 mod address;
 mod lists;
+mod masks;
+mod pieces;
 mod steps;
 mod tags;
 
 pub use address::Addr;
 pub use lists::List;
+pub use masks::first_clear;
+pub use pieces::{Move, Piece};
 pub use steps::{Place, Step, Tick};
 pub use tags::{Tag, read_tag, write_tag};
 
@@ -26,6 +30,13 @@ mod tests {
         assert_eq!(rt; first.plus(4).get(), 4128);
         assert_eq!(rt; write_tag(Tag::Plain { class: 0 }), 8);
         assert_eq!(rt; read_tag(8), Some(Tag::Plain { class: 0 }));
+        let to = Addr::of(6144).ok_or("an address")?;
+        assert_eq!(rt; write_tag(Tag::Pinned { class: 0 }), 10);
+        assert_eq!(rt; write_tag(Tag::Cemented { class: 0 }), 12);
+        assert_eq!(rt; write_tag(Tag::Forwarded { to }), 6145);
+        assert_eq!(rt; read_tag(6145), Some(Tag::Forwarded { to }));
+        assert_eq!(rt; first_clear(0b1011, 4), Some(2));
+        assert_eq!(rt; first_clear(u64::MAX, 64), None);
         for word in [0, 3, 9, 2056] {
             assert_eq!(rt; read_tag(word), None, "at {word}");
         }
