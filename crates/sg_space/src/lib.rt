@@ -1,0 +1,10 @@
+//! The simulated address space: a nursery, a major heap, a large space and the rows behind it, over 64-bit words.
+#![tactic(auto)]
+
+mod layout;
+mod objects;
+mod space;
+
+pub use layout::Layout;
+pub use objects::Object;
+pub use space::Space;
