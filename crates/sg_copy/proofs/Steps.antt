@@ -10,7 +10,7 @@ use Rattle.sg_copy.specs.Area.{Area, has, In, IsYoung, size_of, is_strong, Trace
 use Rattle.sg_copy.specs.Image.{IsImage}
 use Rattle.sg_copy.specs.Round.{Round, slots, slots_by, IsOpening, Slot, Item, Copied, Failed, IsSettled, IsGoing, started, Handles, HoldsNone, FindsPinned, FindsForwarded, Copies, Fails, remains, IsAfter, CopierLaw}
 use Rattle.sg_graph.proofs.Distinct.{few}
-use Rattle.sg_copy.proofs.Members.{in-here, in-left, in-cases, in-there, in-right, out, not-in, fresh-out, among-all, sent-at, sent-fixed, slots-same, slots-few, sends, sends-at}
+use Rattle.sg_copy.proofs.Members.{in-here, in-left, in-cases, in-there, in-right, out, not-in, fresh-out, among-all, sent-at, sent-fixed, slots-same, slots-few, in-one, sends, sends-at, sends-other}
 use Rattle.sg_copy.proofs.Copier.{young-below, target-old, slot-run, slot-apart, slot-word, plain-words, traced, found, quiet, settle}
 use Rattle.sg_copy.proofs.Grows.{from_range, from-out, grow, fail}
 
@@ -53,15 +53,18 @@ module _ (area : Area) (w : ℕ → ℕ) (items : List ℕ) (fill : ℕ) (op : I
 
     -- nothing is added
     only-settles : (word : ℕ → ℕ) (filled : ℕ) (added : List ℕ) → word s ≡ sent r.m (w (r.source s)) → ((y : ℕ) → y ≢ s → word y ≡ r.word y) →
-        ((x : ℕ) → w (r.source s) ≡ byte_at x → IsYoung area x → IsSettled w r.moves r.fails x) → filled ≡ r.fill → added ≡ [] → (failed : ℕ) → failed ≡ 0 → IsAfter area w items fill r rest word filled added failed
-    only-settles word filled added here there st f a failed z = record {
+        ((x : ℕ) → w (r.source s) ≡ byte_at x → IsYoung area x → IsSettled w r.moves r.fails x) → filled ≡ r.fill → added ≡ [] → (moved failed : List ℕ) → moved ≡ [] → failed ≡ [] → IsAfter area w items fill r rest word filled added moved failed
+    only-settles word filled added here there st f a moved failed mz fz = record {
       later = record r { word = word; todo = rest; handled = s ∷ r.handled };
       going = settle area w items fill op r go s rest word td here there st;
       different = d;
       words = refl;
-      count = omega arith;
       comes = sym (ap (λ (l : List ℕ). rest ++ l) a ∙ append-nil rest);
       fills = sym f;
+      moves = sym (ap (λ (l : List ℕ). r.moves ++ l) mz ∙ append-nil r.moves);
+      fails = sym (ap (λ (l : List ℕ). l ++ r.fails) fz);
+      still = λ a h. refl;
+      to = λ a h. absurd (let z = subst (λ (l : List ℕ). In a l) mz h in cc);
       less = let l : length r.todo ≡ suc (length rest) = ap (λ (l : List ℕ). length l) td in omega arith;
     }
 
@@ -123,8 +126,8 @@ module _ (area : Area) (w : ℕ → ℕ) (items : List ℕ) (fill : ℕ) (op : I
         ((y : ℕ) → r.fill ≤ y → y < r.fill + size_of r.word x → copied y ≡ r.word (x + (y - r.fill))) →
         ((y : ℕ) → y ≢ x → (r.fill ≤ y → y < r.fill + size_of r.word x → ⊥) → copied y ≡ r.word y) →
         word s ≡ byte_at r.fill → ((y : ℕ) → y ≢ s → word y ≡ copied y) →
-        filled ≡ r.fill + size_of r.word x → added ≡ slots_by area c r.fill 0 (r.word (x + 1)) → (failed : ℕ) → failed ≡ 0 → IsAfter area w items fill r rest word filled added failed
-    after-growing x c xs t tag copied word filled added room fwd body there here others f a failed z =
+        filled ≡ r.fill + size_of r.word x → added ≡ slots_by area c r.fill 0 (r.word (x + 1)) → (moved failed : List ℕ) → moved ≡ x ∷ [] → failed ≡ [] → IsAfter area w items fill r rest word filled added moved failed
+    after-growing x c xs t tag copied word filled added room fwd body there here others f a moved failed mz fz =
         let p = tag-plain x c t tag in
         let nm = p.0 in let nf = p.1 in let wx = p.2 in
         let len : r.word (x + 1) ≡ w (x + 1) = plain-words area w items fill op r go x 1 c t wx nm nf (omega arith) in
@@ -150,9 +153,12 @@ module _ (area : Area) (w : ℕ → ℕ) (items : List ℕ) (fill : ℕ) (op : I
               (λ y v _. inl (in-right y r.moves (x ∷ []) (in-here y x [] (let q = held-x in omega arith))));
           different = d;
           words = refl;
-          count = omega arith;
           comes = ap (λ (l : List ℕ). rest ++ l) slots-e;
           fills = sym (f ∙ ap (λ (z : ℕ). r.fill + (z + 2)) len);
+          moves = ap (λ (l : List ℕ). r.moves ++ l) (sym mz);
+          fails = sym (ap (λ (l : List ℕ). l ++ r.fails) fz);
+          still = λ b h. sends-other r.m x r.fill b (λ e. nm (subst (λ (z : ℕ). In z r.moves) e h));
+          to = λ b h. sends-at r.m x r.fill b (in-one b x (subst (λ (l : List ℕ). In b l) mz h));
           less =
               (let l : length r.todo ≡ suc (length rest) = ap (λ (l : List ℕ). length l) td in
               let k : length (rest ++ slots area w x r.fill 0 (w (x + 1))) ≡ length rest + length (slots area w x r.fill 0 (w (x + 1))) = length-append rest (slots area w x r.fill 0 (w (x + 1))) in
@@ -161,9 +167,9 @@ module _ (area : Area) (w : ℕ → ℕ) (items : List ℕ) (fill : ℕ) (op : I
         }
 
     after-failing : (x c : ℕ) → w (r.source s) ≡ byte_at x → r.word s ≡ byte_at x → Traces area w items x → r.word x ≡ plain_word c → (word : ℕ → ℕ) (filled : ℕ) (added : List ℕ) →
-        area.limit < r.fill + size_of r.word x → word x ≡ plain_word c + 2 → ((y : ℕ) → y ≢ x → word y ≡ r.word y) → filled ≡ r.fill → added ≡ slots_by area c x 0 (r.word (x + 1)) → (failed : ℕ) → failed ≡ 1 →
-        IsAfter area w items fill r rest word filled added failed
-    after-failing x c xs rs t tag word filled added full pin there f a failed z =
+        area.limit < r.fill + size_of r.word x → word x ≡ plain_word c + 2 → ((y : ℕ) → y ≢ x → word y ≡ r.word y) → filled ≡ r.fill → added ≡ slots_by area c x 0 (r.word (x + 1)) → (moved failed : List ℕ) → moved ≡ [] → failed ≡ x ∷ [] →
+        IsAfter area w items fill r rest word filled added moved failed
+    after-failing x c xs rs t tag word filled added full pin there f a moved failed mz fz =
         let p = tag-plain x c t tag in
         let nm = p.0 in let nf = p.1 in let wx = p.2 in
         let len : r.word (x + 1) ≡ w (x + 1) = plain-words area w items fill op r go x 1 c t wx nm nf (omega arith) in
@@ -184,9 +190,12 @@ module _ (area : Area) (w : ℕ → ℕ) (items : List ℕ) (fill : ℕ) (op : I
               (λ y v _. inr (inl (in-here y x r.fails (let q = xs in omega arith))));
           different = d1;
           words = refl;
-          count = omega arith;
           comes = ap (λ (l : List ℕ). rest ++ l) slots-e;
           fills = sym f;
+          moves = sym (ap (λ (l : List ℕ). r.moves ++ l) mz ∙ append-nil r.moves);
+          fails = ap (λ (l : List ℕ). l ++ r.fails) (sym fz);
+          still = λ b h. refl;
+          to = λ b h. absurd (let z = subst (λ (l : List ℕ). In b l) mz h in cc);
           less =
               (let l : length r.todo ≡ suc (length rest) = ap (λ (l : List ℕ). length l) td in
               let k : length (rest ++ slots area w x x 0 (w (x + 1))) ≡ length rest + length (slots area w x x 0 (w (x + 1))) = length-append rest (slots area w x x 0 (w (x + 1))) in
@@ -197,30 +206,30 @@ module _ (area : Area) (w : ℕ → ℕ) (items : List ℕ) (fill : ℕ) (op : I
         }
 
     -- a copier's handling of the first slot leads to a round that goes on, with less left
-    pub handled : (word : ℕ → ℕ) (filled : ℕ) (added : List ℕ) (failed : ℕ) → Handles area r.word r.fill s word filled added failed → IsAfter area w items fill r rest word filled added failed
-    handled word filled added failed (HoldsNone n same f a z) =
+    pub handled : (word : ℕ → ℕ) (filled : ℕ) (added moved failed : List ℕ) → Handles area r.word r.fill s word filled added moved failed → IsAfter area w items fill r rest word filled added moved failed
+    handled word filled added moved failed (HoldsNone n same f a mz fz) =
         only-settles word filled added (same s ∙ quiet area w items fill op r go s slot n) (λ y _. same y)
         (λ x v y. elim (cases_Bool (has s r.handled)) [
           | inl h ↦ go.settled s x h v y
           | inr h ↦ absurd (n x (slot-word area w items fill op r go s slot ∙ cond-false _ _ _ h ∙ v) y)
-        ]) f a failed z
-    handled word filled added failed (FindsPinned c x v y tag same f a z) =
+        ]) f a moved failed mz fz
+    handled word filled added moved failed (FindsPinned c x v y tag same f a mz fz) =
         let ys = young-slot x v y in
         let q = tag-pinned x c ys.1 tag in
         only-settles word filled added (same s ∙ v ∙ sym (sent-at r.m (w (r.source s)) x ys.0 ∙ ap byte_at (go.others x q.1))) (λ y _. same y)
-        (λ i e _. subst (IsSettled w r.moves r.fails) (sym (one x i ys.0 e)) q.0) f a failed z
-    handled word filled added failed (FindsForwarded t x v y tag here there f a z) =
+        (λ i e _. subst (IsSettled w r.moves r.fails) (sym (one x i ys.0 e)) q.0) f a moved failed mz fz
+    handled word filled added moved failed (FindsForwarded t x v y tag here there f a mz fz) =
         let ys = young-slot x v y in
         let i = tag-moves x t ys.1 tag in
         let e = go.forwarded x i in
         only-settles word filled added (here ∙ sym (sent-at r.m (w (r.source s)) x ys.0 ∙ ap byte_at (let goal : r.m x ≡ t = omega arith in goal))) there
-        (λ j q _. subst (IsSettled w r.moves r.fails) (sym (one x j ys.0 q)) (inl i)) f a failed z
-    handled word filled added failed (Copies c x copied v y tag room fwd body others here there f a z) =
+        (λ j q _. subst (IsSettled w r.moves r.fails) (sym (one x j ys.0 q)) (inl i)) f a moved failed mz fz
+    handled word filled added moved failed (Copies c x copied v y tag room fwd body others here there f a mz fz) =
         let ys = young-slot x v y in
-        after-growing x c ys.0 ys.1 tag copied word filled added room fwd body others here there f a failed z
-    handled word filled added failed (Fails c x v y tag full pin there f a z) =
+        after-growing x c ys.0 ys.1 tag copied word filled added room fwd body others here there f a moved failed mz fz
+    handled word filled added moved failed (Fails c x v y tag full pin there f a mz fz) =
         let ys = young-slot x v y in
-        after-failing x c ys.0 v ys.1 tag word filled added full pin there f a failed z
+        after-failing x c ys.0 v ys.1 tag word filled added full pin there f a moved failed mz fz
 
 -- with more slots
 traces-more : (area : Area) (w : ℕ → ℕ) (items new : List ℕ) (a : ℕ) → Traces area w items a → Traces area w (items ++ new) a

@@ -84,41 +84,44 @@ abbrev pub slots_by : Area → ℕ → ℕ → ℕ → ℕ → List ℕ
 slots_by area c at i zero = []
 slots_by area c at i (suc n) = if area.strong c i then (at + 2 + i) ∷ slots_by area c at (suc i) n else slots_by area c at (suc i) n
 
--- How a copier handles the slot s, on the words as they are: they become `word`, the heap is filled to `filled`, these slots
--- are added to those to come, and so many objects failed.
-pub data Handles (area : Area) (old : ℕ → ℕ) (fill s : ℕ) (word : ℕ → ℕ) (filled : ℕ) (added : List ℕ) (failed : ℕ) : Type 0 where
+-- How a copier handles the slot s, on the words as they are: they become `word`, the heap is filled to `filled`, the slots
+-- `added` are to come too, and this object moved or failed, or none did.
+pub data Handles (area : Area) (old : ℕ → ℕ) (fill s : ℕ) (word : ℕ → ℕ) (filled : ℕ) (added moved failed : List ℕ) : Type 0 where
   -- the slot holds no young reference
-  HoldsNone : ((x : ℕ) → old s ≡ byte_at x → IsYoung area x → ⊥) → ((y : ℕ) → word y ≡ old y) → filled ≡ fill → added ≡ [] → failed ≡ 0 → Handles area old fill s word filled added failed
+  HoldsNone : ((x : ℕ) → old s ≡ byte_at x → IsYoung area x → ⊥) → ((y : ℕ) → word y ≡ old y) → filled ≡ fill → added ≡ [] → moved ≡ [] → failed ≡ [] → Handles area old fill s word filled added moved failed
   -- its target stays where it is
-  FindsPinned : (c x : ℕ) → old s ≡ byte_at x → IsYoung area x → old x ≡ plain_word c + 2 → ((y : ℕ) → word y ≡ old y) → filled ≡ fill → added ≡ [] → failed ≡ 0 → Handles area old fill s word filled added failed
+  FindsPinned : (c x : ℕ) → old s ≡ byte_at x → IsYoung area x → old x ≡ plain_word c + 2 → ((y : ℕ) → word y ≡ old y) → filled ≡ fill → added ≡ [] → moved ≡ [] → failed ≡ [] → Handles area old fill s word filled added moved failed
   -- its target was copied to t
-  FindsForwarded : (t x : ℕ) → old s ≡ byte_at x → IsYoung area x → old x ≡ byte_at t + 1 → word s ≡ byte_at t → ((y : ℕ) → y ≢ s → word y ≡ old y) → filled ≡ fill → added ≡ [] → failed ≡ 0 →
-      Handles area old fill s word filled added failed
+  FindsForwarded : (t x : ℕ) → old s ≡ byte_at x → IsYoung area x → old x ≡ byte_at t + 1 → word s ≡ byte_at t → ((y : ℕ) → y ≢ s → word y ≡ old y) → filled ≡ fill → added ≡ [] → moved ≡ [] → failed ≡ [] →
+      Handles area old fill s word filled added moved failed
   -- its target is copied to the front of the heap's rest
   Copies : (c x : ℕ) (copied : ℕ → ℕ) → old s ≡ byte_at x → IsYoung area x → old x ≡ plain_word c → fill + size_of old x ≤ area.limit →
       copied x ≡ byte_at fill + 1 →
       ((y : ℕ) → fill ≤ y → y < fill + size_of old x → copied y ≡ old (x + (y - fill))) →
       ((y : ℕ) → y ≢ x → (fill ≤ y → y < fill + size_of old x → ⊥) → copied y ≡ old y) →
       word s ≡ byte_at fill → ((y : ℕ) → y ≢ s → word y ≡ copied y) →
-      filled ≡ fill + size_of old x → added ≡ slots_by area c fill 0 (old (x + 1)) → failed ≡ 0 → Handles area old fill s word filled added failed
+      filled ≡ fill + size_of old x → added ≡ slots_by area c fill 0 (old (x + 1)) → moved ≡ x ∷ [] → failed ≡ [] → Handles area old fill s word filled added moved failed
   -- there is no room for a copy: its target stays, pinned
   Fails : (c x : ℕ) → old s ≡ byte_at x → IsYoung area x → old x ≡ plain_word c → area.limit < fill + size_of old x →
       word x ≡ plain_word c + 2 → ((y : ℕ) → y ≢ x → word y ≡ old y) →
-      filled ≡ fill → added ≡ slots_by area c x 0 (old (x + 1)) → failed ≡ 1 → Handles area old fill s word filled added failed
+      filled ≡ fill → added ≡ slots_by area c x 0 (old (x + 1)) → moved ≡ [] → failed ≡ x ∷ [] → Handles area old fill s word filled added moved failed
 
 -- what is left to do: slots, room in the heap, and objects that haven't failed
 abbrev pub remains : Area → Round → ℕ
 remains area r = length r.todo + (area.limit - r.fill) + (area.high - length r.fails) * (area.high + 1)
 
 -- the round after a handled slot
-pub record IsAfter (area : Area) (w : ℕ → ℕ) (items : List ℕ) (fill : ℕ) (r : Round) (rest : List ℕ) (word : ℕ → ℕ) (filled : ℕ) (added : List ℕ) (failed : ℕ) : Type 0 where
+pub record IsAfter (area : Area) (w : ℕ → ℕ) (items : List ℕ) (fill : ℕ) (r : Round) (rest : List ℕ) (word : ℕ → ℕ) (filled : ℕ) (added moved failed : List ℕ) : Type 0 where
   pub later : Round
   pub going : IsGoing area w items fill later
   pub different : AreDistinct later.fails
   pub words : later.word ≡ word
-  pub count : length later.fails ≡ length r.fails + failed
   pub comes : later.todo ≡ rest ++ added
   pub fills : later.fill ≡ filled
+  pub moves : later.moves ≡ r.moves ++ moved
+  pub fails : later.fails ≡ failed ++ r.fails
+  pub still : (a : ℕ) → In a r.moves → later.m a ≡ r.m a
+  pub to : (a : ℕ) → In a moved → later.m a ≡ r.fill
   pub less : remains area later < remains area r
 
 -- The copier's law: a round begins, goes on from slot to slot with less left each time, may be given more slots, and where no
@@ -127,7 +130,7 @@ pub record CopierLaw : Type 0 where
   pub begins : (area : Area) (w : ℕ → ℕ) (items : List ℕ) (fill : ℕ) → IsOpening area w items fill → IsGoing area w items fill (started w items fill)
   pub handled : (area : Area) (w : ℕ → ℕ) (items : List ℕ) (fill : ℕ) → IsOpening area w items fill →
       (r : Round) → IsGoing area w items fill r → AreDistinct r.fails → (s : ℕ) (rest : List ℕ) → r.todo ≡ s ∷ rest →
-      (word : ℕ → ℕ) (filled : ℕ) (added : List ℕ) (failed : ℕ) → Handles area r.word r.fill s word filled added failed → IsAfter area w items fill r rest word filled added failed
+      (word : ℕ → ℕ) (filled : ℕ) (added moved failed : List ℕ) → Handles area r.word r.fill s word filled added moved failed → IsAfter area w items fill r rest word filled added moved failed
   pub more : (area : Area) (w : ℕ → ℕ) (items new : List ℕ) (fill : ℕ) → IsOpening area w (items ++ new) fill →
       (r : Round) → IsGoing area w items fill r → IsGoing area w (items ++ new) fill (record r { todo = r.todo ++ new })
   pub ends : (area : Area) (w : ℕ → ℕ) (items : List ℕ) (fill : ℕ) → IsOpening area w items fill →
