@@ -88,6 +88,13 @@ pub record TellsAt (s : Contents) (x : ℕ) (o : Object) : Type 0 where
   pub begins : (owner : ℕ → Option ℕ) → IsSoundBy s owner → owner x ≡ Some x
   pub told : IsToldOf s x o
 
+-- this is told of the standing object that has the word x
+pub record HoldsWord (s : Contents) (x : ℕ) (o : Object) : Type 0 where
+  pub tells : TellsAt s (word_at o.at) o
+  pub whole : o.at % 8 ≡ 0
+  pub above : word_at o.at ≤ x
+  pub below : x < word_at o.at + o.words
+
 -- the standing object at the byte address a has the byte v, by every owner by which the space is sound
 pub record HasByte (s : Contents) (v a : ℕ) : Type 0 where
   pub owns : (owner : ℕ → Option ℕ) → IsSoundBy s owner → owner (word_at v) ≡ Some (word_at a)
