@@ -4,6 +4,7 @@
 mod layout;
 mod objects;
 mod space;
+mod walks;
 
 pub use layout::Layout;
 pub use objects::Object;
