@@ -2,6 +2,7 @@ pub mod Shapes
 pub mod Scripts
 pub mod Kinds
 pub mod Graph
+pub mod Names
 pub mod Statements
 pub mod Book
 pub mod Epoch
