@@ -4,5 +4,4 @@ ghost use Rattle.sg_graph.specs.Names.{NamesArePairs};
 /// nothing; its contract is the law.
 pub fn names_are_pairs()
     ensures { NamesArePairs }
-{
-}
+{}
