@@ -46,7 +46,7 @@ front_is_object s x is begins = is.1.objects x (begins is.0 is.1)
 
 -- two objects that share a word are one
 module _ (s : Contents) (owner : ℕ → Option ℕ) (sound : IsSoundBy s owner) where
-  inside_is_front : (x h : ℕ) → owner x ≡ Some x → owner h ≡ Some h → x ≤ h → h < x + size_at s x → h ≡ x
+  pub inside_is_front : (x h : ℕ) → owner x ≡ Some x → owner h ≡ Some h → x ≤ h → h < x + size_at s x → h ≡ x
   inside_is_front x h e f above below = same_Some h x (sym f ∙ sound.whole x h e above below)
 
 -- the walk's step over a word that isn't an object's

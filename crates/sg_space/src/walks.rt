@@ -23,8 +23,9 @@ impl Space {
             match self.object_from(x) {
                 None => x += 1,
                 Some(object) => {
+                    let words = object.words;
                     told.push(object)?;
-                    x += object.words;
+                    x += words;
                 }
             }
         }
