@@ -5,7 +5,7 @@ use Rattle.sg_words.specs.Address.{byte_at, word_at}
 use Rattle.sg_words.specs.Tags.{plain_word}
 use Rattle.sg_copy.specs.Area.{Area, has, In, IsYoung, size_of, is_strong, Traces, sent, Placed}
 use Rattle.sg_copy.specs.Round.{Round, slots, IsOpening, Slot, Item, Copied, Failed, IsSettled, IsGoing}
-use Rattle.sg_copy.proofs.Members.{has-cases, in-here, in-there, in-left, in-right, in-cases, in-one, out, not-in, sent-along, placed-more, slots-in, slots-are, sends, sends-at, sends-other}
+use Rattle.sg_copy.proofs.Members.{has-cases, in-last, in-before, last-cases, in-here, in-there, in-left, in-right, in-cases, in-one, out, not-in, sent-along, placed-more, slots-in, slots-are, sends, sends-at, sends-other}
 use Rattle.sg_copy.proofs.Copier.{grown, young-below, target-old, slot-run}
 
 -- source, but the n words from `at` on come from x on
@@ -159,25 +159,25 @@ module _ (area : Area) (w : ℕ → ℕ) (items : List ℕ) (fill : ℕ) (op : I
 
   -- no room: it fails where it stands
   pub fail : (word : ℕ → ℕ) → area.limit < r.fill + size_of w x → word x ≡ w x + 2 → ((y : ℕ) → y ≢ x → word y ≡ r.word y) →
-      IsGoing area w items fill (record r { word = word; todo = r.todo ++ slots area w x x 0 (w (x + 1)); fails = x ∷ r.fails })
+      IsGoing area w items fill (record r { word = word; todo = r.todo ++ slots area w x x 0 (w (x + 1)); fails = r.fails ++ x ∷ [] })
   fail word full tag there = record {
     placed = go.placed;
     room = go.room;
     others = go.others;
     source_out = go.source_out;
     source_in = go.source_in;
-    words = λ y hm hf. there y (λ e. not-in y (x ∷ r.fails) hf (in-here y x r.fails e)) ∙ go.words y hm (out y r.fails (λ i. not-in y (x ∷ r.fails) hf (in-there y x r.fails i)));
+    words = λ y hm hf. there y (λ e. not-in y (r.fails ++ x ∷ []) hf (in-last y x r.fails e)) ∙ go.words y hm (out y r.fails (λ i. not-in y (r.fails ++ x ∷ []) hf (in-before y x r.fails i)));
     forwarded = λ a h. there a (λ e. nm (subst (λ (z : ℕ). In z r.moves) e h)) ∙ go.forwarded a h;
-    pinned = λ a h. elim (has-cases a x r.fails h) [
+    pinned = λ a h. elim (last-cases a x r.fails h) [
       | inl e ↦ ap word e ∙ tag ∙ ap (λ (z : ℕ). w z + 2) (sym e)
       | inr i ↦ there a (λ e. nf (subst (λ (z : ℕ). In z r.fails) e i)) ∙ go.pinned a i
     ];
     moved = go.moved;
-    failed = λ a h. elim (has-cases a x r.fails h) [
+    failed = λ a h. elim (last-cases a x r.fails h) [
       | inl e ↦ subst (λ (z : ℕ). Traces area w items z × ((c : ℕ) × (w z ≡ plain_word c)) × (has z r.moves ≡ false)) (sym e) (t, (c, p), out x r.moves nm)
       | inr i ↦ go.failed a i
     ];
-    full = λ a h. elim (has-cases a x r.fails h) [
+    full = λ a h. elim (last-cases a x r.fails h) [
       | inl e ↦ subst (λ (z : ℕ). area.limit < r.fill + size_of w z) (sym e) full
       | inr i ↦ go.full a i
     ];
@@ -185,36 +185,36 @@ module _ (area : Area) (w : ℕ → ℕ) (items : List ℕ) (fill : ℕ) (op : I
     slots = λ s h. elim h [
       | inl h ↦ elim (in-cases s r.todo (slots area w x x 0 (w (x + 1))) h) [
         | inl i ↦ slot-more s (go.slots s (inl i))
-        | inr i ↦ (let q = slots-are area w x x 0 (w (x + 1)) s i in Failed x q.0 (in-here x x r.fails refl) (let z = q.1 in omega arith) q.2 q.3)
+        | inr i ↦ (let q = slots-are area w x x 0 (w (x + 1)) s i in Failed x q.0 (in-last x x r.fails refl) (let z = q.1 in omega arith) q.2 q.3)
       ]
       | inr h ↦ slot-more s (go.slots s (inr h))
     ];
     all = all;
   }
     where
-      settled-more : (s : ℕ) → IsSettled w r.moves r.fails s → IsSettled w r.moves (x ∷ r.fails) s
+      settled-more : (s : ℕ) → IsSettled w r.moves r.fails s → IsSettled w r.moves (r.fails ++ x ∷ []) s
       settled-more s (inl h) = inl h
       settled-more s (inr h) = inr (elim h [
-        | inl h ↦ inl (in-there s x r.fails h)
+        | inl h ↦ inl (in-before s x r.fails h)
         | inr h ↦ inr h
       ])
 
-      slot-more : (s : ℕ) → Slot area w items r.m r.moves r.fails s → Slot area w items r.m r.moves (x ∷ r.fails) s
+      slot-more : (s : ℕ) → Slot area w items r.m r.moves r.fails s → Slot area w items r.m r.moves (r.fails ++ x ∷ []) s
       slot-more s (Item h) = Item h
       slot-more s (Copied a i h l e q) = Copied a i h l e q
-      slot-more s (Failed a i h l e q) = Failed a i (in-there a x r.fails h) l e q
+      slot-more s (Failed a i h l e q) = Failed a i (in-before a x r.fails h) l e q
 
-      all : (s : ℕ) → Slot area w items r.m r.moves (x ∷ r.fails) s → In s (r.todo ++ slots area w x x 0 (w (x + 1))) ⊎ In s r.handled
+      all : (s : ℕ) → Slot area w items r.m r.moves (r.fails ++ x ∷ []) s → In s (r.todo ++ slots area w x x 0 (w (x + 1))) ⊎ In s r.handled
       all s k = go-on k
         where
           old : In s r.todo ⊎ In s r.handled → In s (r.todo ++ slots area w x x 0 (w (x + 1))) ⊎ In s r.handled
           old (inl h) = inl (in-left s r.todo (slots area w x x 0 (w (x + 1))) h)
           old (inr h) = inr h
 
-          go-on : Slot area w items r.m r.moves (x ∷ r.fails) s → In s (r.todo ++ slots area w x x 0 (w (x + 1))) ⊎ In s r.handled
+          go-on : Slot area w items r.m r.moves (r.fails ++ x ∷ []) s → In s (r.todo ++ slots area w x x 0 (w (x + 1))) ⊎ In s r.handled
           go-on (Item h) = old (go.all s (Item h))
           go-on (Copied a i h l e q) = old (go.all s (Copied a i h l e q))
-          go-on (Failed a i h l e q) = elim (has-cases a x r.fails h) [
+          go-on (Failed a i h l e q) = elim (last-cases a x r.fails h) [
             | inr j ↦ old (go.all s (Failed a i j l e q))
             | inl j ↦ inl (in-right s r.todo (slots area w x x 0 (w (x + 1)))
                 (subst (λ (z : ℕ). In z (slots area w x x 0 (w (x + 1)))) (sym (q ∙ ap (λ (z : ℕ). z + 2 + i) j))

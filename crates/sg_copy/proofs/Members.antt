@@ -2,7 +2,7 @@
 use Rattle.std.proofs.Common.{◌≡◌, ◌≢◌, ℕ, zero, suc, ◌+◌, ◌-◌, ◌*◌, ◌/◌, ◌≤◌, ◌<◌, ◌⊎◌, eqb, cond, Bool, true, false, List, [], ◌∷◌, ◌++◌, length, sym, refl, ap, ◌∙◌, subst, inl, inr, arith, le_refl, zero-le}
 use Rattle.std.proofs.lemmas.Bool.{cond-true, cond-false, cases_eq, cases_lt, cases_Bool, eq-eqb, ne_eqb}
 use Rattle.sg_words.specs.Address.{byte_at, word_at}
-use Rattle.sg_graph.specs.Reach.{IsFreshIn, AreAmong}
+use Rattle.sg_graph.specs.Reach.{IsFreshIn, AreDistinct, AreAmong}
 use Rattle.sg_copy.specs.Area.{Area, has, In, size_of, is_strong, sent, Placed}
 use Rattle.sg_copy.specs.Round.{slots, slots_by}
 
@@ -64,6 +64,27 @@ not-in x xs e h = let z : true ≡ false = sym h ∙ e in cc
 pub fresh-out : (x : ℕ) (xs : List ℕ) → (In x xs → ⊥) → IsFreshIn x xs
 fresh-out x [] n = tt
 fresh-out x (y ∷ xs) n = (λ e. n (in-here x y xs e), fresh-out x xs (λ h. n (in-there x y xs h)))
+
+-- the last one of a list
+pub in-last : (x y : ℕ) (ys : List ℕ) → x ≡ y → In x (ys ++ y ∷ [])
+in-last x y ys e = in-right x ys (y ∷ []) (in-here x y [] e)
+
+pub in-before : (x y : ℕ) (ys : List ℕ) → In x ys → In x (ys ++ y ∷ [])
+in-before x y ys h = in-left x ys (y ∷ []) h
+
+pub last-cases : (x y : ℕ) (ys : List ℕ) → In x (ys ++ y ∷ []) → (x ≡ y) ⊎ In x ys
+last-cases x y ys h = elim (in-cases x ys (y ∷ []) h) [
+  | inl i ↦ inr i
+  | inr i ↦ inl (in-one x y i)
+]
+
+fresh-more : (x y : ℕ) (xs : List ℕ) → IsFreshIn x xs → x ≢ y → IsFreshIn x (xs ++ y ∷ [])
+fresh-more x y [] f n = (n, tt)
+fresh-more x y (z ∷ xs) f n = (f.0, fresh-more x y xs f.1 n)
+
+pub distinct-more : (x : ℕ) (xs : List ℕ) → AreDistinct xs → (In x xs → ⊥) → AreDistinct (xs ++ x ∷ [])
+distinct-more x [] d n = (tt, tt)
+distinct-more x (y ∷ xs) d n = (fresh-more y x xs d.0 (λ e. n (in-here x y xs (sym e))), distinct-more x xs d.1 (λ h. n (in-there x y xs h)))
 
 pub among-all : (h : ℕ) (xs : List ℕ) → ((a : ℕ) → In a xs → (1 ≤ a) × (a ≤ h)) → AreAmong h xs
 among-all h [] f = tt

@@ -10,7 +10,7 @@ use Rattle.sg_copy.specs.Area.{Area, has, In, IsYoung, size_of, is_strong, Trace
 use Rattle.sg_copy.specs.Image.{IsImage}
 use Rattle.sg_copy.specs.Round.{Round, slots, slots_by, IsOpening, Slot, Item, Copied, Failed, IsSettled, IsGoing, started, Handles, HoldsNone, FindsPinned, FindsForwarded, Copies, Fails, remains, IsAfter, CopierLaw}
 use Rattle.sg_graph.proofs.Distinct.{few}
-use Rattle.sg_copy.proofs.Members.{in-here, in-left, in-cases, in-there, in-right, out, not-in, fresh-out, among-all, sent-at, sent-fixed, slots-same, slots-few, in-one, sends, sends-at, sends-other}
+use Rattle.sg_copy.proofs.Members.{in-here, in-left, in-cases, in-there, in-right, out, not-in, distinct-more, in-last, among-all, sent-at, sent-fixed, slots-same, slots-few, in-one, sends, sends-at, sends-other}
 use Rattle.sg_copy.proofs.Copier.{young-below, target-old, slot-run, slot-apart, slot-word, plain-words, traced, found, quiet, settle}
 use Rattle.sg_copy.proofs.Grows.{from_range, from-out, grow, fail}
 
@@ -62,7 +62,7 @@ module _ (area : Area) (w : ℕ → ℕ) (items : List ℕ) (fill : ℕ) (op : I
       comes = sym (ap (λ (l : List ℕ). rest ++ l) a ∙ append-nil rest);
       fills = sym f;
       moves = sym (ap (λ (l : List ℕ). r.moves ++ l) mz ∙ append-nil r.moves);
-      fails = sym (ap (λ (l : List ℕ). l ++ r.fails) fz);
+      fails = sym (ap (λ (l : List ℕ). r.fails ++ l) fz ∙ append-nil r.fails);
       still = λ a h. refl;
       to = λ a h. absurd (let z = subst (λ (l : List ℕ). In a l) mz h in cc);
       less = let l : length r.todo ≡ suc (length rest) = ap (λ (l : List ℕ). length l) td in omega arith;
@@ -156,7 +156,7 @@ module _ (area : Area) (w : ℕ → ℕ) (items : List ℕ) (fill : ℕ) (op : I
           comes = ap (λ (l : List ℕ). rest ++ l) slots-e;
           fills = sym (f ∙ ap (λ (z : ℕ). r.fill + (z + 2)) len);
           moves = ap (λ (l : List ℕ). r.moves ++ l) (sym mz);
-          fails = sym (ap (λ (l : List ℕ). l ++ r.fails) fz);
+          fails = sym (ap (λ (l : List ℕ). r.fails ++ l) fz ∙ append-nil r.fails);
           still = λ b h. sends-other r.m x r.fill b (λ e. nm (subst (λ (z : ℕ). In z r.moves) e h));
           to = λ b h. sends-at r.m x r.fill b (in-one b x (subst (λ (l : List ℕ). In b l) mz h));
           less =
@@ -176,32 +176,33 @@ module _ (area : Area) (w : ℕ → ℕ) (items : List ℕ) (fill : ℕ) (op : I
         let ins = (op.inside x t) in
         let ins0 = ins.1 in
         let low = op.sections.0 in
-        let r1 : Round = record r { word = word; todo = r.todo ++ slots area w x x 0 (w (x + 1)); fails = x ∷ r.fails } in
+        let r1 : Round = record r { word = word; todo = r.todo ++ slots area w x x 0 (w (x + 1)); fails = r.fails ++ x ∷ [] } in
         let g : IsGoing area w items fill r1 = fail area w items fill op r go x c t wx nm nf word (let q = full in omega arith) (let z = pin in let q = wx in omega arith) there in
         let slots-e : slots area w x x 0 (w (x + 1)) ≡ added = sym (a ∙ ap (λ (z : ℕ). slots_by area c x 0 z) len ∙ slots-same area w x x c 0 (w (x + 1)) wx) in
         let td1 : r1.todo ≡ s ∷ (rest ++ slots area w x x 0 (w (x + 1))) = ap (λ (l : List ℕ). l ++ slots area w x x 0 (w (x + 1))) td in
         let m-x : r.m x ≡ x = go.others x (out x r.moves nm) in
         let s-x : s ≢ x = slot-apart area w items fill op r go s x slot t in
-        let d1 : AreDistinct (x ∷ r.fails) = (fresh-out x r.fails nf, d) in
+        let d1 : AreDistinct (r.fails ++ x ∷ []) = distinct-more x r.fails d nf in
         record {
           later = record r1 { word = word; todo = rest ++ slots area w x x 0 (w (x + 1)); handled = s ∷ r.handled };
           going = settle area w items fill op r1 g s (rest ++ slots area w x x 0 (w (x + 1))) word td1
               (there s s-x ∙ rs ∙ sym (sent-at r.m (w (r.source s)) x xs ∙ ap byte_at m-x)) (λ y n. refl)
-              (λ y v _. inr (inl (in-here y x r.fails (let q = xs in omega arith))));
+              (λ y v _. inr (inl (in-last y x r.fails (let q = xs in omega arith))));
           different = d1;
           words = refl;
           comes = ap (λ (l : List ℕ). rest ++ l) slots-e;
           fills = sym f;
           moves = sym (ap (λ (l : List ℕ). r.moves ++ l) mz ∙ append-nil r.moves);
-          fails = ap (λ (l : List ℕ). l ++ r.fails) (sym fz);
+          fails = ap (λ (l : List ℕ). r.fails ++ l) (sym fz);
           still = λ b h. refl;
           to = λ b h. absurd (let z = subst (λ (l : List ℕ). In b l) mz h in cc);
           less =
               (let l : length r.todo ≡ suc (length rest) = ap (λ (l : List ℕ). length l) td in
               let k : length (rest ++ slots area w x x 0 (w (x + 1))) ≡ length rest + length (slots area w x x 0 (w (x + 1))) = length-append rest (slots area w x x 0 (w (x + 1))) in
               let j : length (slots area w x x 0 (w (x + 1))) ≤ w (x + 1) = subst (λ (l : List ℕ). length l ≤ w (x + 1)) (slots-same area w x x c 0 (w (x + 1)) wx) (slots-few area c x 0 (w (x + 1))) in
-              let b : suc (length r.fails) ≤ area.high = few area.high (x ∷ r.fails) d1 (among-all area.high (x ∷ r.fails) (λ a i. (let y = (op.inside a (g.failed a i).0).0 in (let y0 = y.0 in omega arith, let y1 = y.1 in omega arith)))) in
-              let sp = spend (length r.fails) area.high b in
+              let n1 : length (r.fails ++ x ∷ []) ≡ length r.fails + 1 = length-append r.fails (x ∷ []) in
+              let b : length (r.fails ++ x ∷ []) ≤ area.high = few area.high (r.fails ++ x ∷ []) d1 (among-all area.high (r.fails ++ x ∷ []) (λ a i. (let y = (op.inside a (g.failed a i).0).0 in (let y0 = y.0 in omega arith, let y1 = y.1 in omega arith)))) in
+              let sp = spend (length r.fails) area.high (omega arith) in
               omega arith);
         }
 

@@ -119,7 +119,7 @@ pub record IsAfter (area : Area) (w : ℕ → ℕ) (items : List ℕ) (fill : �
   pub comes : later.todo ≡ rest ++ added
   pub fills : later.fill ≡ filled
   pub moves : later.moves ≡ r.moves ++ moved
-  pub fails : later.fails ≡ failed ++ r.fails
+  pub fails : later.fails ≡ r.fails ++ failed
   pub still : (a : ℕ) → In a r.moves → later.m a ≡ r.m a
   pub to : (a : ℕ) → In a moved → later.m a ≡ r.fill
   pub less : remains area later < remains area r
