@@ -8,7 +8,7 @@ use Rattle.sg_copy.specs.Area.{Area, has, In, IsYoung, size_of, is_strong, Trace
 use Rattle.sg_copy.specs.Image.{IsImage}
 use Rattle.sg_copy.specs.Round.{Round, IsOpening, Slot, Item, Copied, Failed, IsSettled, IsGoing, CopierLaw}
 use Rattle.sg_copy.proofs.Members.{out, not-in}
-use Rattle.sg_copy.proofs.Copier.{target-old, slot-word}
+use Rattle.sg_copy.proofs.Going.{target-old, slot-word}
 use Rattle.sg_copy.proofs.Steps.{at_start, handled, more_items}
 
 pub at_end : (area : Area) (w : ℕ → ℕ) (items : List ℕ) (fill : ℕ) → IsOpening area w items fill → (r : Round) → IsGoing area w items fill r → r.todo ≡ [] →

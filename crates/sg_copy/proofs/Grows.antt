@@ -6,7 +6,7 @@ use Rattle.sg_words.specs.Tags.{plain_word}
 use Rattle.sg_copy.specs.Area.{Area, has, In, IsYoung, size_of, is_strong, Traces, sent, Placed}
 use Rattle.sg_copy.specs.Round.{Round, slots, IsOpening, Slot, Item, Copied, Failed, IsSettled, IsGoing}
 use Rattle.sg_copy.proofs.Members.{has-cases, in-last, in-before, last-cases, in-here, in-there, in-left, in-right, in-cases, in-one, out, not-in, sent-along, placed-more, slots-in, slots-are, sends, sends-at, sends-other}
-use Rattle.sg_copy.proofs.Copier.{grown, young-below, target-old, slot-run}
+use Rattle.sg_copy.proofs.Going.{grown, young-below, target-old, slot-run}
 
 -- source, but the n words from `at` on come from x on
 pub from_range : (ℕ → ℕ) → ℕ → ℕ → ℕ → ℕ → ℕ

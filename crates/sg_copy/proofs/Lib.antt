@@ -1,5 +1,9 @@
 pub mod Members
-pub mod Copier
+pub mod Going
 pub mod Grows
 pub mod Steps
 pub mod Ends
+pub mod Addresses
+pub mod Hand
+pub mod Handled
+pub mod Running

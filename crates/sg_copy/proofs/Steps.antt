@@ -11,7 +11,7 @@ use Rattle.sg_copy.specs.Image.{IsImage}
 use Rattle.sg_copy.specs.Round.{Round, slots, slots_by, IsOpening, Slot, Item, Copied, Failed, IsSettled, IsGoing, started, Handles, HoldsNone, FindsPinned, FindsForwarded, Copies, Fails, remains, IsAfter, CopierLaw}
 use Rattle.sg_graph.proofs.Distinct.{few}
 use Rattle.sg_copy.proofs.Members.{in-here, in-left, in-cases, in-there, in-right, out, not-in, distinct-more, in-last, among-all, sent-at, sent-fixed, slots-same, slots-few, in-one, sends, sends-at, sends-other}
-use Rattle.sg_copy.proofs.Copier.{young-below, target-old, slot-run, slot-apart, slot-word, plain-words, traced, found, quiet, settle}
+use Rattle.sg_copy.proofs.Going.{young-below, target-old, slot-run, slot-apart, slot-word, plain-words, traced, found, quiet, settle}
 use Rattle.sg_copy.proofs.Grows.{from_range, from-out, grow, fail}
 
 pub at_start : (area : Area) (w : ℕ → ℕ) (items : List ℕ) (fill : ℕ) → IsOpening area w items fill → IsGoing area w items fill (started w items fill)
@@ -69,7 +69,7 @@ module _ (area : Area) (w : ℕ → ℕ) (items : List ℕ) (fill : ℕ) (op : I
     }
 
     -- a first word that isn't in the moves or the fails is the opening's
-    word-of : (x : ℕ) → Traces area w items x → has x r.moves ≡ false → has x r.fails ≡ false → r.word x ≡ w x
+    pub word-of : (x : ℕ) → Traces area w items x → has x r.moves ≡ false → has x r.fails ≡ false → r.word x ≡ w x
     word-of x t hm hf = go.words x hm hf ∙ cond-false _ _ _ (out x r.handled (λ h. slot-apart area w items fill op r go x x (go.slots x (inr h)) t refl))
         ∙ ap w (go.source_out x (λ a b. (let z = young-below area w items fill op r go x (op.inside x t).0 in absurd (omega arith))))
 
@@ -112,7 +112,7 @@ module _ (area : Area) (w : ℕ → ℕ) (items : List ℕ) (fill : ℕ) (op : I
     tag-pinned x c t e = (settled-by x (plain_word c + 2) t e (λ nm nf p q. (let z = p.1 in omega arith)), out x r.moves (λ h. (let z = go.forwarded x h in omega arith)))
 
     -- the young object that the slot refers to
-    young-slot : (x : ℕ) → r.word s ≡ byte_at x → IsYoung area x → (w (r.source s) ≡ byte_at x) × Traces area w items x
+    pub young-slot : (x : ℕ) → r.word s ≡ byte_at x → IsYoung area x → (w (r.source s) ≡ byte_at x) × Traces area w items x
     young-slot x v y =
         let e : w (r.source s) ≡ byte_at x = sym (found area w items fill op r go s x slot v y) ∙ v in
         (e, traced area w items fill op r go s x slot e y)
@@ -203,6 +203,8 @@ module _ (area : Area) (w : ℕ → ℕ) (items : List ℕ) (fill : ℕ) (op : I
               let n1 : length (r.fails ++ x ∷ []) ≡ length r.fails + 1 = length-append r.fails (x ∷ []) in
               let b : length (r.fails ++ x ∷ []) ≤ area.high = few area.high (r.fails ++ x ∷ []) d1 (among-all area.high (r.fails ++ x ∷ []) (λ a i. (let y = (op.inside a (g.failed a i).0).0 in (let y0 = y.0 in omega arith, let y1 = y.1 in omega arith)))) in
               let sp = spend (length r.fails) area.high (omega arith) in
+              let one_more : length (r.fails ++ x ∷ []) ≡ suc (length r.fails) = omega arith in
+              let product = ap (λ (z : ℕ). (area.high - z) * (area.high + 1)) one_more in
               omega arith);
         }
 

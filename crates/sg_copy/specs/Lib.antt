@@ -1,3 +1,4 @@
 pub mod Area
 pub mod Round
 pub mod Image
+pub mod Copying

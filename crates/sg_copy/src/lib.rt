@@ -1,6 +1,9 @@
 //! The copying of live young objects to the major heap, by one worker.
 #![tactic(auto)]
 
+mod copier;
 mod law;
+mod round;
 
 pub use law::copier_law;
+pub use round::{Round, copy_slots};

@@ -9,6 +9,3 @@ mod walks;
 pub use layout::Layout;
 pub use objects::Object;
 pub use space::Space;
-
-#[cfg(test)]
-mod tests;

@@ -1,0 +1,86 @@
+-- What the code of a copier works on, and what it does with one slot.
+use Rattle.std.specs.Prelude.{◌≡◌, ◌≢◌, ℕ, ◌+◌, ◌-◌, ◌*◌, ◌<◌, ◌≤◌, Bool, false, Option, Some, None, List, ◌++◌, map, length, slice_get}
+use Rattle.sg_words.specs.Address.{IsAddress, byte_at, word_at}
+use Rattle.sg_words.specs.Tags.{plain_word}
+use Rattle.sg_words.specs.declared.pieces.Move.{Move}
+use Rattle.sg_graph.specs.declared.shapes.Shape.{Shape}
+use Rattle.sg_graph.specs.Shapes.{holds_reference}
+use Rattle.sg_space.specs.Sections.{nursery_base, old_base, large_base, words_end, IsInSection}
+use Rattle.sg_space.specs.Space.{Contents, IsContents}
+use Rattle.sg_space.specs.Standing.{word}
+use Rattle.sg_copy.specs.declared.copier.Copier.{Copier}
+use Rattle.sg_copy.specs.Area.{Area, In, IsYoung, size_of, Traces}
+use Rattle.sg_copy.specs.Image.{IsImage}
+use Rattle.sg_copy.specs.Round.{IsOpening, Handles}
+
+-- whether field i of an object of this shape holds a reference
+abbrev pub is_reference : Option Shape → ℕ → Bool
+is_reference (Some shape) i = holds_reference shape.kind i shape.fields
+is_reference None i = false
+
+-- the area of a round is the nursery and the major heap of the space
+abbrev pub area_of : Contents → Area
+area_of s = record { low = nursery_base; high = old_base s.layout; limit = large_base s.layout; strong = λ c i. is_reference (slice_get s.shapes c) i }
+
+-- nothing but words differs
+abbrev pub IsStill : Contents → Contents → Type 0
+IsStill old new = (new ≡ record old { words = new.words }) × (length new.words ≡ length old.words)
+
+-- the word a is v now, and no other one has changed
+abbrev pub Stores : (ℕ → ℕ) → ℕ → ℕ → (ℕ → ℕ) → Type 0
+Stores old a v new = (new a ≡ v) × ((y : ℕ) → y ≢ a → new y ≡ old y)
+
+-- the n words from `at` on are those from x on now, and no other one has changed
+abbrev pub HasCopied : (ℕ → ℕ) → ℕ → ℕ → ℕ → (ℕ → ℕ) → Type 0
+HasCopied old x n at new = ((y : ℕ) → at ≤ y → y < at + n → new y ≡ old (x + (y - at))) × ((y : ℕ) → (at ≤ y → y < at + n → ⊥) → new y ≡ old y)
+
+-- the young object x was copied, stays where it is, or is whole and plain
+pub data IsTarget (s : Contents) (x : ℕ) : Type 0 where
+  Went : (t : ℕ) → IsAddress (byte_at t) → word s x ≡ byte_at t + 1 → IsTarget s x
+  Stays : (c : ℕ) → c < 256 → word s x ≡ plain_word c + 2 → IsTarget s x
+  IsPlain : (c : ℕ) → c < length s.shapes → word s x ≡ plain_word c → x + size_of (word s) x ≤ old_base s.layout → IsTarget s x
+
+-- the young object to which the slot refers, if there is one, can be handled
+abbrev pub HasTarget : Contents → ℕ → Type 0
+HasTarget s slot = (x : ℕ) → word s slot ≡ byte_at x → IsYoung (area_of s) x → IsTarget s x
+
+-- the front of the major heap's rest
+pub record IsFront (s : Contents) (front : ℕ) : Type 0 where
+  pub whole : byte_at (word_at front) ≡ front
+  pub above : old_base s.layout ≤ word_at front
+  pub below : word_at front ≤ large_base s.layout
+
+-- an object that moved to the place `to`
+abbrev pub moved_to : ℕ → ℕ → Move
+moved_to to x = record { from = byte_at x; to = to }
+
+-- what a copier is after it has handled a slot
+pub record IsHandled (old : Copier) (slot : ℕ) (new : Copier) : Type 0 where
+  pub still : IsStill old.space new.space
+  pub front : IsFront new.space new.front
+  pub added : List ℕ
+  pub moved : List ℕ
+  pub failed : List ℕ
+  pub handles : Handles (area_of old.space) (word old.space) (word_at old.front) slot (word new.space) (word_at new.front) added moved failed
+  pub todo : map word_at new.todo.items ≡ map word_at old.todo.items ++ added
+  pub moves : new.moves.items ≡ old.moves.items ++ map (moved_to old.front) moved
+  pub fails : new.fails.items ≡ old.fails.items ++ map byte_at failed
+
+-- what a round asks of a space: what is true of every space, the opening, that its slots are words of the space, and the classes
+pub record CanCopy (s : Contents) (front : ℕ) (slots : List ℕ) : Type 0 where
+  pub contents : IsContents s
+  pub is_front : IsFront s front
+  pub opening : IsOpening (area_of s) (word s) slots (word_at front)
+  pub words : (x : ℕ) → In x slots → IsInSection s.layout x
+  pub classes : (x c : ℕ) → Traces (area_of s) (word s) slots x → (word s x ≡ plain_word c) → c < length s.shapes
+  pub stays : (x c : ℕ) → Traces (area_of s) (word s) slots x → (word s x ≡ plain_word c + 2) → c < 256
+
+-- the space is the image of the old one by a round on these slots; these objects moved, in this order, and these failed
+pub record HasCopiedTo (old : Contents) (front : ℕ) (slots : List ℕ) (new : Contents) (moves : List Move) (fails : List ℕ) (end : ℕ) : Type 0 where
+  pub still : IsStill old new
+  pub m : ℕ → ℕ
+  pub went : List ℕ
+  pub stayed : List ℕ
+  pub image : IsImage (area_of old) (word old) slots (word_at front) went stayed m (word new) (word_at end)
+  pub told_moves : moves ≡ map (λ a. moved_to (byte_at (m a)) a) went
+  pub told_fails : fails ≡ map byte_at stayed
