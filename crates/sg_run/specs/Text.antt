@@ -8,7 +8,7 @@ use Rattle.sg_graph.specs.declared.shapes.Shape.{Shape}
 use Rattle.sg_graph.specs.declared.program.Config.{Config}
 use Rattle.sg_graph.specs.declared.program.Class.{Class}
 use Rattle.sg_graph.specs.declared.program.Statement.{Statement}
-use Rattle.sg_graph.specs.declared.program.Statement.TheVariants.{New, Put, Get, PutD, GetD, Num}
+use Rattle.sg_graph.specs.declared.program.Statement.TheVariants.{New, Put, Get, PutD, GetD, Num, Drop}
 use Rattle.sg_graph.specs.declared.program.Item.{Item}
 use Rattle.sg_graph.specs.declared.program.Item.TheVariants.{One}
 use Rattle.sg_graph.specs.declared.program.Script.{Script}
@@ -112,6 +112,7 @@ IsStatementLine classes line (Get d r i) = (a b c : List ℕ) × (line ≡ codes
 IsStatementLine classes line (PutD r i s) = (a b c : List ℕ) × (line ≡ codes "putd" ∷ a ∷ b ∷ c ∷ []) × IsRegister a r × IsNumber b i × IsRegister c s
 IsStatementLine classes line (GetD d r i) = (a b c : List ℕ) × (line ≡ codes "getd" ∷ a ∷ b ∷ c ∷ []) × IsRegister a d × IsRegister b r × IsNumber c i
 IsStatementLine classes line (Num d n) = (a b : List ℕ) × (line ≡ codes "num" ∷ a ∷ b ∷ []) × IsRegister a d × IsNumber b n
+IsStatementLine classes line (Drop r) = (a : List ℕ) × (line ≡ codes "drop" ∷ a ∷ []) × IsRegister a r
 
 abbrev pub IsItemLine : List Class → List (List ℕ) → Item → Type 0
 IsItemLine classes line (One s) = IsStatementLine classes line s

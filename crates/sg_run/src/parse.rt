@@ -75,7 +75,7 @@ mod tests {
     use std::test::*;
 
     const FULL: &[u8] =
-        b"# any byte: \xff\x00\nsgen 1 # head\n\n\tnursery 256\r\nclass a_1 map r.r\nmutator\nnew r0 a_1\nnum r15 18446744073709551615\nput r0 0 r0\nget r1 r0 2\nputd r0 1 r15\ngetd r2 r0 1\nend";
+        b"# any byte: \xff\x00\nsgen 1 # head\n\n\tnursery 256\r\nclass a_1 map r.r\nmutator\nnew r0 a_1\nnum r15 18446744073709551615\nput r0 0 r0\nget r1 r0 2\nputd r0 1 r15\ngetd r2 r0 1\ndrop r2\nend";
 
     #[test]
     fn accepted_and_refused(rt: HostRuntime) {
@@ -121,7 +121,7 @@ mod tests {
             assert!(rt; class.shape.kind == Descriptor::Bitmap { bits: 5 });
         }
         for script in program.mutators.as_slice() {
-            assert_eq!(rt; script.items.as_slice().len(), 6);
+            assert_eq!(rt; script.items.as_slice().len(), 7);
             let Item::One(first) = script.items.as_slice()[0];
             assert!(rt; first == Statement::New { r: 0, class: 0 });
         }
