@@ -101,7 +101,7 @@ module _ (bytes : List ℕ) (p : Program) (accepted : IsAcceptedAs bytes p) (s :
     accepted.limits.classes,
     λ some.
         subst (λ n. IsObject p (words_of s) n (word_at (get_or m.registers r 0))) (sym first.words)
-        (object_in_word p (layout_of s) (words_of s) so.graph so.book so.owner so.ground classed accepted.limits.nursery_most (so.stands.entry r) (get_or m.registers r 0) (so.stands.known r) kind (so.stands.regs r) some),
+        (object_in_word p (layout_of s) (words_of s) so.graph so.book so.owner so.ground classed accepted.limits.settings.nursery_most (so.stands.entry r) (get_or m.registers r 0) (so.stands.known r) kind (so.stands.regs r) some),
   )
 
   has_byte_addresses : HasByteAddresses s

@@ -27,7 +27,7 @@ pub fn parse(alloc: Global, bytes: &[u8]) -> Result<Option<Program>, AllocError>
     if bytes.len() > MOST_BYTES {
         return Ok(None);
     }
-    let Some((nursery, rest)) = head::head(alloc, bytes)? else {
+    let Some((config, rest)) = head::head(alloc, bytes)? else {
         return Ok(None);
     };
     let Some((classes, rest)) = classes::classes(alloc, rest)? else {
@@ -39,28 +39,20 @@ pub fn parse(alloc: Global, bytes: &[u8]) -> Result<Option<Program>, AllocError>
     if !has_no_misuse(items.as_slice()) {
         return Ok(None);
     }
-    Ok(Some(program(alloc, nursery, classes, items)?))
+    Ok(Some(program(alloc, config, classes, items)?))
 }
 
 /// The program of one mutator.
 fn program(
     alloc: Global,
-    nursery: u32,
+    config: Config,
     classes: List<Class>,
     items: List<Item>,
 ) -> Result<Program, AllocError>
-    ensures { IfOk result (λ p. p ≡ program_of nursery classes items) }
+    ensures { IfOk result (λ p. p ≡ program_of config classes items) }
 {
     let mut scripts = Vec::new(alloc);
     scripts.push(Script { items })?;
-    let config = Config {
-        nursery,
-        blocks: 64,
-        pages: 64,
-        buffer: 64,
-        workers: 1,
-        cement: 4,
-    };
     Ok(Program {
         config,
         classes,
