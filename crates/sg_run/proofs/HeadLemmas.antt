@@ -257,15 +257,23 @@ settings_more bytes rest told words after at word n so next s none is =
     }
 
 pub settings_end : (bytes rest : List ℕ) (told : List (Option ℕ)) → SettingsSoFar bytes rest told → AreWithinLimits (config_of told) → (proper bytes ≡ proper rest) × Sets (content bytes) (config_of told) (content rest) × AreWithinLimits (config_of told)
-settings_end bytes rest told so within = (so.proper, (so.lines, so.content, record {
-  known = so.known;
-  nursery = (get_or told 0 None, so.tells (codes "nursery") 0 refl, refl);
-  blocks = (get_or told 1 None, so.tells (codes "blocks") 1 refl, refl);
-  pages = (get_or told 2 None, so.tells (codes "pages") 2 refl, refl);
-  buffer = (get_or told 3 None, so.tells (codes "buffer") 3 refl, refl);
-  workers = (get_or told 4 None, so.tells (codes "workers") 4 refl, refl);
-  cement = (get_or told 5 None, so.tells (codes "cement") 5 refl, refl);
-}), within)
+settings_end bytes rest told so within = (
+  so.proper,
+  (
+    so.lines,
+    so.content,
+    record {
+      known = so.known;
+      nursery = (get_or told 0 None, so.tells (codes "nursery") 0 refl, refl);
+      blocks = (get_or told 1 None, so.tells (codes "blocks") 1 refl, refl);
+      pages = (get_or told 2 None, so.tells (codes "pages") 2 refl, refl);
+      buffer = (get_or told 3 None, so.tells (codes "buffer") 3 refl, refl);
+      workers = (get_or told 4 None, so.tells (codes "workers") 4 refl, refl);
+      cement = (get_or told 5 None, so.tells (codes "cement") 5 refl, refl);
+    },
+  ),
+  within,
+)
 
 config_same : (c d : Config) → c.nursery ≡ d.nursery → c.blocks ≡ d.blocks → c.pages ≡ d.pages → c.buffer ≡ d.buffer → c.workers ≡ d.workers → c.cement ≡ d.cement → c ≡ d
 config_same c d e f g h i j =
@@ -287,14 +295,16 @@ pub settings_only : (bytes rest : List ℕ) (told : List (Option ℕ)) (words : 
     → (config : Config) (behind : List (List (List ℕ))) (classes : List Class) (lines : List (List (List ℕ))) → Sets (content bytes) config behind → Declares behind classes lines → (config_of told ≡ config) × (content rest ≡ behind)
 settings_only bytes rest told words after so next none config behind classes lines sets h =
     let same = split_end so.lines sets.0 (content rest) behind so.known sets.2.known (no_setting_ends rest words after next none) (declares_ends behind classes lines h) (sym so.content ∙ sets.1) in
-    let s : AreSettings so.lines config = subst (λ (ls : List (List (List ℕ))). AreSettings ls config) (sym same.0) sets.2 in
-    (config_same (config_of told) config
-    (given (codes "nursery") so.lines (get_or told 0 None) 4096 config.nursery (so.tells (codes "nursery") 0 refl) s.nursery)
-    (given (codes "blocks") so.lines (get_or told 1 None) 64 config.blocks (so.tells (codes "blocks") 1 refl) s.blocks)
-    (given (codes "pages") so.lines (get_or told 2 None) 64 config.pages (so.tells (codes "pages") 2 refl) s.pages)
-    (given (codes "buffer") so.lines (get_or told 3 None) 64 config.buffer (so.tells (codes "buffer") 3 refl) s.buffer)
-    (given (codes "workers") so.lines (get_or told 4 None) 1 config.workers (so.tells (codes "workers") 4 refl) s.workers)
-    (given (codes "cement") so.lines (get_or told 5 None) 4 config.cement (so.tells (codes "cement") 5 refl) s.cement), same.1)
+    let s : AreSettings so.lines config = subst (λ (ls : List (List (List ℕ))). AreSettings ls config) (sym same.0) sets.2 in (
+      config_same (config_of told) config
+          (given (codes "nursery") so.lines (get_or told 0 None) 4096 config.nursery (so.tells (codes "nursery") 0 refl) s.nursery)
+          (given (codes "blocks") so.lines (get_or told 1 None) 64 config.blocks (so.tells (codes "blocks") 1 refl) s.blocks)
+          (given (codes "pages") so.lines (get_or told 2 None) 64 config.pages (so.tells (codes "pages") 2 refl) s.pages)
+          (given (codes "buffer") so.lines (get_or told 3 None) 64 config.buffer (so.tells (codes "buffer") 3 refl) s.buffer)
+          (given (codes "workers") so.lines (get_or told 4 None) 1 config.workers (so.tells (codes "workers") 4 refl) s.workers)
+          (given (codes "cement") so.lines (get_or told 5 None) 4 config.cement (so.tells (codes "cement") 5 refl) s.cement),
+      same.1,
+    )
 
 -- the next line is one of a setting in any reading of the bytes
 setting_here : (bytes rest : List ℕ) (told : List (Option ℕ)) (words : List (List ℕ)) (after : List ℕ) (at : ℕ) (word : List ℕ) → SettingsSoFar bytes rest told → (so : SettingsSoFar bytes rest told) → IsNext rest words after → IsSettingAt words at word
