@@ -1,6 +1,6 @@
 -- A program by its parts.
-use Rattle.std.proofs.Common.{◌≡◌, ℕ, zero, suc, ◌<◌, ◌≤◌, true, Option, Some, None, List, [], ◌∷◌, ◌++◌, length, refl, sym, ap, subst, ◌∙◌, inl, inr, append_assoc, arith}
-use Rattle.std.specs.Prelude.{codes, slice_get}
+use Rattle.std.proofs.Common.{◌≡◌, ℕ, zero, suc, ◌<◌, ◌≤◌, true, Option, Some, None, List, [], ◌∷◌, ◌++◌, length, refl, sym, ap, subst, ◌∙◌, append_assoc, arith}
+use Rattle.std.specs.Prelude.{slice_get}
 use Rattle.std.proofs.lemmas.Option.{same_Some}
 use Rattle.sg_graph.specs.Epoch.{Pairwise}
 use Rattle.sg_graph.specs.Scripts.{written_out, script_of, statements_at}
@@ -12,7 +12,7 @@ use Rattle.sg_graph.specs.declared.program.Script.{Script}
 use Rattle.sg_graph.specs.declared.program.Program.{Program}
 use Rattle.sg_run.specs.Text.{content, head_line, mutator_line, end_line, IsClassLine, IsItemLine, AreScripts}
 use Rattle.sg_run.specs.Accepted.{AreWithinLimits, IsAcceptedAs}
-use Rattle.sg_run.specs.Reading.{Only, proper, Declares, DeclaresOnly, AreLimited, IsBody, Sets, Begins, BeginsOnly, program_of}
+use Rattle.sg_run.specs.Reading.{Only, proper, Declares, DeclaresOnly, AreLimited, IsBody, Begins, BeginsOnly, program_of}
 
 joined : (settings front body : List (List (List ℕ))) → head_line ∷ (settings ++ (front ++ mutator_line ∷ (body ++ end_line ∷ []))) ≡ head_line ∷ settings ++ front ++ (mutator_line ∷ body ++ end_line ∷ [])
 joined settings front body = sym (append_assoc (head_line ∷ settings) front (mutator_line ∷ (body ++ end_line ∷ [])))
