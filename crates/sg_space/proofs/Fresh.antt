@@ -18,7 +18,7 @@ module _ (layout : Layout) (shapes : List Shape) (is_layout : IsLayout layout) (
   clear_addresses zero below = (refl, omega arith)
   clear_addresses (suc f) below = absurd (omega arith)
 
-  clear_is_sound : IsSoundBy (clear_space layout shapes) (λ x. None)
+  pub clear_is_sound : IsSoundBy (clear_space layout shapes) (λ x. None)
   clear_is_sound = record {
     words = length-replicate (words_end layout) 0;
     classes = are_shapes.classes;

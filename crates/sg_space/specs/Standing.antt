@@ -28,7 +28,7 @@ pub record IsObject (s : Contents) (h : ℕ) : Type 0 where
   pub size : word s (h + 1) ≡ shape.fields
   pub small : size_at s h ≤ 64
   pub inside : ((nursery_base ≤ h) × (h + size_at s h ≤ old_base s.layout)) ⊎ ((old_base s.layout ≤ h) × (h + size_at s h ≤ large_base s.layout))
-  -- each reference field holds nothing or the address of a standing object: said in IsSoundBy, where the owners are known
+  -- that each reference field holds nothing or the address of a standing object is said in RefersSoundly, where the owners are known
 
 -- Whose word each word is: `owner x` is the first word of the standing object that has the word x. One function says that
 -- ranges are disjoint, that gaps are what is left, and what a word points into.
