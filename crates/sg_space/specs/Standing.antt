@@ -1,13 +1,12 @@
 -- Which objects stand in a space, read off its words, and when the space is sound.
-use Rattle.std.specs.Prelude.{◌≡◌, ◌≢◌, ℕ, ◌+◌, ◌*◌, ◌/◌, ◌%◌, ◌<◌, ◌≤◌, ◌⊎◌, ◌↔◌, Bool, true, Option, Some, None, List, length, slice_index, slice_get, Contains, map}
+use Rattle.std.specs.Prelude.{◌≡◌, ◌≢◌, ℕ, ◌+◌, ◌*◌, ◌%◌, ◌<◌, ◌≤◌, ◌⊎◌, true, Option, Some, None, List, length, slice_index, slice_get, map}
 use Rattle.std.specs.List.Sorted.{IsStrictlyIncreasing}
 use Rattle.sg_words.specs.Address.{byte_at, word_at}
 use Rattle.sg_words.specs.Tags.{plain_word}
 use Rattle.sg_graph.specs.declared.shapes.Shape.{Shape}
 use Rattle.sg_graph.specs.Shapes.{holds_reference}
-use Rattle.sg_space.specs.declared.layout.Layout.{Layout}
 use Rattle.sg_space.specs.declared.objects.Object.{Object}
-use Rattle.sg_space.specs.Sections.{nursery_base, old_base, large_base, words_end, IsYoung, IsOld}
+use Rattle.sg_space.specs.Sections.{nursery_base, old_base, large_base, words_end, IsYoung}
 use Rattle.sg_space.specs.Space.{Contents}
 
 -- the word with this number
