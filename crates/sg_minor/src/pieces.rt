@@ -22,7 +22,11 @@ pub fn build(alloc: Global, space: &Space, standing: &[Object]) -> Result<List<P
 }
 
 // The gaps of the nursery of such a layout.
-fn gaps(alloc: Global, layout: Layout, standing: &[Object]) -> Result<Vec<Piece>, AllocError>
+pub(crate) fn gaps(
+    alloc: Global,
+    layout: Layout,
+    standing: &[Object],
+) -> Result<Vec<Piece>, AllocError>
     requires layout { IsLayout layout }
     requires standing { AreStanding layout standing.now }
     ensures { IfOk result (λ pieces. ArePieces layout standing.now pieces.items) }
