@@ -3,6 +3,7 @@ pub mod Scripts
 pub mod Kinds
 pub mod Graph
 pub mod Reach
+pub mod Names
 pub mod Statements
 pub mod Book
 pub mod Epoch

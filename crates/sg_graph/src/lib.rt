@@ -4,10 +4,12 @@
 //! `specs/`: every other crate cites them.
 #![tactic(auto)]
 
+mod names;
 mod program;
 mod reports;
 mod shapes;
 
+pub use names::names_are_pairs;
 pub use program::{Class, Config, Item, Name, Program, Script, Statement};
 pub use reports::{Answer, EpochReport, Leave, Part};
 pub use shapes::{Descriptor, Shape};

@@ -70,3 +70,34 @@ pub record TellsYoung (s : Contents) (owner : ℕ → Option ℕ) (told : List O
   pub in_order : IsStrictlyIncreasing (map (λ (o : Object). o.at) told)
   pub each : (k : ℕ) (o : Object) → slice_get told k ≡ Some o → (h : ℕ) × (owner h ≡ Some h) × IsYoung s.layout h × IsToldOf s h o
   pub all : (h : ℕ) → owner h ≡ Some h → IsYoung s.layout h → (k : ℕ) × (o : Object) × (slice_get told k ≡ Some o) × (o.at ≡ byte_at h)
+
+-- by every owner by which the space is sound, the objects that begin below the word x end there or below
+pub record IsClearAt (s : Contents) (x : ℕ) : Type 0 where
+  pub ends : (owner : ℕ → Option ℕ) → IsSoundBy s owner → (h : ℕ) → owner h ≡ Some h → h < x → h + size_at s h ≤ x
+
+-- no object has the word x, by every owner by which the space is sound
+pub record IsFree (s : Contents) (x : ℕ) : Type 0 where
+  pub none : (owner : ℕ → Option ℕ) → IsSoundBy s owner → owner x ≡ None
+
+-- no object begins at the word x, by every owner by which the space is sound
+pub record IsNoFront (s : Contents) (x : ℕ) : Type 0 where
+  pub other : (owner : ℕ → Option ℕ) → IsSoundBy s owner → owner x ≢ Some x
+
+-- the word x is the first one of a standing object, of which this is told, by every owner by which the space is sound
+pub record TellsAt (s : Contents) (x : ℕ) (o : Object) : Type 0 where
+  pub begins : (owner : ℕ → Option ℕ) → IsSoundBy s owner → owner x ≡ Some x
+  pub told : IsToldOf s x o
+
+-- this is told of the standing object that has the word x
+pub record HoldsWord (s : Contents) (x : ℕ) (o : Object) : Type 0 where
+  pub tells : TellsAt s (word_at o.at) o
+  pub whole : o.at % 8 ≡ 0
+  pub above : word_at o.at ≤ x
+  pub below : x < word_at o.at + o.words
+
+-- the standing object at the byte address a has the byte v, by every owner by which the space is sound
+pub record HasByte (s : Contents) (v a : ℕ) : Type 0 where
+  pub owns : (owner : ℕ → Option ℕ) → IsSoundBy s owner → owner (word_at v) ≡ Some (word_at a)
+  pub whole : a % 8 ≡ 0
+  pub above : a ≤ v
+  pub below : v < a + 8 * size_at s (word_at a)

@@ -4,7 +4,11 @@
 mod layout;
 mod objects;
 mod space;
+mod walks;
 
 pub use layout::Layout;
 pub use objects::Object;
 pub use space::Space;
+
+#[cfg(test)]
+mod tests;

@@ -1,9 +1,11 @@
-use crate::layout::Layout;
-use crate::objects::Object;
+use crate::layout::{FIRST_WORD, Layout};
 use sg_graph::Shape;
-use sg_words::List;
+use sg_words::{Addr, Piece};
 use std::alloc::{AllocError, Global};
 use std::marker::Model;
+
+/// The most fragments that a space has room for.
+const FRAGMENTS: usize = 2048;
 
 /// The words of a simulated address space, and what stands beside them: the layout, the shapes of the classes, the
 /// fragments of the nursery, and the word that asks the mutators to stop.
@@ -18,23 +20,59 @@ pub struct Space {
 }
 
 impl Model for Space {
-    ghost use Rattle.sg_space.specs.Space.{Contents};
+    ghost use Rattle.std.specs.Prelude.{◌≤◌, vec_capacity};
+    ghost use Rattle.sg_space.specs.Space.{Contents, IsContents};
 
     ghost Value = { Contents };
 
     ghost view = { λ s. record {
-        layout = s.layout;
-        shapes = s.shapes.items;
-        words = s.words.items;
-        next = s.next.items;
-        ends = s.ends.items;
-        stop = s.stop;
+      layout = s.layout;
+      shapes = s.shapes.items;
+      words = s.words.items;
+      next = s.next.items;
+      ends = s.ends.items;
+      stop = s.stop;
     } };
+
+    ghost invariant = { λ s. IsContents (record {
+      layout = s.layout;
+      shapes = s.shapes.items;
+      words = s.words.items;
+      next = s.next.items;
+      ends = s.ends.items;
+      stop = s.stop;
+    }) × (2048 ≤ vec_capacity s.next) × (2048 ≤ vec_capacity s.ends) };
 }
 
 impl Space {
-    ghost use Rattle.std.specs.Prelude.{◌≡◌, IfOk, Option, ℕ};
-    ghost use Rattle.sg_space.specs.Standing.{IsSoundBy, IsSound, TellsYoung};
+    ghost use Rattle.std.specs.Prelude.{◌≡◌, ◌≢◌, ◌+◌, ◌<◌, ◌≤◌, ◌↔◌, IfOk, if◌then◌else◌, true, length, slice_get, slice_index, slice_set, Some, ℕ};
+    ghost use Rattle.sg_words.specs.Address.{word_at};
+    ghost use Rattle.sg_space.specs.Sections.{words_end, IsLayout, IsInSection};
+    ghost use Rattle.sg_space.specs.Space.{Contents, AreShapes, IsContents, clear_space, fronts_of, ends_of};
+    ghost use Rattle.sg_space.specs.Standing.{IsSound, word};
+
+    /// A space with no object: each word is 0, and the nursery is one fragment. Takes all the memory that the space ever
+    /// needs, and time linear in its words.
+    pub fn new(alloc: Global, layout: Layout, shapes: &[Shape]) -> Result<Space, AllocError>
+        requires layout { IsLayout layout }
+        requires shapes { AreShapes shapes.now }
+        ensures clear { IfOk result (λ space. space ≡ clear_space layout shapes.now) }
+        ensures sound { IfOk result IsSound }
+        ensures contents { IfOk result IsContents }
+    {
+        let mut next = Vec::with_capacity(alloc, FRAGMENTS)?;
+        let mut ends = Vec::with_capacity(alloc, FRAGMENTS)?;
+        next.push(8 * FIRST_WORD as u64)?;
+        ends.push(layout.old_base())?;
+        Ok(Space {
+            layout,
+            shapes: shapes.to_vec(alloc)?,
+            words: vec![in alloc; 0; layout.end_word() as usize]?,
+            next,
+            ends,
+            stop: 0,
+        })
+    }
 
     /// The sizes of the sections.
     pub fn layout(&self) -> Layout
@@ -43,12 +81,122 @@ impl Space {
         self.layout
     }
 
-    /// The objects that stand in the nursery, by address. Linear in the nursery.
-    pub fn walk_nursery(&self, alloc: Global) -> Result<List<Object>, AllocError>
-        requires { IsSound self.now }
-        ensures { IfOk result (λ told. (owner : ℕ → Option ℕ) → IsSoundBy self.now owner → TellsYoung self.now owner told) }
+    /// The sizes of the sections, and what is true of every space.
+    pub(crate) fn sections(&self) -> Layout
+        ensures layout { result ≡ self.now.layout }
+        ensures contents { IsContents self.now }
     {
-        let _ = alloc;
-        Err(AllocError)
+        self.layout
+    }
+
+    /// The shape of the objects of this class.
+    pub fn shape(&self, class: u16) -> Shape
+        requires { class < length self.now.shapes }
+        ensures { slice_get self.now.shapes class ≡ Some result }
+    {
+        self.shapes[class as usize]
+    }
+
+    /// The word at this byte address.
+    pub fn read(&self, a: Addr) -> u64
+        requires { IsInSection self.now.layout (word_at a) }
+        ensures value { result ≡ word self.now (word_at a) }
+        ensures contents { IsContents self.now }
+    {
+        self.words[(a.get() / 8) as usize]
+    }
+
+    /// The word with this number.
+    pub(crate) fn word(&self, number: u32) -> u64
+        requires { number < words_end self.now.layout }
+        ensures { result ≡ word self.now number }
+    {
+        self.words[number as usize]
+    }
+
+    /// The word at this byte address becomes `w`.
+    pub fn write(&mut self, a: Addr, w: u64)
+        requires { IsInSection self.old.layout (word_at a) }
+        ensures { self.new ≡ record self.old { words = slice_set self.old.words (word_at a) w } }
+    {
+        self.words[(a.get() / 8) as usize] = w;
+    }
+
+    /// How many fragments there are, at most 2,048.
+    pub fn fragments(&self) -> u32
+        ensures value { result ≡ length self.now.ends }
+        ensures contents { IsContents self.now }
+    {
+        self.ends.len() as u32
+    }
+
+    /// The next word of this fragment: the byte address of its first word that wasn't given away.
+    pub fn next(&self, f: u32) -> u64
+        requires { f < length self.now.ends }
+        ensures { result ≡ slice_index self.now.next f }
+    {
+        self.next[f as usize]
+    }
+
+    /// The byte address behind this fragment's last word.
+    pub fn end_of(&self, f: u32) -> u64
+        requires { f < length self.now.ends }
+        ensures { result ≡ slice_index self.now.ends f }
+    {
+        self.ends[f as usize]
+    }
+
+    /// The next word of this fragment becomes `next`, a byte address.
+    pub fn set_next(&mut self, f: u32, next: u64)
+        requires { f < length self.old.ends }
+        ensures { self.new ≡ record self.old { next = slice_set self.old.next f next } }
+    {
+        self.next[f as usize] = next;
+    }
+
+    /// The fragments become those among these pieces, none of whose words was given away. Takes no memory, and time linear
+    /// in the pieces.
+    pub fn set_fragments(&mut self, pieces: &[Piece])
+        requires { length (fronts_of pieces.now) ≤ 2048 }
+        ensures { self.new ≡ record self.old { next = fronts_of pieces.now; ends = ends_of pieces.now } }
+    {
+        put_fragments(&mut self.next, &mut self.ends, pieces);
+    }
+
+    /// Whether the mutators are asked to stop.
+    pub fn stopping(&self) -> bool
+        ensures { (result ≡ true) ↔ (self.now.stop ≢ 0) }
+    {
+        self.stop != 0
+    }
+
+    /// From now on the mutators are asked to stop, or are not.
+    pub fn set_stopping(&mut self, on: bool)
+        ensures { self.new ≡ record self.old { stop = if on then 1 else 0 } }
+    {
+        self.stop = if on { 1 } else { 0 };
+    }
+}
+
+ghost use Rattle.std.specs.Prelude.{◌≡◌, ◌≤◌, length, vec_capacity};
+ghost use Rattle.sg_space.specs.Space.{fronts_of, ends_of};
+
+/// The fronts and the ends of the fragments among these pieces, in place of what the two vectors hold.
+fn put_fragments(next: &mut Vec<u64>, ends: &mut Vec<u64>, pieces: &[Piece])
+    requires fronts { length (fronts_of pieces.now) ≤ vec_capacity next.old }
+    requires ends { length (fronts_of pieces.now) ≤ vec_capacity ends.old }
+    ensures fronts { next.new.items ≡ fronts_of pieces.now }
+    ensures ends { ends.new.items ≡ ends_of pieces.now }
+    ensures same { length next.new.items ≡ length ends.new.items }
+    ensures room { vec_capacity next.old ≤ vec_capacity next.new }
+    ensures room_of_ends { vec_capacity ends.old ≤ vec_capacity ends.new }
+{
+    next.clear();
+    ends.clear();
+    for piece in pieces {
+        if let Piece::Frag { at, words } = *piece {
+            next.push(at.get()).unwrap();
+            ends.push(at.get() + 8 * words as u64).unwrap();
+        }
     }
 }

@@ -1,0 +1,5 @@
+pub mod Members
+pub mod Copier
+pub mod Grows
+pub mod Steps
+pub mod Ends

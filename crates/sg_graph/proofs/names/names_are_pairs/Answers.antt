@@ -1,0 +1,6 @@
+-- The law is proved in `proofs/Counts.antt`.
+use Rattle.sg_graph.proofs.Counts.{names_are_pairs}
+use Rattle.sg_graph.proofs.names.names_are_pairs.Goals as goal
+
+pub returns : goal.returns
+returns c = names_are_pairs

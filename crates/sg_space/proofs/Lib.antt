@@ -1,0 +1,4 @@
+pub mod Fresh
+pub mod Placed
+pub mod Reached
+pub mod Told
