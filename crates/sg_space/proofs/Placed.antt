@@ -1,13 +1,13 @@
 -- A space stays sound where a fragment's next word moves up, and where a new object gets its header on words that no object
 -- has and no fragment gives away.
-use Rattle.std.proofs.Common.{◌≡◌, ◌≢◌, ℕ, ◌+◌, ◌*◌, ◌/◌, ◌%◌, ◌<◌, ◌≤◌, ◌⊎◌, inl, inr, List, length, get_or, Option, Some, None, refl, sym, ap, ◌∙◌, subst, arith, slice_get, slice_index, slice_set}
+use Rattle.std.proofs.Common.{◌≡◌, ◌≢◌, ℕ, ◌+◌, ◌%◌, ◌<◌, ◌≤◌, ◌⊎◌, inl, inr, length, Option, Some, None, refl, sym, ◌∙◌, subst, arith, slice_get, slice_index, slice_set}
 use Rattle.std.proofs.lemmas.Bool.{cases_lt, cases_eq}
 use Rattle.std.proofs.lemmas.List.{length-set, get_or-set_same, get_or-set_other}
 use Rattle.std.proofs.lemmas.Option.{none-some, same_Some}
-use Rattle.sg_words.specs.Address.{byte_at, word_at}
+use Rattle.sg_words.specs.Address.{word_at}
 use Rattle.sg_words.specs.Tags.{plain_word}
 use Rattle.sg_graph.specs.declared.shapes.Shape.{Shape}
-use Rattle.sg_space.specs.Sections.{nursery_base, old_base, large_base, words_end}
+use Rattle.sg_space.specs.Sections.{nursery_base, old_base, large_base}
 use Rattle.sg_space.specs.Space.{Contents}
 use Rattle.sg_space.specs.Standing.{word, size_at, IsObject, IsSoundBy}
 
@@ -54,20 +54,22 @@ abbrev pub placed : Contents → ℕ → ℕ → ℕ → Contents
 placed s h class fields = record s { words = slice_set (slice_set s.words (h + 1) fields) h (plain_word class) }
 
 -- the owner h for the n words from h on
-pick : Option ℕ → (x h n : ℕ) → (x < h) ⊎ (h ≤ x) → (x < h + n) ⊎ (h + n ≤ x) → Option ℕ
+pub pick : Option ℕ → (x h n : ℕ) → (x < h) ⊎ (h ≤ x) → (x < h + n) ⊎ (h + n ≤ x) → Option ℕ
 pick o x h n (inl before) b = o
 pick o x h n (inr from) (inl inside) = Some h
 pick o x h n (inr from) (inr behind) = o
 
-owner_with : (ℕ → Option ℕ) → ℕ → ℕ → ℕ → Option ℕ
+pub owner_with : (ℕ → Option ℕ) → ℕ → ℕ → ℕ → Option ℕ
 owner_with owner h n x = pick (owner x) x h n (cases_lt x h) (cases_lt x (h + n))
 
 pick_in : (o : Option ℕ) (x h n : ℕ) (a : (x < h) ⊎ (h ≤ x)) (b : (x < h + n) ⊎ (h + n ≤ x)) → h ≤ x → x < h + n → pick o x h n a b ≡ Some h
+unfolding pick
 pick_in o x h n (inl before) b above below = absurd (omega arith)
 pick_in o x h n (inr from) (inl inside) above below = refl
 pick_in o x h n (inr from) (inr behind) above below = absurd (omega arith)
 
-pick_out : (o : Option ℕ) (x h n : ℕ) (a : (x < h) ⊎ (h ≤ x)) (b : (x < h + n) ⊎ (h + n ≤ x)) → (x < h) ⊎ (h + n ≤ x) → pick o x h n a b ≡ o
+pub pick_out : (o : Option ℕ) (x h n : ℕ) (a : (x < h) ⊎ (h ≤ x)) (b : (x < h + n) ⊎ (h + n ≤ x)) → (x < h) ⊎ (h + n ≤ x) → pick o x h n a b ≡ o
+unfolding pick
 pick_out o x h n (inl before) b out = refl
 pick_out o x h n (inr from) (inl inside) out = absurd (omega (arith, out))
 pick_out o x h n (inr from) (inr behind) out = refl
@@ -88,9 +90,11 @@ pub record TakesRoom (s : Contents) (owner : ℕ → Option ℕ) (h n : ℕ) : T
 module _ (s : Contents) (owner : ℕ → Option ℕ) (sound : IsSoundBy s owner) (h class : ℕ) (shape : Shape)
     (shape_is : slice_get s.shapes class ≡ Some shape) (room : TakesRoom s owner h (shape.fields + 2)) where
   inside_is : (x : ℕ) → h ≤ x → x < h + (shape.fields + 2) → owner_with owner h (shape.fields + 2) x ≡ Some h
+  unfolding owner_with
   inside_is x above below = pick_in (owner x) x h (shape.fields + 2) (cases_lt x h) (cases_lt x (h + (shape.fields + 2))) above below
 
-  outside_is : (x : ℕ) → (x < h) ⊎ (h + (shape.fields + 2) ≤ x) → owner_with owner h (shape.fields + 2) x ≡ owner x
+  pub outside_is : (x : ℕ) → (x < h) ⊎ (h + (shape.fields + 2) ≤ x) → owner_with owner h (shape.fields + 2) x ≡ owner x
+  unfolding owner_with
   outside_is x out = pick_out (owner x) x h (shape.fields + 2) (cases_lt x h) (cases_lt x (h + (shape.fields + 2))) out
 
   cases : (x : ℕ) → ((h ≤ x) × (x < h + (shape.fields + 2))) ⊎ ((x < h) ⊎ (h + (shape.fields + 2) ≤ x))
@@ -110,9 +114,9 @@ module _ (s : Contents) (owner : ℕ → Option ℕ) (sound : IsSoundBy s owner)
   -- what had an owner before is elsewhere, and each object there is as it was
   elsewhere : (x g : ℕ) → owner x ≡ Some g → (x < h) ⊎ (h + (shape.fields + 2) ≤ x)
   elsewhere x g e = elim (cases x) [
-      | inl inside ↦ absurd (none-some g (sym (room.unowned x inside.0 inside.1) ∙ e))
-      | inr out ↦ out
-    ]
+    | inl inside ↦ absurd (none-some g (sym (room.unowned x inside.0 inside.1) ∙ e))
+    | inr out ↦ out
+  ]
 
   front_elsewhere : (g : ℕ) → owner g ≡ Some g → (g + 1 < h) ⊎ (h + (shape.fields + 2) ≤ g)
   front_elsewhere g e =
@@ -160,41 +164,41 @@ module _ (s : Contents) (owner : ℕ → Option ℕ) (sound : IsSoundBy s owner)
   -- the objects after it
   front_cases : (g : ℕ) → owner_with owner h (shape.fields + 2) g ≡ Some g → (h ≡ g) ⊎ (owner g ≡ Some g)
   front_cases g e = elim (cases g) [
-      | inl inside ↦ inl (same_Some h g (sym (inside_is g inside.0 inside.1) ∙ e))
-      | inr out ↦ inr (sym (outside_is g out) ∙ e)
-    ]
+    | inl inside ↦ inl (same_Some h g (sym (inside_is g inside.0 inside.1) ∙ e))
+    | inr out ↦ inr (sym (outside_is g out) ∙ e)
+  ]
 
   placed_owned : (x g : ℕ) → owner_with owner h (shape.fields + 2) x ≡ Some g → (g ≤ x) × (x < g + size_at (placed s h class shape.fields) g) × (owner_with owner h (shape.fields + 2) g ≡ Some g)
   placed_owned x g e = elim (cases x) [
-      | inl inside ↦
+    | inl inside ↦
         let same : h ≡ g = same_Some h g (sym (inside_is x inside.0 inside.1) ∙ e) in
         subst (λ z. (z ≤ x) × (x < z + size_at (placed s h class shape.fields) z) × (owner_with owner h (shape.fields + 2) z ≡ Some z)) same
-            (inside.0, omega (arith, inside.1, fields_is), inside_is h (omega arith) (omega arith))
-      | inr out ↦
+        (inside.0, omega (arith, inside.1, fields_is), inside_is h (omega arith) (omega arith))
+    | inr out ↦
         let o = sound.owned x g (sym (outside_is x out) ∙ e) in
         let size = same_fields g o.2 in
         (o.0, omega (arith, o.1, size), still g g o.2)
-    ]
+  ]
 
   placed_whole : (g x : ℕ) → owner_with owner h (shape.fields + 2) g ≡ Some g → g ≤ x → x < g + size_at (placed s h class shape.fields) g → owner_with owner h (shape.fields + 2) x ≡ Some g
   placed_whole g x e above below = elim (front_cases g e) [
-      | inl same ↦ subst (λ z. z ≤ x → x < z + size_at (placed s h class shape.fields) z → owner_with owner h (shape.fields + 2) x ≡ Some z) same
-          (λ a b. inside_is x a (omega (arith, fields_is))) above below
-      | inr before ↦ let size = same_fields g before in still x g (sound.whole g x before above (omega (arith, size)))
-    ]
+    | inl same ↦ subst (λ z. z ≤ x → x < z + size_at (placed s h class shape.fields) z → owner_with owner h (shape.fields + 2) x ≡ Some z) same
+        (λ a b. inside_is x a (omega (arith, fields_is))) above below
+    | inr before ↦ let size = same_fields g before in still x g (sound.whole g x before above (omega (arith, size)))
+  ]
 
   placed_clear : (x : ℕ) → owner_with owner h (shape.fields + 2) x ≡ None → nursery_base ≤ x → x < large_base s.layout → word (placed s h class shape.fields) x ≡ 0
   placed_clear x e above below = elim (cases x) [
-      | inl inside ↦ absurd (none-some h (sym e ∙ inside_is x inside.0 inside.1))
-      | inr out ↦ other_is x (grind (arith, out)) (grind (arith, out)) ∙ sound.clear x (sym (outside_is x out) ∙ e) above below
-    ]
+    | inl inside ↦ absurd (none-some h (sym e ∙ inside_is x inside.0 inside.1))
+    | inr out ↦ other_is x (grind (arith, out)) (grind (arith, out)) ∙ sound.clear x (sym (outside_is x out) ∙ e) above below
+  ]
 
   placed_packed : (g : ℕ) → owner_with owner h (shape.fields + 2) g ≡ Some g → old_base s.layout < g →
       (p : ℕ) × (owner_with owner h (shape.fields + 2) p ≡ Some p) × (old_base s.layout ≤ p) × (p + size_at (placed s h class shape.fields) p ≡ g)
   placed_packed g e old = elim (front_cases g e) [
-      | inl same ↦ let below = room.below in absurd (omega arith)
-      | inr before ↦ let p = sound.packed g before old in let size = same_fields p.0 p.1 in (p.0, still p.0 p.0 p.1, p.2, subst (λ n. p.0 + (n + 2) ≡ g) (sym size) p.3)
-    ]
+    | inl same ↦ let below = room.below in absurd (omega arith)
+    | inr before ↦ let p = sound.packed g before old in let size = same_fields p.0 p.1 in (p.0, still p.0 p.0 p.1, p.2, subst (λ n. p.0 + (n + 2) ≡ g) (sym size) p.3)
+  ]
 
   pub placed_is_sound : IsSoundBy (placed s h class shape.fields) (owner_with owner h (shape.fields + 2))
   placed_is_sound = record {

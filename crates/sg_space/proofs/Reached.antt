@@ -1,14 +1,12 @@
 -- What a walk over a section knows: by every owner by which the space is sound, no object that begins below the place that
 -- it reached ends above it.
-use Rattle.std.proofs.Common.{◌≡◌, ◌≢◌, ℕ, zero, suc, ◌+◌, ◌*◌, ◌/◌, ◌%◌, ◌<◌, ◌≤◌, ◌⊎◌, List, [], ◌∷◌, ◌++◌, map, length, get_or, Option, Some, None, refl, sym, ap, ◌∙◌, subst, arith, rules, slice_get, slice_index}
-use Rattle.std.proofs.lemmas.List.{map-append, places}
-use Rattle.std.proofs.lemmas.Option.{none-some, same_Some, slice_get_within}
-use Rattle.std.specs.List.Sorted.{IsStrictlyIncreasing}
-use Rattle.sg_words.specs.Address.{byte_at, word_at}
+use Rattle.std.proofs.Common.{◌≡◌, ◌≢◌, ℕ, ◌+◌, ◌%◌, ◌<◌, ◌≤◌, ◌⊎◌, Option, Some, None, refl, sym, ap, ◌∙◌, subst, arith}
+use Rattle.std.proofs.lemmas.Option.{none-some, same_Some}
+use Rattle.sg_words.specs.Address.{word_at}
 use Rattle.sg_space.specs.declared.objects.Object.{Object}
-use Rattle.sg_space.specs.Sections.{nursery_base, old_base, large_base, IsLayout, IsYoung}
-use Rattle.sg_space.specs.Space.{Contents, IsContents}
-use Rattle.sg_space.specs.Standing.{word, size_at, IsObject, IsSoundBy, IsSound, IsToldOf, TellsYoung, IsClearAt, IsFree, IsNoFront, TellsAt, HoldsWord, HasByte}
+use Rattle.sg_space.specs.Sections.{nursery_base, old_base, large_base}
+use Rattle.sg_space.specs.Space.{Contents}
+use Rattle.sg_space.specs.Standing.{word, size_at, IsObject, IsSoundBy, IsSound, IsClearAt, IsFree, IsNoFront, TellsAt, HoldsWord, HasByte}
 
 -- a range that has x, and doesn't end above x if it begins below x, begins at x
 at_front : (x h n : ℕ) → h ≤ x → x < h + n → (h < x → h + n ≤ x) → h ≡ x

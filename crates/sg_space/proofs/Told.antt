@@ -1,16 +1,16 @@
 -- What a walk of the nursery has told when it has come to the word x.
-use Rattle.std.proofs.Common.{◌≡◌, ◌≢◌, ℕ, zero, suc, ◌+◌, ◌*◌, ◌/◌, ◌%◌, ◌<◌, ◌≤◌, ◌⊎◌, inl, inr, List, [], ◌∷◌, ◌++◌, map, length, get_or, Option, Some, None, refl, sym, ap, ◌∙◌, subst, arith, slice_get, slice_index}
+use Rattle.std.proofs.Common.{◌≡◌, ◌≢◌, ℕ, zero, suc, ◌+◌, ◌<◌, ◌≤◌, ◌⊎◌, inl, inr, List, [], ◌∷◌, ◌++◌, map, length, Option, Some, refl, sym, ap, ◌∙◌, subst, arith, slice_get, slice_index}
 use Rattle.std.proofs.lemmas.Grind.{common_steps}
 use Rattle.std.proofs.lemmas.Bool.{cases_lt}
 use Rattle.std.proofs.lemmas.List.{map-append, places}
-use Rattle.std.proofs.lemmas.Option.{none-some, same_Some, slice_get_within}
+use Rattle.std.proofs.lemmas.Option.{none-some, same_Some}
 use Rattle.std.specs.List.Sorted.{IsStrictlyIncreasing}
 use Rattle.sg_words.specs.Address.{byte_at}
 use Rattle.sg_space.specs.declared.objects.Object.{Object}
 use Rattle.sg_space.specs.Sections.{nursery_base, old_base, IsYoung}
 use Rattle.sg_space.specs.Space.{Contents}
-use Rattle.sg_space.specs.Standing.{size_at, IsSoundBy, IsToldOf, TellsYoung, IsClearAt, IsFree, TellsAt}
-use Rattle.sg_space.proofs.Reached.{inside_is_front, clear_nursery}
+use Rattle.sg_space.specs.Standing.{IsSoundBy, IsToldOf, TellsYoung, IsFree, TellsAt}
+use Rattle.sg_space.proofs.Reached.{inside_is_front}
 
 -- the elements of a list with one more at its end
 module _ {A : Type 0} where

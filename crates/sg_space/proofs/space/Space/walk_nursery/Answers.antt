@@ -1,4 +1,4 @@
-use Rattle.std.proofs.Common.{◌≡◌, ◌+◌, ◌<◌, ◌≤◌, ◌++◌, [], ◌∷◌, ap, sym, ◌∙◌, subst, arith}
+use Rattle.std.proofs.Common.{◌≡◌, ◌+◌, ◌<◌, ◌≤◌, ap, sym, ◌∙◌, subst, arith}
 use Rattle.sg_space.specs.Sections.{old_base}
 use Rattle.sg_space.specs.Standing.{TellsYoung}
 use Rattle.sg_space.proofs.Reached.{clear_skip, clear_step}
