@@ -7,8 +7,8 @@ pub use pieces::build;
 
 #[cfg(test)]
 mod tests {
-    use super::pieces;
-    use sg_space::{Layout, Object};
+    use super::build;
+    use sg_space::{Layout, Object, Space};
     use sg_words::{Addr, Piece};
     use std::test::Fail;
 
@@ -36,7 +36,8 @@ mod tests {
                 words: 3,
             },
         ];
-        let found = pieces::gaps(rt.alloc(), layout, &standing)?;
+        let space = Space::new(rt.alloc(), layout, &[])?;
+        let found = build(rt.alloc(), &space, &standing)?.into_vec();
         let front = Addr::of(4096).ok_or("an address")?;
         assert_eq!(rt; found.len(), 3);
         assert_eq!(rt;

@@ -22,11 +22,7 @@ pub fn build(alloc: Global, space: &Space, standing: &[Object]) -> Result<List<P
 }
 
 // The gaps of the nursery of such a layout.
-pub(crate) fn gaps(
-    alloc: Global,
-    layout: Layout,
-    standing: &[Object],
-) -> Result<Vec<Piece>, AllocError>
+fn gaps(alloc: Global, layout: Layout, standing: &[Object]) -> Result<Vec<Piece>, AllocError>
     requires layout { IsLayout layout }
     requires standing { AreStanding layout standing.now }
     ensures { IfOk result (λ pieces. ArePieces layout standing.now pieces.items) }
@@ -38,7 +34,7 @@ pub(crate) fn gaps(
         add_gap(&mut pieces, front, at)?;
         front = at + 8 * object.words as u64;
     }
-    add_gap(&mut pieces, front, NURSERY + 8 * layout.nursery as u64)?;
+    add_gap(&mut pieces, front, layout.old_base())?;
     Ok(pieces)
 }
 

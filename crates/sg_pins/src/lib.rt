@@ -11,8 +11,8 @@ pub use queue::pin_queue;
 
 #[cfg(test)]
 mod tests {
-    use super::{merge, queue};
-    use sg_space::Object;
+    use super::{merge, pin_queue, queue};
+    use sg_space::{Layout, Object, Space};
     use sg_words::Addr;
     use std::test::Fail;
 
@@ -50,6 +50,20 @@ mod tests {
         assert_eq!(rt; pinned.len(), 2);
         assert_eq!(rt; pinned[0], first);
         assert_eq!(rt; pinned[1], third);
+        Ok(())
+    }
+
+    // In a nursery without objects no word points into one.
+    #[test]
+    fn nothing_to_pin(rt: HostRuntime) -> Result<(), Fail> {
+        let layout = Layout {
+            nursery: 256,
+            blocks: 1,
+            pages: 0,
+        };
+        let space = Space::new(rt.alloc(), layout, &[])?;
+        let pinned = pin_queue(rt.alloc(), &[4096, 0, u64::MAX], &space)?;
+        assert_eq!(rt; pinned.as_slice().len(), 0);
         Ok(())
     }
 }

@@ -28,5 +28,5 @@ returns c =
     let layout = c.args.layout in
     let f = c.loop-object.front / 8 in
     let after = c.add_gap-2.new.pieces.items in
-    let end : (4096 + 8 * layout.nursery) / 8 ≡ old_base layout = omega arith in
+    let end : c.old_base.result / 8 ≡ old_base layout = omega arith in
     walked_all layout c.args.standing.now c.loop-object.object-index f c.loop-object.pieces.items after (omega arith) c.loop-object.invariant.walked (subst (λ g. IsGrown c.loop-object.pieces.items f (g - f) after) end c.in_ok-add_gap-2.ensures)
