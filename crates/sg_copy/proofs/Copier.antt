@@ -80,10 +80,10 @@ module _ (area : Area) (w : ℕ → ℕ) (items : List ℕ) (fill : ℕ) (op : I
   pub found : (s x : ℕ) → Slot area w items r.m r.moves r.fails s → r.word s ≡ byte_at x → IsYoung area x → r.word s ≡ w (r.source s)
   found s x k v y = elim (cases_Bool (has s r.handled)) [
     | inl h ↦ (
-      let u = w (r.source s) in
-      let e : r.word s ≡ sent r.m u = slot-word s k ∙ cond-true _ _ _ h in
-      e ∙ sent-fixed r.m u (λ z q. m-old z (subst (IsYoung area) (let f = sym v ∙ e ∙ sent-at r.m u z q in let goal : x ≡ r.m z = omega arith in goal) y))
-    )
+        let u = w (r.source s) in
+        let e : r.word s ≡ sent r.m u = slot-word s k ∙ cond-true _ _ _ h in
+        e ∙ sent-fixed r.m u (λ z q. m-old z (subst (IsYoung area) (let f = sym v ∙ e ∙ sent-at r.m u z q in let goal : x ≡ r.m z = omega arith in goal) y))
+        )
     | inr h ↦ slot-word s k ∙ cond-false _ _ _ h
   ]
 

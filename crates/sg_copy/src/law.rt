@@ -4,5 +4,4 @@ ghost use Rattle.sg_copy.specs.Round.{CopierLaw};
 /// contract is the law.
 pub fn copier_law()
     ensures { CopierLaw }
-{
-}
+{}

@@ -1,0 +1,27 @@
+use Rattle.std.proofs.Common.{◌≡◌, ◌≤◌, length, arith, ap, sym, ◌∙◌}
+use Rattle.sg_space.proofs.Fragments.{same_count}
+use Rattle.sg_space.specs.Space.{fronts_of, ends_of}
+use Rattle.sg_space.proofs.space.Space.set_fragments.Goals as goal
+
+pub invariant_of-self : goal.invariant_of-self
+invariant_of-self c =
+    let inv = c.self.invariant in
+    let e = c.put_fragments.ensures in
+    let fronts : length c.put_fragments.new.next.items ≡ length (fronts_of c.args.pieces.now) = ap length e.fronts in
+    let ends : length c.put_fragments.new.ends.items ≡ length (ends_of c.args.pieces.now) = ap length e.ends in
+    let same = same_count c.args.pieces.now in
+    let few = c.requires in
+    let room = e.room in
+    let room_of_ends = e.room_of_ends in
+    let next_room = inv.1 in
+    let ends_room = inv.2 in (
+      record {
+        layout = inv.0.layout;
+        shapes = inv.0.shapes;
+        words = inv.0.words;
+        fragments = fronts ∙ same ∙ sym ends;
+        few = omega arith;
+      },
+      omega arith,
+      omega arith,
+    )
