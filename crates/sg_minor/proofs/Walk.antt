@@ -1,5 +1,5 @@
 -- The walk over the objects, from the nursery's front to its end.
-use Rattle.std.proofs.Common.{◌≡◌, ℕ, ◌+◌, ◌-◌, ◌<◌, ◌≤◌, ◌⊎◌, List, [], length, get_or, arith, inl, inr, sym, refl, ap, ◌∙◌}
+use Rattle.std.proofs.Common.{◌≡◌, ℕ, ◌+◌, ◌-◌, ◌<◌, ◌≤◌, ◌⊎◌, List, [], length, get_or, arith, inl, inr, sym, subst, refl, ap, ◌∙◌}
 use Rattle.std.specs.List.{Contains}
 use Rattle.std.proofs.lemmas.Bool.{cases_eq, cases_lt}
 use Rattle.std.proofs.lemmas.List.{get_or_default}
@@ -120,3 +120,10 @@ walked_all layout standing i f pieces after l w grows =
       behind = inl refl;
     } in
     below_all layout standing after (grown layout standing f (old_base layout) (old_base layout) pieces after w.built stretch grows (omega arith) (λ y a b. absurd (omega arith)))
+
+-- the same at equal numbers
+pub regrown : (pieces after : List Piece) (x y n m : ℕ) → IsGrown pieces x n after → x ≡ y → n ≡ m → IsGrown pieces y m after
+regrown pieces after x y n m grows first size = rw (← first, ← size) grows
+
+pub walked_to : (layout : Layout) (standing : List Object) (i f g : ℕ) (pieces : List Piece) → IsWalked layout standing i f pieces → f ≡ g → IsWalked layout standing i g pieces
+walked_to layout standing i f g pieces w e = subst (λ h. IsWalked layout standing i h pieces) e w

@@ -1,7 +1,7 @@
-use Rattle.std.proofs.Common.{◌≡◌, ◌+◌, ◌-◌, ◌*◌, ◌/◌, ◌%◌, subst, arith}
+use Rattle.std.proofs.Common.{◌≡◌, ◌+◌, ◌-◌, ◌/◌, ◌%◌, arith}
 use Rattle.sg_space.specs.Sections.{old_base}
 use Rattle.sg_minor.specs.Pieces.{IsGrown, first_word, word_behind}
-use Rattle.sg_minor.proofs.Walk.{IsWalked, IsMet, walked_more, walked_all}
+use Rattle.sg_minor.proofs.Walk.{IsMet, walked_more, walked_all, walked_to, regrown}
 use Rattle.sg_minor.proofs.pieces.gaps.Goals as goal
 
 pub loop-object-preserved : goal.loop-object-preserved
@@ -16,11 +16,10 @@ loop-object-preserved c =
     let address = c.get-at.ensures.address in
     let even : o.at % 8 ≡ 0 = address.2 in
     let met : IsMet layout standing i o = record { apart = c.requires.standing; there = omega arith; is = c.object-item.is } in
-    let grows : IsGrown c.loop-object.pieces.items f (first_word o - f) after = subst (λ a. IsGrown c.loop-object.pieces.items f (a / 8 - f) after) at c.in_ok-add_gap.ensures in
-    let next : word_behind o ≡ (c.get-at.result + 8 * o.words) / 8 = omega arith in
+    let grows : IsGrown c.loop-object.pieces.items f (first_word o - f) after = regrown c.loop-object.pieces.items after _ f _ (first_word o - f) c.in_ok-add_gap.ensures (omega arith) (omega arith) in
     record {
       bytes = omega arith;
-      walked = subst (λ g. IsWalked layout standing (i + 1) g after) next (walked_more layout standing i f c.loop-object.pieces.items after o c.loop-object.invariant.walked met grows);
+      walked = walked_to layout standing (i + 1) (word_behind o) _ after (walked_more layout standing i f c.loop-object.pieces.items after o c.loop-object.invariant.walked met grows) (omega arith);
     }
 
 pub returns : goal.returns
@@ -28,5 +27,5 @@ returns c =
     let layout = c.args.layout in
     let f = c.loop-object.front / 8 in
     let after = c.add_gap-2.new.pieces.items in
-    let end : c.old_base.result / 8 ≡ old_base layout = omega arith in
-    walked_all layout c.args.standing.now c.loop-object.object-index f c.loop-object.pieces.items after (omega arith) c.loop-object.invariant.walked (subst (λ g. IsGrown c.loop-object.pieces.items f (g - f) after) end c.in_ok-add_gap-2.ensures)
+    let grows : IsGrown c.loop-object.pieces.items f (old_base layout - f) after = regrown c.loop-object.pieces.items after _ f _ (old_base layout - f) c.in_ok-add_gap-2.ensures (omega arith) (omega arith) in
+    walked_all layout c.args.standing.now c.loop-object.object-index f c.loop-object.pieces.items after (omega arith) c.loop-object.invariant.walked grows
