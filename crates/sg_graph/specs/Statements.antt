@@ -2,7 +2,7 @@
 use Rattle.std.specs.Prelude.{◌≡◌, ◌≢◌, ℕ, suc, true, false, Option, Some, None, List}
 use Rattle.sg_words.specs.Words.{put}
 use Rattle.sg_graph.specs.declared.program.Statement.{Statement}
-use Rattle.sg_graph.specs.declared.program.Statement.TheVariants.{New, Put, Get, PutD, GetD, Num}
+use Rattle.sg_graph.specs.declared.program.Statement.TheVariants.{New, Put, Get, PutD, GetD, Num, Drop}
 use Rattle.sg_graph.specs.declared.program.Program.{Program}
 use Rattle.sg_graph.specs.declared.reports.Answer.{Answer}
 use Rattle.sg_graph.specs.declared.reports.Answer.TheVariants.{At, Nil, Null, Number, Fine, Field, Full}
@@ -24,6 +24,7 @@ test_of (Get d r i) = Some (record { register = r; field = i; sort = Reference }
 test_of (PutD r i s) = Some (record { register = r; field = i; sort = Plain })
 test_of (GetD d r i) = Some (record { register = r; field = i; sort = Plain })
 test_of (Num d n) = None
+test_of (Drop r) = None
 
 -- the registers after a statement that found no object, no such field or no room: the one that it sets becomes empty
 abbrev pub emptied : Statement → (ℕ → Entry) → ℕ → Entry
@@ -33,6 +34,7 @@ emptied (Get d r i) register = put register d (Ref 0)
 emptied (PutD r i s) register = register
 emptied (GetD d r i) register = put register d (Int 0)
 emptied (Num d n) register = put register d (Int 0)
+emptied (Drop r) register = put register r (Ref 0)
 
 -- the tested register holds no object
 pub record FindsNone (m : Mutator) (s : Statement) : Type 0 where
@@ -71,6 +73,7 @@ Does p g k m (Get d r i) rest Nil h = (name : ℕ) × Finds p g m (Get d r i) na
 Does p g k m (GetD d r i) rest (Number n) h =
     (name : ℕ) × Finds p g m (GetD d r i) name × (g.field name i ≡ Int n) × (h ≡ goes_on g k rest (put m.register d (Int n)))
 Does p g k m (Num d n) rest Fine h = h ≡ goes_on g k rest (put m.register d (Int n))
+Does p g k m (Drop r) rest Fine h = h ≡ goes_on g k rest (put m.register r (Ref 0))
 -- a failed object test
 Does p g k m s rest Null h = FindsNone m s × (h ≡ goes_on g k rest (emptied s m.register))
 Does p g k m s rest Field h = Misses p g m s × (h ≡ goes_on g k rest (emptied s m.register))

@@ -55,6 +55,8 @@ pub enum Statement {
     GetD { d: u8, r: u8, field: u64 },
     /// Register `d` gets the number `n`.
     Num { d: u8, n: u64 },
+    /// Register `r` holds no object any more.
+    Drop { r: u8 },
 }
 
 /// A part of a script.

@@ -1,5 +1,5 @@
 -- The gaps between the objects that stand in the nursery, and the pieces that stand for them.
-use Rattle.std.specs.Prelude.{◌≡◌, ℕ, ◌+◌, ◌*◌, ◌%◌, ◌<◌, ◌≤◌, ◌⊎◌, List, [], ◌∷◌, ◌++◌, map, slice_index_or, length}
+use Rattle.std.specs.Prelude.{◌≡◌, ℕ, ◌+◌, ◌<◌, ◌≤◌, ◌⊎◌, List, [], ◌∷◌, ◌++◌, map, slice_index_or, length}
 use Rattle.std.specs.List.{Contains}
 use Rattle.std.specs.List.Sorted.{IsStrictlyIncreasing}
 use Rattle.sg_words.specs.Address.{byte_at, word_at}
@@ -7,7 +7,7 @@ use Rattle.sg_words.specs.declared.pieces.Piece.{Piece}
 use Rattle.sg_words.specs.declared.pieces.Piece.TheVariants.{Frag, Waste}
 use Rattle.sg_space.specs.declared.layout.Layout.{Layout}
 use Rattle.sg_space.specs.declared.objects.Object.{Object}
-use Rattle.sg_space.specs.Sections.{nursery_base, old_base, IsYoung}
+use Rattle.sg_space.specs.Sections.{nursery_base, old_base}
 
 -- the object's first word, and the word behind its last one
 abbrev pub first_word : Object → ℕ

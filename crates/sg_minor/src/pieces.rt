@@ -34,7 +34,7 @@ fn gaps(alloc: Global, layout: Layout, standing: &[Object]) -> Result<Vec<Piece>
         add_gap(&mut pieces, front, at)?;
         front = at + 8 * object.words as u64;
     }
-    add_gap(&mut pieces, front, NURSERY + 8 * layout.nursery as u64)?;
+    add_gap(&mut pieces, front, layout.old_base())?;
     Ok(pieces)
 }
 

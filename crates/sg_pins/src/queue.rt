@@ -21,7 +21,7 @@ pub fn pin_queue(alloc: Global, ambiguous: &[u64], space: &Space) -> Result<List
 }
 
 // The words in order.
-fn sorted(alloc: Global, words: &[u64]) -> Result<Vec<u64>, AllocError>
+pub(crate) fn sorted(alloc: Global, words: &[u64]) -> Result<Vec<u64>, AllocError>
     ensures permutation { IfOk result (λ ascending. IsPermutation words.now ascending.items) }
     ensures sorted { IfOk result (λ ascending. IsNonDecreasing ascending.items) }
 {

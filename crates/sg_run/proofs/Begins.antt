@@ -5,7 +5,7 @@ use Rattle.sg_words.specs.Address.{byte_at, word_at}
 use Rattle.sg_words.specs.Words.{Words}
 use Rattle.sg_graph.specs.declared.shapes.Descriptor.{Descriptor}
 use Rattle.sg_graph.specs.declared.program.Statement.{Statement}
-use Rattle.sg_graph.specs.declared.program.Statement.TheVariants.{New, Put, Get, PutD, GetD, Num}
+use Rattle.sg_graph.specs.declared.program.Statement.TheVariants.{New, Put, Get, PutD, GetD, Num, Drop}
 use Rattle.sg_graph.specs.declared.program.Item.{Item}
 use Rattle.sg_graph.specs.declared.program.Item.TheVariants.{One}
 use Rattle.sg_graph.specs.declared.program.Program.{Program}
@@ -101,7 +101,7 @@ module _ (bytes : List ℕ) (p : Program) (accepted : IsAcceptedAs bytes p) (s :
     accepted.limits.classes,
     λ some.
         subst (λ n. IsObject p (words_of s) n (word_at (get_or m.registers r 0))) (sym first.words)
-        (object_in_word p (layout_of s) (words_of s) so.graph so.book so.owner so.ground classed accepted.limits.nursery_most (so.stands.entry r) (get_or m.registers r 0) (so.stands.known r) kind (so.stands.regs r) some),
+        (object_in_word p (layout_of s) (words_of s) so.graph so.book so.owner so.ground classed accepted.limits.settings.nursery_most (so.stands.entry r) (get_or m.registers r 0) (so.stands.known r) kind (so.stands.regs r) some),
   )
 
   has_byte_addresses : HasByteAddresses s
@@ -128,6 +128,7 @@ can_do bytes p a s m (Get d r i) rest first so named need = (holds_object bytes 
 can_do bytes p a s m (PutD r i v) rest first so named need = (holds_object bytes p a s m (PutD r i v) rest first so r named.0 need.0, named.1)
 can_do bytes p a s m (GetD d r i) rest first so named need = (holds_object bytes p a s m (GetD d r i) rest first so r named.1 need, named.0)
 can_do bytes p a s m (Num d n) rest first so named need = named
+can_do bytes p a s m (Drop r) rest first so named need = named
 
 pub can_go : (bytes : List ℕ) (p : Program) (accepted : IsAcceptedAs bytes p) (s : Space) (m : Mutator) (statement : Statement) (rest : List Statement) (first : IsFirstSpace p.config.nursery s)
     (so : SoFar p (layout_of s) (words_of s) (actor_of m (statement ∷ rest))) → s.stop ≡ 0 → CanGo p s m statement

@@ -9,7 +9,7 @@ use Rattle.sg_graph.specs.declared.program.Item.{Item}
 use Rattle.sg_graph.specs.declared.program.Item.TheVariants.{One}
 use Rattle.sg_graph.specs.declared.program.Script.{Script}
 use Rattle.sg_graph.specs.declared.program.Statement.{Statement}
-use Rattle.sg_graph.specs.declared.program.Statement.TheVariants.{New, Put, Get, PutD, GetD, Num}
+use Rattle.sg_graph.specs.declared.program.Statement.TheVariants.{New, Put, Get, PutD, GetD, Num, Drop}
 use Rattle.sg_graph.specs.declared.program.Program.{Program}
 use Rattle.sg_graph.specs.declared.reports.Answer.{Answer}
 use Rattle.sg_graph.specs.declared.reports.Answer.TheVariants.{At, Nil, Null, Number, Fine, Field, Full}
@@ -30,6 +30,7 @@ IsNamed classes (Get d r i) = (d < 16) × (r < 16)
 IsNamed classes (PutD r i s) = (r < 16) × (s < 16)
 IsNamed classes (GetD d r i) = (d < 16) × (r < 16)
 IsNamed classes (Num d n) = d < 16
+IsNamed classes (Drop r) = r < 16
 
 abbrev pub AreNamed : List Class → List Statement → Type 0
 AreNamed classes [] = Unit {0}
@@ -47,6 +48,7 @@ named_line classes line (Get d r i) (a, b, c, e, f, g, h) = (omega (arith, f.1),
 named_line classes line (PutD r i s) (a, b, c, e, f, g, h) = (omega (arith, f.1), omega (arith, h.1))
 named_line classes line (GetD d r i) (a, b, c, e, f, g, h) = (omega (arith, f.1), omega (arith, g.1))
 named_line classes line (Num d n) (a, b, e, f, g) = omega (arith, f.1)
+named_line classes line (Drop r) (a, e, f) = omega (arith, f.1)
 
 named_items : (classes : List Class) (body : List (List (List ℕ))) (items : List Item) → Pairwise (IsItemLine classes) body items → AreNamed classes (written_out items)
 named_items classes [] [] q = tt
@@ -143,6 +145,13 @@ module _ (p : Program) (g : Graph) (k : ℕ) (c : IsClassed p g) where
   classed_does m (Num d n) rest Fine h named more q = on h g rest _ more c q
   classed_does m (Num d n) rest Field h named more q = on h g rest _ more c q.1
   classed_does m (Num d n) rest Full h named more q = absurd q
+  classed_does m (Drop r) rest (At x) h named more q = absurd q
+  classed_does m (Drop r) rest Nil h named more q = absurd q
+  classed_does m (Drop r) rest Null h named more q = on h g rest _ more c q.1
+  classed_does m (Drop r) rest (Number x) h named more q = absurd q
+  classed_does m (Drop r) rest Fine h named more q = on h g rest _ more c q
+  classed_does m (Drop r) rest Field h named more q = on h g rest _ more c q.1
+  classed_does m (Drop r) rest Full h named more q = absurd q
 
 classed_turn : (p : Program) (g : Graph) (b : Book) (said : Said) (h : Graph) (c : Book) → Turn p g b said h c → IsClassed p g → IsClassed p h
 classed_turn p g b said h c turn q =

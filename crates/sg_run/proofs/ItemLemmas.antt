@@ -6,7 +6,7 @@ use Rattle.std.proofs.lemmas.Option.{same_Some}
 use Rattle.std.proofs.lemmas.List.{append-nil}
 use Rattle.sg_graph.specs.declared.program.Class.{Class}
 use Rattle.sg_graph.specs.declared.program.Statement.{Statement}
-use Rattle.sg_graph.specs.declared.program.Statement.TheVariants.{New, Put, Get, PutD, GetD, Num}
+use Rattle.sg_graph.specs.declared.program.Statement.TheVariants.{New, Put, Get, PutD, GetD, Num, Drop}
 use Rattle.sg_graph.specs.declared.program.Item.{Item}
 use Rattle.sg_graph.specs.declared.program.Item.TheVariants.{One}
 use Rattle.sg_run.specs.Text.{content, end_line, IsRegister, IsNumber, IsStatementLine}
@@ -43,6 +43,7 @@ put_only cs verb a b c o (Get d r i) e only h = absurd (apart (codes "put") (cod
 put_only cs verb a b c o (PutD r i s) e only h = absurd (apart (codes "put") (codes "putd") (sym e ∙ ap first h.3) refl)
 put_only cs verb a b c o (GetD d r i) e only h = absurd (apart (codes "put") (codes "getd") (sym e ∙ ap first h.3) refl)
 put_only cs verb a b c o (Num d n) e only h = let k = h.2 in absurd cc
+put_only cs verb a b c o (Drop r) e only h = let k = h.1 in absurd cc
 
 pub put_d_only : (cs : List Class) (verb a b c : List ℕ) (o : Option (ℕ × ℕ × ℕ)) (x : Statement) → verb ≡ codes "putd" → Only (λ (v : ℕ × ℕ × ℕ). IsRegister a v.0 × IsNumber b v.1 × IsRegister c v.2) o
     → IsStatementLine cs (verb ∷ a ∷ b ∷ c ∷ []) x → (r i s : ℕ) × (x ≡ PutD r i s) × (o ≡ Some (r, i, s))
@@ -52,6 +53,7 @@ put_d_only cs verb a b c o (Get d r i) e only h = absurd (apart (codes "putd") (
 put_d_only cs verb a b c o (Put r i s) e only h = absurd (apart (codes "putd") (codes "put") (sym e ∙ ap first h.3) refl)
 put_d_only cs verb a b c o (GetD d r i) e only h = absurd (apart (codes "putd") (codes "getd") (sym e ∙ ap first h.3) refl)
 put_d_only cs verb a b c o (Num d n) e only h = let k = h.2 in absurd cc
+put_d_only cs verb a b c o (Drop r) e only h = let k = h.1 in absurd cc
 
 pub get_only : (cs : List Class) (verb a b c : List ℕ) (o : Option (ℕ × ℕ × ℕ)) (x : Statement) → verb ≡ codes "get" → Only (λ (v : ℕ × ℕ × ℕ). IsRegister a v.0 × IsRegister b v.1 × IsNumber c v.2) o
     → IsStatementLine cs (verb ∷ a ∷ b ∷ c ∷ []) x → (d r i : ℕ) × (x ≡ Get d r i) × (o ≡ Some (d, r, i))
@@ -61,6 +63,7 @@ get_only cs verb a b c o (Put r i s) e only h = absurd (apart (codes "get") (cod
 get_only cs verb a b c o (PutD r i s) e only h = absurd (apart (codes "get") (codes "putd") (sym e ∙ ap first h.3) refl)
 get_only cs verb a b c o (GetD d r i) e only h = absurd (apart (codes "get") (codes "getd") (sym e ∙ ap first h.3) refl)
 get_only cs verb a b c o (Num d n) e only h = let k = h.2 in absurd cc
+get_only cs verb a b c o (Drop r) e only h = let k = h.1 in absurd cc
 
 pub get_d_only : (cs : List Class) (verb a b c : List ℕ) (o : Option (ℕ × ℕ × ℕ)) (x : Statement) → verb ≡ codes "getd" → Only (λ (v : ℕ × ℕ × ℕ). IsRegister a v.0 × IsRegister b v.1 × IsNumber c v.2) o
     → IsStatementLine cs (verb ∷ a ∷ b ∷ c ∷ []) x → (d r i : ℕ) × (x ≡ GetD d r i) × (o ≡ Some (d, r, i))
@@ -70,6 +73,7 @@ get_d_only cs verb a b c o (Put r i s) e only h = absurd (apart (codes "getd") (
 get_d_only cs verb a b c o (PutD r i s) e only h = absurd (apart (codes "getd") (codes "putd") (sym e ∙ ap first h.3) refl)
 get_d_only cs verb a b c o (Get d r i) e only h = absurd (apart (codes "getd") (codes "get") (sym e ∙ ap first h.3) refl)
 get_d_only cs verb a b c o (Num d n) e only h = let k = h.2 in absurd cc
+get_d_only cs verb a b c o (Drop r) e only h = let k = h.1 in absurd cc
 
 pub made : (make : ℕ × ℕ × ℕ → Statement) (v w : ℕ × ℕ × ℕ) (x : Statement) → x ≡ make w → Some v ≡ Some w → Some (make v) ≡ Some x
 made make v w x e same = ap (λ (s : Statement). Some s) (ap make (same_Some v w same) ∙ sym e)
@@ -83,6 +87,7 @@ not_end cs words (Get d r i) h e = let k = h.3 in cc
 not_end cs words (PutD r i s) h e = let k = h.3 in cc
 not_end cs words (GetD d r i) h e = let k = h.3 in cc
 not_end cs words (Num d n) h e = let k = h.2 in cc
+not_end cs words (Drop r) h e = let k = h.1 in cc
 
 not_empty : (cs : List Class) (words : List (List ℕ)) (s : Statement) → IsStatementLine cs words s → words ≡ [] → ⊥
 not_empty cs words (New r class) h e = let k = h.2 in cc
@@ -91,6 +96,7 @@ not_empty cs words (Get d r i) h e = let k = h.3 in cc
 not_empty cs words (PutD r i s) h e = let k = h.3 in cc
 not_empty cs words (GetD d r i) h e = let k = h.3 in cc
 not_empty cs words (Num d n) h e = let k = h.2 in cc
+not_empty cs words (Drop r) h e = let k = h.1 in cc
 
 pub statement_line_some : (cs : List Class) (rest : List ℕ) (words : List (List ℕ)) (after : List ℕ) (s : Statement) → IsNext rest words after → IsStatementLine cs words s → (proper rest ≡ proper after) × (content rest ≡ words ∷ content after) × (length after < length rest)
 statement_line_some cs rest [] after s next h = absurd (not_empty cs [] s h refl)

@@ -8,7 +8,7 @@ use Rattle.sg_graph.specs.Scripts.{written_out}
 use Rattle.sg_graph.specs.Kinds.{Kind, first_kinds, Needs, kinds_after, HasNoMisuse}
 use Rattle.sg_graph.specs.Kinds.Kind.{IsRef, IsInt}
 use Rattle.sg_graph.specs.declared.program.Statement.{Statement}
-use Rattle.sg_graph.specs.declared.program.Statement.TheVariants.{New, Put, Get, PutD, GetD, Num}
+use Rattle.sg_graph.specs.declared.program.Statement.TheVariants.{New, Put, Get, PutD, GetD, Num, Drop}
 use Rattle.sg_graph.specs.declared.program.Item.{Item}
 use Rattle.sg_graph.specs.declared.program.Item.TheVariants.{One}
 use Rattle.sg_run.specs.Reading.{kinds_by}
@@ -41,6 +41,7 @@ after_same f g (Get d r i) h = put_same f g d IsRef h
 after_same f g (PutD r i s) h = h
 after_same f g (GetD d r i) h = put_same f g d IsInt h
 after_same f g (Num d n) h = put_same f g d IsInt h
+after_same f g (Drop r) h = put_same f g r IsRef h
 
 needs_same : (f g : ℕ → Kind) (s : Statement) → ((r : ℕ) → f r ≡ g r) → Needs f s → Needs g s
 needs_same f g (New d class) h n = tt
@@ -49,6 +50,7 @@ needs_same f g (Get d r i) h n = sym (h r) ∙ n
 needs_same f g (PutD r i s) h n = (sym (h r) ∙ n.0, sym (h s) ∙ n.1)
 needs_same f g (GetD d r i) h n = sym (h r) ∙ n
 needs_same f g (Num d n) h m = tt
+needs_same f g (Drop r) h m = tt
 
 pub misuse_same : (f g : ℕ → Kind) (ss : List Statement) → ((r : ℕ) → f r ≡ g r) → HasNoMisuse f ss → HasNoMisuse g ss
 misuse_same f g [] h m = tt

@@ -5,7 +5,7 @@ use Rattle.sg_words.specs.Address.{byte_at, word_at}
 use Rattle.sg_words.specs.Tags.{plain_word}
 use Rattle.sg_words.specs.Words.{put, Words}
 use Rattle.sg_graph.specs.declared.program.Statement.{Statement}
-use Rattle.sg_graph.specs.declared.program.Statement.TheVariants.{New, Put, Get, PutD, GetD, Num}
+use Rattle.sg_graph.specs.declared.program.Statement.TheVariants.{New, Put, Get, PutD, GetD, Num, Drop}
 use Rattle.sg_graph.specs.declared.program.Program.{Program}
 use Rattle.sg_graph.specs.declared.reports.Answer.{Answer}
 use Rattle.sg_graph.specs.declared.reports.Answer.TheVariants.{Null, Fine, Field, Full}
@@ -47,6 +47,7 @@ needs_ref kinds (Get d r i) test n e = subst (λ x. kinds x ≡ IsRef) (ap teste
 needs_ref kinds (PutD r i s) test n e = subst (λ x. kinds x ≡ IsRef) (ap tested_register e) n.0
 needs_ref kinds (GetD d r i) test n e = subst (λ x. kinds x ≡ IsRef) (ap tested_register e) n
 needs_ref kinds (Num d v) test n e = cc
+needs_ref kinds (Drop r) test n e = cc
 
 -- the kinds after a statement that failed
 pub kinds_emptied : (s : Statement) (entry : ℕ → Entry) (r : ℕ) → kinds_after (λ r. kind_of_entry (entry r)) s r ≡ kind_of_entry (emptied s entry r)
@@ -56,6 +57,7 @@ kinds_emptied (Get d r i) entry = put-along kind_of_entry (λ r. kind_of_entry (
 kinds_emptied (PutD r i s) entry = λ r. refl
 kinds_emptied (GetD d r i) entry = put-along kind_of_entry (λ r. kind_of_entry (entry r)) entry d IsInt (Int 0) (λ r. refl) refl
 kinds_emptied (Num d v) entry = put-along kind_of_entry (λ r. kind_of_entry (entry r)) entry d IsInt (Int 0) (λ r. refl) refl
+kinds_emptied (Drop r) entry = put-along kind_of_entry (λ r. kind_of_entry (entry r)) entry r IsRef (Ref 0) (λ r. refl) refl
 
 does_null : (p : Program) (g : Graph) (k : ℕ) (m : Mutator) (s : Statement) (rest : List Statement) → FindsNone m s → Does p g k m s rest Null (goes_on g k rest (emptied s m.register))
 does_null p g k m (New r c) rest f = (f, refl)
@@ -64,6 +66,7 @@ does_null p g k m (Get d r i) rest f = (f, refl)
 does_null p g k m (PutD r i s) rest f = (f, refl)
 does_null p g k m (GetD d r i) rest f = (f, refl)
 does_null p g k m (Num d v) rest f = (f, refl)
+does_null p g k m (Drop r) rest f = (f, refl)
 
 does_field : (p : Program) (g : Graph) (k : ℕ) (m : Mutator) (s : Statement) (rest : List Statement) → Misses p g m s → Does p g k m s rest Field (goes_on g k rest (emptied s m.register))
 does_field p g k m (New r c) rest f = (f, refl)
@@ -72,6 +75,7 @@ does_field p g k m (Get d r i) rest f = (f, refl)
 does_field p g k m (PutD r i s) rest f = (f, refl)
 does_field p g k m (GetD d r i) rest f = (f, refl)
 does_field p g k m (Num d v) rest f = (f, refl)
+does_field p g k m (Drop r) rest f = (f, refl)
 
 books_null : (p : Program) (b : Book) (k : ℕ) (s : Statement) → Books p b k s Null b
 books_null p b k (New r c) = refl
@@ -80,6 +84,7 @@ books_null p b k (Get d r i) = refl
 books_null p b k (PutD r i s) = refl
 books_null p b k (GetD d r i) = refl
 books_null p b k (Num d v) = refl
+books_null p b k (Drop r) = refl
 
 books_field : (p : Program) (b : Book) (k : ℕ) (s : Statement) → Books p b k s Field b
 books_field p b k (New r c) = refl
@@ -88,6 +93,7 @@ books_field p b k (Get d r i) = refl
 books_field p b k (PutD r i s) = refl
 books_field p b k (GetD d r i) = refl
 books_field p b k (Num d v) = refl
+books_field p b k (Drop r) = refl
 
 module _ (p : Program) (lay : Layout) (w : Words) (g : Graph) (b : Book) (said : ℕ → List Answer) (k : ℕ) (owner : ℕ → Owner) (t : Ground p lay w g b owner) where
   -- two standing objects that share a word are one
@@ -135,6 +141,7 @@ module _ (p : Program) (lay : Layout) (w : Words) (g : Graph) (b : Book) (said :
     regs_emptied (PutD r i s) = st.regs
     regs_emptied (GetD d r i) = put-along (word_of b.address) a.reg st.entry d 0 (Int 0) st.regs refl
     regs_emptied (Num d v) = put-along (word_of b.address) a.reg st.entry d 0 (Int 0) st.regs refl
+    regs_emptied (Drop r) = put-along (word_of b.address) a.reg st.entry r 0 (Ref 0) st.regs word_nil
 
     pub known_emptied : (s : Statement) (r : ℕ) → KnownEntry w g b (emptied s st.entry r)
     known_emptied (New r c) = put-all (λ _ e. KnownEntry w g b e) st.entry r (Ref 0) known_nil (λ j _. st.known j)
@@ -143,6 +150,7 @@ module _ (p : Program) (lay : Layout) (w : Words) (g : Graph) (b : Book) (said :
     known_emptied (PutD r i s) = st.known
     known_emptied (GetD d r i) = put-all (λ _ e. KnownEntry w g b e) st.entry d (Int 0) tt (λ j _. st.known j)
     known_emptied (Num d v) = put-all (λ _ e. KnownEntry w g b e) st.entry d (Int 0) tt (λ j _. st.known j)
+    known_emptied (Drop r) = put-all (λ _ e. KnownEntry w g b e) st.entry r (Ref 0) known_nil (λ j _. st.known j)
 
   module _ (a : Actor) (rest : List Statement) where
     -- the tested register holds a name
@@ -235,6 +243,10 @@ module _ (p : Program) (lay : Layout) (w : Words) (g : Graph) (b : Book) (said :
     sets_number d n st = decided p lay w g b said k w g b (unchanged p lay w g b said k owner t) _ (Num d n) rest st (put st.entry d (Int n)) Fine (put a.reg d n) Fine st.at
         refl refl refl refl (put-along (word_of b.address) a.reg st.entry d n (Int n) st.regs refl) (put-all (λ _ e. KnownEntry w g b e) st.entry d (Int n) tt (λ j _. st.known j)) refl tt
         (put-along kind_of_entry (λ r. kind_of_entry (st.entry r)) st.entry d IsInt (Int n) (λ r. refl) refl)
+
+    pub clears : (r : ℕ) → Stands p lay w g b said k (before a (Drop r) rest) → Kept p lay w g b said k true w (over a rest (put a.reg r 0) Fine)
+    clears r st = decided p lay w g b said k w g b (unchanged p lay w g b said k owner t) _ (Drop r) rest st (emptied (Drop r) st.entry) Fine (put a.reg r 0) Fine st.at
+        refl refl refl refl (regs_emptied _ st (Drop r)) (known_emptied _ st (Drop r)) refl tt (kinds_emptied (Drop r) st.entry)
 
     -- the search for a fragment
     pub searches : (r class : ℕ) → a.to < a.from + words_of_class p class → 0 < lay.fragments → Stands p lay w g b said k (before a (New r class) rest) → Kept p lay w g b said k false w (within a rest (Look r class 0))

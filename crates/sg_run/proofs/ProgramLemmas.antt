@@ -1,6 +1,6 @@
 -- A program by its parts.
-use Rattle.std.proofs.Common.{◌≡◌, ℕ, zero, suc, ◌<◌, ◌≤◌, true, Option, Some, None, List, [], ◌∷◌, ◌++◌, length, refl, sym, ap, subst, ◌∙◌, inl, inr, append_assoc, arith}
-use Rattle.std.specs.Prelude.{codes, slice_get}
+use Rattle.std.proofs.Common.{◌≡◌, ℕ, zero, suc, ◌<◌, ◌≤◌, true, Option, Some, None, List, [], ◌∷◌, ◌++◌, length, refl, sym, ap, subst, ◌∙◌, append_assoc, arith}
+use Rattle.std.specs.Prelude.{slice_get}
 use Rattle.std.proofs.lemmas.Option.{same_Some}
 use Rattle.sg_graph.specs.Epoch.{Pairwise}
 use Rattle.sg_graph.specs.Scripts.{written_out, script_of, statements_at}
@@ -10,9 +10,9 @@ use Rattle.sg_graph.specs.declared.program.Class.{Class}
 use Rattle.sg_graph.specs.declared.program.Item.{Item}
 use Rattle.sg_graph.specs.declared.program.Script.{Script}
 use Rattle.sg_graph.specs.declared.program.Program.{Program}
-use Rattle.sg_run.specs.Text.{content, head_line, mutator_line, end_line, defaults, IsNumber, IsClassLine, IsItemLine, AreScripts, AreSettings}
-use Rattle.sg_run.specs.Accepted.{IsAcceptedAs}
-use Rattle.sg_run.specs.Reading.{Only, proper, Declares, DeclaresOnly, AreLimited, IsBody, IsNursery, Sets, Begins, BeginsOnly, program_of}
+use Rattle.sg_run.specs.Text.{content, head_line, mutator_line, end_line, IsClassLine, IsItemLine, AreScripts}
+use Rattle.sg_run.specs.Accepted.{AreWithinLimits, IsAcceptedAs}
+use Rattle.sg_run.specs.Reading.{Only, proper, Declares, DeclaresOnly, AreLimited, IsBody, Begins, BeginsOnly, program_of}
 
 joined : (settings front body : List (List (List ℕ))) → head_line ∷ (settings ++ (front ++ mutator_line ∷ (body ++ end_line ∷ []))) ≡ head_line ∷ settings ++ front ++ (mutator_line ∷ body ++ end_line ∷ [])
 joined settings front body = sym (append_assoc (head_line ∷ settings) front (mutator_line ∷ (body ++ end_line ∷ [])))
@@ -29,21 +29,17 @@ body_parts classes [] items h = absurd h
 body_parts classes (line ∷ lines) [] h = ([], ap (λ (l : List (List ℕ)). l ∷ lines) h.0 ∙ ap (λ (ls : List (List (List ℕ))). end_line ∷ ls) h.1, tt)
 body_parts classes (line ∷ lines) (item ∷ items) h = let k = body_parts classes lines items h.1 in (line ∷ k.0, ap (λ (ls : List (List (List ℕ))). line ∷ ls) k.1, (h.0, k.2))
 
-sets_parts : (lines : List (List (List ℕ))) (n : ℕ) (rest : List (List (List ℕ))) → Sets lines n rest → (settings : List (List (List ℕ))) × (lines ≡ settings ++ rest) × AreSettings settings (record defaults { nursery = n })
-sets_parts lines n rest (inl k) = ([], k.0, ap (λ (m : ℕ). record defaults { nursery = m }) k.1)
-sets_parts lines n rest (inr k) = ((codes "nursery" ∷ k.0 ∷ []) ∷ [], k.1, (k.0, n, refl, k.2, refl))
+one_script : (config : Config) (classes : List Class) (items : List Item) → HasNoMisuse first_kinds (written_out items) → (k : ℕ) → k < 1 → HasNoMisuse first_kinds (script_of (program_of config classes items) k)
+one_script config classes items kinds zero lt = kinds
+one_script config classes items kinds (suc k) lt = absurd (omega arith)
 
-one_script : (n : ℕ) (classes : List Class) (items : List Item) → HasNoMisuse first_kinds (written_out items) → (k : ℕ) → k < 1 → HasNoMisuse first_kinds (script_of (program_of n classes items) k)
-one_script n classes items kinds zero lt = kinds
-one_script n classes items kinds (suc k) lt = absurd (omega arith)
-
-pub accepted : (bytes first second : List ℕ) (n : ℕ) (classes : List Class) (items : List Item) → length bytes ≤ 1048576
-    → (proper bytes ≡ proper first) × Begins (content bytes) n (content first) × IsNursery n
+pub accepted : (bytes first second : List ℕ) (config : Config) (classes : List Class) (items : List Item) → length bytes ≤ 1048576
+    → (proper bytes ≡ proper first) × Begins (content bytes) config (content first) × AreWithinLimits config
     → (proper first ≡ proper second) × Declares (content first) classes (content second) × AreLimited classes
     → (proper second ≡ true) × IsBody classes (content second) items
-    → HasNoMisuse first_kinds (written_out items) → IsAcceptedAs bytes (program_of n classes items)
-accepted bytes first second n classes items short head declared body kinds =
-    let settings = sets_parts head.1.0 n (content first) head.1.2 in
+    → HasNoMisuse first_kinds (written_out items) → IsAcceptedAs bytes (program_of config classes items)
+accepted bytes first second config classes items short head declared body kinds =
+    let settings = head.1.2 in
     let front = declares_parts (content first) classes (content second) declared.1 in
     let script = body_parts classes (content second) items body.1 in
     let order : content bytes ≡ head_line ∷ settings.0 ++ front.0 ++ (mutator_line ∷ script.0 ++ end_line ∷ []) =
@@ -67,30 +63,28 @@ accepted bytes first second n classes items short head declared body kinds =
       };
       distinct = declared.2.distinct;
       limits = record {
-        nursery_least = head.2.0;
-        nursery_most = head.2.1;
-        nursery_even = head.2.2;
+        settings = head.2;
         classes = declared.2.few;
         fields = declared.2.small;
         mutators_least = omega arith;
         mutators_most = omega arith;
       };
-      kinds = one_script n classes items kinds;
+      kinds = one_script config classes items kinds;
     }
 
 -- ---- to the parts
 
 -- what an accepted program consists of
 pub record Parts (bytes : List ℕ) : Type 0 where
-  pub n : ℕ
+  pub config : Config
   pub classes : List Class
   pub items : List Item
   pub first : List (List (List ℕ))
   pub second : List (List (List ℕ))
   pub short : length bytes ≤ 1048576
   pub proper : proper bytes ≡ true
-  pub begins : Begins (content bytes) n first
-  pub nursery : IsNursery n
+  pub begins : Begins (content bytes) config first
+  pub within : AreWithinLimits config
   pub declares : Declares first classes second
   pub limited : AreLimited classes
   pub body : IsBody classes second items
@@ -108,13 +102,6 @@ body_join classes [] (item ∷ items) h = absurd h
 body_join classes (line ∷ body) [] h = absurd h
 body_join classes (line ∷ body) (item ∷ items) h = (h.0, body_join classes body items h.1)
 
-sets_join : (settings : List (List (List ℕ))) (config : Config) (rest : List (List (List ℕ))) → AreSettings settings config → Sets (settings ++ rest) config.nursery rest
-sets_join [] config rest h = inl (refl, ap (λ (c : Config). c.nursery) h)
-sets_join (line ∷ []) config rest h =
-    let size : config.nursery ≡ h.1 = ap (λ (c : Config). c.nursery) h.4 in
-    inr (h.0, ap (λ (l : List (List ℕ)). l ∷ rest) h.2, subst (λ (n : ℕ). IsNumber h.0 n) (sym size) h.3)
-sets_join (line ∷ more ∷ lines) config rest h = absurd h
-
 scripts_one : (classes : List Class) (lines : List (List (List ℕ))) (mutators : List Script) → AreScripts classes lines mutators → 1 ≤ length mutators → length mutators ≤ 1
     → (script : Script) × (mutators ≡ script ∷ []) × (body : List (List (List ℕ))) × (lines ≡ mutator_line ∷ body ++ end_line ∷ []) × Pairwise (IsItemLine classes) body script.items
 scripts_one classes lines [] h least most = absurd (omega arith)
@@ -128,15 +115,15 @@ parts bytes p a =
     let order : content bytes ≡ head_line ∷ (r.settings ++ (r.classes ++ mutator_line ∷ (one.2 ++ end_line ∷ []))) =
     r.in_order ∙ ap (λ (ls : List (List (List ℕ))). head_line ∷ r.settings ++ r.classes ++ ls) one.3 ∙ sym (joined r.settings r.classes one.2) in
     record {
-      n = p.config.nursery;
+      config = p.config;
       classes = p.classes;
       items = one.0.items;
       first = r.classes ++ mutator_line ∷ (one.2 ++ end_line ∷ []);
       second = one.2 ++ end_line ∷ [];
       short = a.short;
       proper = a.reads.proper;
-      begins = (r.settings ++ (r.classes ++ mutator_line ∷ (one.2 ++ end_line ∷ [])), order, sets_join r.settings p.config (r.classes ++ mutator_line ∷ (one.2 ++ end_line ∷ [])) r.are_settings);
-      nursery = (a.limits.nursery_least, a.limits.nursery_most, a.limits.nursery_even);
+      begins = (r.settings ++ (r.classes ++ mutator_line ∷ (one.2 ++ end_line ∷ [])), order, (r.settings, refl, r.are_settings));
+      within = a.limits.settings;
       declares = declares_join r.classes p.classes (one.2 ++ end_line ∷ []) r.are_classes;
       limited = record { few = a.limits.classes; small = a.limits.fields; distinct = a.distinct };
       body = body_join p.classes one.2 one.0.items one.4;
@@ -145,41 +132,41 @@ parts bytes p a =
 
 -- ---- a step that finds nothing, after those that found something
 
-pub no_head : (bytes : List ℕ) → BeginsOnly bytes (λ n rest. ⊥) → Parts bytes → ⊥
-no_head bytes only p = only p.n p.first p.classes p.second p.proper p.nursery p.begins p.declares
+pub no_head : (bytes : List ℕ) → BeginsOnly bytes (λ config rest. ⊥) → Parts bytes → ⊥
+no_head bytes only p = only p.config p.first p.classes p.second p.proper p.within p.begins p.declares
 
 -- the head and the settings were found
-pub record HasHead (bytes : List ℕ) (n : ℕ) (first : List ℕ) : Type 0 where
+pub record HasHead (bytes : List ℕ) (config : Config) (first : List ℕ) : Type 0 where
   pub proper : proper bytes ≡ proper first
-  pub only : BeginsOnly bytes (λ m rest. (n ≡ m) × (content first ≡ rest))
+  pub only : BeginsOnly bytes (λ other rest. (config ≡ other) × (content first ≡ rest))
 
-declares_first : (bytes : List ℕ) (n : ℕ) (first : List ℕ) → HasHead bytes n first → (p : Parts bytes) → (proper first ≡ true) × Declares (content first) p.classes p.second
-declares_first bytes n first head p =
-    let same = head.only p.n p.first p.classes p.second p.proper p.nursery p.begins p.declares in
+declares_first : (bytes : List ℕ) (config : Config) (first : List ℕ) → HasHead bytes config first → (p : Parts bytes) → (proper first ≡ true) × Declares (content first) p.classes p.second
+declares_first bytes config first head p =
+    let same = head.only p.config p.first p.classes p.second p.proper p.within p.begins p.declares in
     (sym head.proper ∙ p.proper, subst (λ (lines : List (List (List ℕ))). Declares lines p.classes p.second) (sym same.1) p.declares)
 
-pub no_classes : (bytes : List ℕ) (n : ℕ) (first : List ℕ) → HasHead bytes n first → DeclaresOnly first (λ classes lines. ⊥) → Parts bytes → ⊥
-no_classes bytes n first head only p = let d = declares_first bytes n first head p in only p.classes p.second d.0 p.limited d.1
+pub no_classes : (bytes : List ℕ) (config : Config) (first : List ℕ) → HasHead bytes config first → DeclaresOnly first (λ classes lines. ⊥) → Parts bytes → ⊥
+no_classes bytes config first head only p = let d = declares_first bytes config first head p in only p.classes p.second d.0 p.limited d.1
 
 -- the classes were found
 pub record HasClasses (first : List ℕ) (classes : List Class) (second : List ℕ) : Type 0 where
   pub proper : proper first ≡ proper second
   pub only : DeclaresOnly first (λ others lines. (classes ≡ others) × (content second ≡ lines))
 
-body_second : (bytes : List ℕ) (n : ℕ) (first : List ℕ) (classes : List Class) (second : List ℕ) → HasHead bytes n first → HasClasses first classes second → (p : Parts bytes) → (proper second ≡ true) × IsBody classes (content second) p.items
-body_second bytes n first classes second head declared p =
-    let d = declares_first bytes n first head p in
+body_second : (bytes : List ℕ) (config : Config) (first : List ℕ) (classes : List Class) (second : List ℕ) → HasHead bytes config first → HasClasses first classes second → (p : Parts bytes) → (proper second ≡ true) × IsBody classes (content second) p.items
+body_second bytes config first classes second head declared p =
+    let d = declares_first bytes config first head p in
     let same = declared.only p.classes p.second d.0 p.limited d.1 in
     (sym declared.proper ∙ d.0, rw (same.0, same.1) p.body)
 
-pub no_items : (bytes : List ℕ) (n : ℕ) (first : List ℕ) (classes : List Class) (second : List ℕ) → HasHead bytes n first → HasClasses first classes second
+pub no_items : (bytes : List ℕ) (config : Config) (first : List ℕ) (classes : List Class) (second : List ℕ) → HasHead bytes config first → HasClasses first classes second
     → Only (λ (items : List Item). (proper second ≡ true) × IsBody classes (content second) items) None → Parts bytes → ⊥
-no_items bytes n first classes second head declared only p = let found = only p.items (body_second bytes n first classes second head declared p) in cc
+no_items bytes config first classes second head declared only p = let found = only p.items (body_second bytes config first classes second head declared p) in cc
 
-pub misused : (bytes : List ℕ) (n : ℕ) (first : List ℕ) (classes : List Class) (second : List ℕ) (items : List Item) → HasHead bytes n first → HasClasses first classes second
+pub misused : (bytes : List ℕ) (config : Config) (first : List ℕ) (classes : List Class) (second : List ℕ) (items : List Item) → HasHead bytes config first → HasClasses first classes second
     → Only (λ (items : List Item). (proper second ≡ true) × IsBody classes (content second) items) (Some items) → (HasNoMisuse first_kinds (written_out items) → ⊥) → Parts bytes → ⊥
-misused bytes n first classes second items head declared only misuse p =
-    let found = only p.items (body_second bytes n first classes second head declared p) in
+misused bytes config first classes second items head declared only misuse p =
+    let found = only p.items (body_second bytes config first classes second head declared p) in
     let same : items ≡ p.items = same_Some items p.items found in
     misuse (rw same p.kinds)
 

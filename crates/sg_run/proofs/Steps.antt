@@ -1,9 +1,11 @@
 -- What a piece of code did is a list of next steps of its mutator: one lemma for each way through a statement, over plain data.
-use Rattle.std.proofs.Common.{◌≡◌, ℕ, ◌+◌, ◌<◌, ◌≤◌, Bool, true, false, Some, List, [], ◌∷◌, ◌++◌, length, set, get_or, refl, ap, ◌∙◌, sym, subst, inl, inr, arith, get_or-set_same, get_or-set_other}
+use Rattle.std.proofs.Common.{◌≡◌, ℕ, ◌+◌, ◌<◌, ◌≤◌, Bool, true, false, Option, Some, None, List, [], ◌∷◌, ◌++◌, length, set, get_or, refl, ap, ◌∙◌, sym, subst, inl, inr, arith, get_or-set_same, get_or-set_other}
 use Rattle.std.proofs.Math.Path.{fun_ext}
-use Rattle.std.proofs.lemmas.Bool.{cases_eq}
+use Rattle.std.proofs.lemmas.Bool.{cases_eq, true≢false}
 use Rattle.sg_words.specs.Address.{byte_at}
-use Rattle.sg_words.specs.Tags.{plain_word}
+use Rattle.sg_words.specs.Tags.{plain_word, Reads}
+use Rattle.sg_words.specs.declared.tags.Tag.{Tag}
+use Rattle.sg_words.specs.declared.tags.Tag.TheVariants.{Plain, Forwarded, Pinned, Cemented}
 use Rattle.sg_words.specs.declared.steps.Place.TheVariants.{Next, Word}
 use Rattle.sg_words.specs.declared.steps.Step.{Step}
 use Rattle.sg_words.specs.declared.steps.Step.TheVariants.{Begin, Load}
@@ -11,14 +13,14 @@ use Rattle.sg_words.specs.declared.steps.Tick.{Tick}
 use Rattle.sg_words.specs.Words.{put, Words, write, Saw, after_step, after, Legal}
 use Rattle.sg_graph.specs.declared.program.Program.{Program}
 use Rattle.sg_graph.specs.declared.program.Statement.{Statement}
-use Rattle.sg_graph.specs.declared.program.Statement.TheVariants.{New, Put, Get, PutD, GetD, Num}
+use Rattle.sg_graph.specs.declared.program.Statement.TheVariants.{New, Put, Get, PutD, GetD, Num, Drop}
 use Rattle.sg_graph.specs.declared.reports.Answer.TheVariants.{At, Null, Number, Fine, Field}
 use Rattle.sg_graph.specs.Scripts.{fields_of}
 use Rattle.sg_graph.specs.Statements.{Test, test_of}
 use Rattle.sg_graph.specs.Book.{words_of_class}
 use Rattle.sg_run.specs.declared.space.Space.{Space}
 use Rattle.sg_run.specs.Rules.{Layout, Actor, Access, Look, Claim, StoreLength, before, within, over, owning, cleared, reference_answer, taken, object_in, Comes, Follows, Went}
-use Rattle.sg_run.specs.Rules.Comes.{test_null, test_begins, test_fails, loads_tag, loads_length, fails_tag, fails_length, put_stores, putd_stores, get_loads, getd_loads, num_sets, new_bumps, new_looks, look_finds, look_goes_on, look_ends, claim_wins, stores_length, stores_tag}
+use Rattle.sg_run.specs.Rules.Comes.{test_null, test_begins, test_fails, loads_tag, loads_length, fails_tag, fails_length, put_stores, putd_stores, get_loads, getd_loads, num_sets, drop_clears, new_bumps, new_looks, look_finds, look_goes_on, look_ends, claim_wins, stores_length, stores_tag}
 use Rattle.sg_run.specs.Views.{words_of, layout_of, class_at, IsMeasured, LooksFrom, Searches}
 use Rattle.sg_run.proofs.Puts.{put-at, put-other}
 
@@ -28,6 +30,34 @@ put_set xs k v l = fun_ext (λ j. elim (cases_eq j k) [
   | inl e ↦ ap (λ i. get_or (set xs k v) i 0) e ∙ get_or-set_same xs k v 0 l ∙ sym (put-at _ k v j e)
   | inr n ↦ get_or-set_other xs k j v 0 n ∙ sym (put-other _ k v j n)
 ])
+
+abbrev is_plain : Option Tag → Bool
+is_plain None = false
+is_plain (Some (Plain c)) = true
+is_plain (Some (Forwarded a)) = false
+is_plain (Some (Pinned c)) = false
+is_plain (Some (Cemented c)) = false
+
+-- what reads the word of a plain object is its plain tag
+plain_read : (o : Option Tag) (word class : ℕ) → class < 256 → plain_word class ≡ word → Reads o word → is_plain o ≡ true
+plain_read None word class l e r = absurd (r (Plain class) l e)
+plain_read (Some (Plain c)) word class l e r = refl
+plain_read (Some (Forwarded a)) word class l e r = absurd (omega (arith, r.0, r.1, e))
+plain_read (Some (Pinned c)) word class l e r = absurd (omega (arith, r.1, e))
+plain_read (Some (Cemented c)) word class l e r = absurd (omega (arith, r.1, e))
+
+module _ (o : Option Tag) (word class : ℕ) (l : class < 256) (e : plain_word class ≡ word) (r : Reads o word) where
+  pub not_no_tag : o ≡ None → ⊥
+  not_no_tag q = let p = plain_read o word class l e r in true≢false (sym p ∙ ap is_plain q)
+
+  pub not_forwarded : (tag : Tag) (a : ℕ) → o ≡ Some tag → tag ≡ Forwarded a → ⊥
+  not_forwarded tag a q f = true≢false (sym (plain_read o word class l e r) ∙ ap is_plain (q ∙ ap (λ (t : Tag). Some t) f))
+
+  pub not_pinned : (tag : Tag) (a : ℕ) → o ≡ Some tag → tag ≡ Pinned a → ⊥
+  not_pinned tag a q f = true≢false (sym (plain_read o word class l e r) ∙ ap is_plain (q ∙ ap (λ (t : Tag). Some t) f))
+
+  pub not_cemented : (tag : Tag) (a : ℕ) → o ≡ Some tag → tag ≡ Cemented a → ⊥
+  not_cemented tag a q f = true≢false (sym (plain_read o word class l e r) ∙ ap is_plain (q ∙ ap (λ (t : Tag). Some t) f))
 
 -- no step
 pub went_none : (p : Program) (lay : Layout) (a b : Actor) (w v : Words) → b ≡ a → v ≡ w → Went p lay a w b v
@@ -76,6 +106,9 @@ module _ (p : Program) (lay : Layout) (a : Actor) (rest : List Statement) (w : W
   module _ (going : w.stop ≡ 0) where
     pub went_num : (d n : ℕ) (b : Actor) → b ≡ over a rest (put a.reg d n) Fine → Went p lay (before a (Num d n) rest) w b w
     went_num d n b e = went_last p lay _ _ b w w (Begin 0 0 (w.word 0) (w.word 1)) true (num_sets a rest d n 0 (w.word 0) (w.word 1)) (going, refl, refl) refl e
+
+    pub went_drop : (r : ℕ) (b : Actor) → b ≡ over a rest (put a.reg r 0) Fine → Went p lay (before a (Drop r) rest) w b w
+    went_drop r b e = went_last p lay _ _ b w w (Begin 0 0 (w.word 0) (w.word 1)) true (drop_clears a rest r 0 (w.word 0) (w.word 1)) (going, refl, refl) refl e
 
     -- the ways through an object test
     module _ (s : Statement) (test : Test) (is : test_of s ≡ Some test) where

@@ -93,6 +93,12 @@ pub cut_some : (bytes line rest : List ℕ) (n : ℕ) → n ≡ position_or_len 
 cut_some bytes line rest n n-is line-is rest-is some =
     rw (whole_front rest, line-is, rest-is) (cut_more bytes n n-is (rw (← rest-is) (omega arith)))
 
+pub two : {A B : Type 0} (f : A → B) (words : List A) (d : A) → 2 ≤ length words → length words < 3 → map f words ≡ f (get_or words 0 d) ∷ f (get_or words 1 d) ∷ []
+two f [] d least most = absurd (omega arith)
+two f (x ∷ []) d least most = absurd (omega arith)
+two f (x ∷ y ∷ []) d least most = refl
+two f (x ∷ y ∷ z ∷ zs) d least most = absurd (omega arith)
+
 pub three : {A B : Type 0} (f : A → B) (words : List A) (d : A) → 3 ≤ length words → length words < 4 → map f words ≡ f (get_or words 0 d) ∷ f (get_or words 1 d) ∷ f (get_or words 2 d) ∷ []
 three f [] d least most = absurd (omega arith)
 three f (x ∷ []) d least most = absurd (omega arith)

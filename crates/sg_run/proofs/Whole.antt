@@ -11,11 +11,11 @@ use Rattle.sg_graph.specs.Graph.{Graph}
 use Rattle.sg_graph.specs.Book.{Book}
 use Rattle.sg_graph.specs.Epoch.{Said, Explains, answers_of}
 use Rattle.sg_run.specs.Rules.{Layout, Actor, Comes, Follows}
-use Rattle.sg_run.specs.Rules.Comes.{test_null, test_begins, test_fails, loads_tag, loads_length, fails_tag, fails_length, put_stores, putd_stores, get_loads, getd_loads, num_sets, new_bumps, new_looks, look_finds, look_goes_on, look_ends, claim_wins, stores_length, stores_tag}
+use Rattle.sg_run.specs.Rules.Comes.{test_null, test_begins, test_fails, loads_tag, loads_length, fails_tag, fails_length, put_stores, putd_stores, get_loads, getd_loads, num_sets, drop_clears, new_bumps, new_looks, look_finds, look_goes_on, look_ends, claim_wins, stores_length, stores_tag}
 use Rattle.sg_run.proofs.Puts.{put-at, put-other, put-all, part-same, part-other, part-own, part-none, ticks-own}
 use Rattle.sg_run.proofs.Relation.{Owner, Ground, Stands, Moves, Kept, World}
 use Rattle.sg_run.proofs.Frame.{stands_later}
-use Rattle.sg_run.proofs.Loads.{nulls, begins, fails, sees_tag, sees_length, sees_failing_tag, tells_field, sets_number, searches, finds_room, finds_small, tells_full}
+use Rattle.sg_run.proofs.Loads.{nulls, begins, fails, sees_tag, sees_length, sees_failing_tag, tells_field, sets_number, clears, searches, finds_room, finds_small, tells_full}
 use Rattle.sg_run.proofs.Accesses.{puts, puts_number, gets, gets_number}
 use Rattle.sg_run.proofs.Places.{bumps, claims, writes_length, writes_tag}
 
@@ -34,6 +34,7 @@ module _ (p : Program) (lay : Layout) (w : Words) (g : Graph) (b : Book) (said :
   kept _ _ _ _ (get_loads a rest d r i v) saw st = gets p lay w g b said k owner t a rest d r i v saw st
   kept _ _ _ _ (getd_loads a rest d r i v) saw st = gets_number p lay w g b said k owner t a rest d r i v saw st
   kept _ _ _ _ (num_sets a rest d n x tag len) saw st = sets_number p lay w g b said k owner t a rest d n st
+  kept _ _ _ _ (drop_clears a rest r x tag len) saw st = clears p lay w g b said k owner t a rest r st
   kept _ _ _ _ (new_bumps a rest r class x tag len l) saw st = bumps p lay w g b said k owner t a rest r class l st
   kept _ _ _ _ (new_looks a rest r class x tag len l f) saw st = searches p lay w g b said k owner t a rest r class l f st
   kept _ _ _ _ (look_finds a rest r class f next l) saw st = finds_room p lay w g b said k owner t a rest r class f next l st

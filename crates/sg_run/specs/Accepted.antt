@@ -3,6 +3,7 @@ use Rattle.std.specs.Prelude.{◌≡◌, ℕ, ◌%◌, ◌<◌, ◌≤◌, List,
 use Rattle.std.specs.List.{AllByRecursion}
 use Rattle.sg_graph.specs.declared.shapes.Descriptor.{Descriptor}
 use Rattle.sg_graph.specs.declared.shapes.Descriptor.TheVariants.{PtrFree, Bitmap}
+use Rattle.sg_graph.specs.declared.program.Config.{Config}
 use Rattle.sg_graph.specs.declared.program.Class.{Class}
 use Rattle.sg_graph.specs.declared.program.Program.{Program}
 use Rattle.sg_graph.specs.Scripts.{script_of}
@@ -17,11 +18,24 @@ most_fields (Bitmap bits) = 60
 abbrev pub IsSmallClass : Class → Type 0
 IsSmallClass class = class.shape.fields ≤ most_fields class.shape.kind
 
+-- the limits of the settings
+pub record AreWithinLimits (config : Config) : Type 0 where
+  pub nursery_least : 256 ≤ config.nursery
+  pub nursery_most : config.nursery ≤ 65536
+  pub nursery_even : config.nursery % 64 ≡ 0
+  pub blocks_least : 1 ≤ config.blocks
+  pub blocks_most : config.blocks ≤ 4096
+  pub pages_most : config.pages ≤ 1024
+  pub buffer_least : 16 ≤ config.buffer
+  pub buffer_most : config.buffer ≤ 1024
+  pub workers_least : 1 ≤ config.workers
+  pub workers_most : config.workers ≤ 8
+  pub cement_least : 1 ≤ config.cement
+  pub cement_most : config.cement ≤ 1000
+
 -- the limits of a program
 pub record IsWithinLimits (p : Program) : Type 0 where
-  pub nursery_least : 256 ≤ p.config.nursery
-  pub nursery_most : p.config.nursery ≤ 65536
-  pub nursery_even : p.config.nursery % 64 ≡ 0
+  pub settings : AreWithinLimits p.config
   pub classes : length p.classes ≤ 256
   pub fields : AllByRecursion IsSmallClass p.classes
   pub mutators_least : 1 ≤ length p.mutators

@@ -1,14 +1,16 @@
 -- What the steps of the reading answer.
-use Rattle.std.specs.Prelude.{◌≡◌, ℕ, ◌<◌, ◌≤◌, ◌%◌, ◌⊎◌, Bool, true, false, not, if◌then◌else◌, List, [], ◌∷◌, length, filter, slice_index_or, ◌||◌, ◌&&◌, Option, Some, codes}
+use Rattle.std.specs.Prelude.{◌≡◌, ℕ, ◌<◌, ◌≤◌, ◌⊎◌, Bool, true, false, not, if◌then◌else◌, List, [], ◌∷◌, length, filter, slice_index_or, ◌||◌, ◌&&◌, ◌++◌, Option, Some, None}
 use Rattle.std.specs.List.{list_all, AllByRecursion}
+use Rattle.std.specs.Option.{unwrap_or}
 use Rattle.sg_graph.specs.Kinds.{Kind}
 use Rattle.sg_graph.specs.Kinds.Kind.{IsRef, IsInt}
 use Rattle.sg_graph.specs.declared.shapes.Shape.{Shape}
+use Rattle.sg_graph.specs.declared.program.Config.{Config}
 use Rattle.sg_graph.specs.declared.program.Class.{Class}
 use Rattle.sg_graph.specs.declared.program.Item.{Item}
 use Rattle.sg_graph.specs.declared.program.Program.{Program}
-use Rattle.sg_run.specs.Text.{parted_by, is_blank, is_printable, is_empty, is_proper, lines_of, words_of, content, head_line, mutator_line, end_line, IsNumber, IsPlainShape, IsMapShape, IsClassLine, IsClassName, IsItemLine, defaults}
-use Rattle.sg_run.specs.Accepted.{most_fields, IsSmallClass}
+use Rattle.sg_run.specs.Text.{parted_by, is_blank, is_printable, is_empty, is_proper, lines_of, words_of, content, head_line, mutator_line, end_line, IsPlainShape, IsMapShape, IsClassLine, IsClassName, IsItemLine, IsSettingName, AreSettings}
+use Rattle.sg_run.specs.Accepted.{most_fields, IsSmallClass, AreWithinLimits}
 
 -- whatever has the property is the answer
 abbrev pub Only : {A : Type 0} → (A → Type 0) → Option A → Type 0
@@ -71,30 +73,43 @@ IsBody classes [] items = ⊥
 IsBody classes (line ∷ lines) [] = (line ≡ end_line) × (lines ≡ [])
 IsBody classes (line ∷ lines) (item ∷ items) = IsItemLine classes line item × IsBody classes lines items
 
--- a nursery may have so many words
-abbrev pub IsNursery : ℕ → Type 0
-IsNursery n = (256 ≤ n) × (n ≤ 65536) × (n % 64 ≡ 0)
+-- the line `NAME N` of setting number `at`, at `N`
+abbrev pub IsSettingAt : List (List ℕ) → ℕ → List ℕ → Type 0
+IsSettingAt line at word = (name : List ℕ) × IsSettingName name at × (line ≡ name ∷ word ∷ [])
 
--- the lines begin with those of the settings, by which the nursery has n words
-abbrev pub Sets : List (List (List ℕ)) → ℕ → List (List (List ℕ)) → Type 0
-Sets lines n rest = ((lines ≡ rest) × (n ≡ 4096)) ⊎ ((word : List ℕ) × (lines ≡ (codes "nursery" ∷ word ∷ []) ∷ rest) × IsNumber word n)
+-- the settings by what was told of each, in the order of their names
+abbrev pub config_of : List (Option ℕ) → Config
+config_of told = record {
+  nursery = unwrap_or (slice_index_or told 0 None) 4096;
+  blocks = unwrap_or (slice_index_or told 1 None) 64;
+  pages = unwrap_or (slice_index_or told 2 None) 64;
+  buffer = unwrap_or (slice_index_or told 3 None) 64;
+  workers = unwrap_or (slice_index_or told 4 None) 1;
+  cement = unwrap_or (slice_index_or told 5 None) 4;
+}
+
+-- the lines begin with those of the settings
+abbrev pub Sets : List (List (List ℕ)) → Config → List (List (List ℕ)) → Type 0
+Sets lines config rest = (settings : List (List (List ℕ))) × (lines ≡ settings ++ rest) × AreSettings settings config
 
 -- the lines begin with the head and the settings
-abbrev pub Begins : List (List (List ℕ)) → ℕ → List (List (List ℕ)) → Type 0
-Begins lines n rest = (tail : List (List (List ℕ))) × (lines ≡ head_line ∷ tail) × Sets tail n rest
+abbrev pub Begins : List (List (List ℕ)) → Config → List (List (List ℕ)) → Type 0
+Begins lines config rest = (tail : List (List (List ℕ))) × (lines ≡ head_line ∷ tail) × Sets tail config rest
 
 -- if the bytes are proper and begin with settings before classes, these and the lines behind them are as P says
-abbrev pub SetsOnly : List ℕ → (ℕ → List (List (List ℕ)) → Type 0) → Type 0
-SetsOnly bytes P = (n : ℕ) (rest : List (List (List ℕ))) (classes : List Class) (lines : List (List (List ℕ))) → proper bytes ≡ true → IsNursery n → Sets (content bytes) n rest → Declares rest classes lines → P n rest
+abbrev pub SetsOnly : List ℕ → (Config → List (List (List ℕ)) → Type 0) → Type 0
+SetsOnly bytes P =
+    (config : Config) (rest : List (List (List ℕ))) (classes : List Class) (lines : List (List (List ℕ))) → proper bytes ≡ true → AreWithinLimits config → Sets (content bytes) config rest → Declares rest classes lines → P config rest
 
 -- the same for the head and the settings
-abbrev pub BeginsOnly : List ℕ → (ℕ → List (List (List ℕ)) → Type 0) → Type 0
-BeginsOnly bytes P = (n : ℕ) (rest : List (List (List ℕ))) (classes : List Class) (lines : List (List (List ℕ))) → proper bytes ≡ true → IsNursery n → Begins (content bytes) n rest → Declares rest classes lines → P n rest
+abbrev pub BeginsOnly : List ℕ → (Config → List (List (List ℕ)) → Type 0) → Type 0
+BeginsOnly bytes P =
+    (config : Config) (rest : List (List (List ℕ))) (classes : List Class) (lines : List (List (List ℕ))) → proper bytes ≡ true → AreWithinLimits config → Begins (content bytes) config rest → Declares rest classes lines → P config rest
 
 -- the kinds by flags, which are true for numbers
 abbrev pub kinds_by : List Bool → ℕ → Kind
 kinds_by numbers r = if slice_index_or numbers r false then IsInt else IsRef
 
 -- the program of one mutator
-abbrev pub program_of : ℕ → List Class → List Item → Program
-program_of n classes items = record { config = record defaults { nursery = n }; classes = classes; mutators = record { items = items } ∷ [] }
+abbrev pub program_of : Config → List Class → List Item → Program
+program_of config classes items = record { config = config; classes = classes; mutators = record { items = items } ∷ [] }

@@ -9,7 +9,7 @@ use Rattle.sg_words.specs.declared.steps.Step.TheVariants.{Begin, Load, Store, W
 use Rattle.sg_words.specs.declared.steps.Tick.{Tick}
 use Rattle.sg_words.specs.Words.{put, Words, after, Legal}
 use Rattle.sg_graph.specs.declared.program.Statement.{Statement}
-use Rattle.sg_graph.specs.declared.program.Statement.TheVariants.{New, Put, Get, PutD, GetD, Num}
+use Rattle.sg_graph.specs.declared.program.Statement.TheVariants.{New, Put, Get, PutD, GetD, Num, Drop}
 use Rattle.sg_graph.specs.declared.program.Program.{Program}
 use Rattle.sg_graph.specs.declared.reports.Answer.{Answer}
 use Rattle.sg_graph.specs.declared.reports.Answer.TheVariants.{At, Nil, Null, Number, Fine, Field, Full}
@@ -79,6 +79,7 @@ cleared (Get d r i) reg = put reg d 0
 cleared (PutD r i s) reg = reg
 cleared (GetD d r i) reg = put reg d 0
 cleared (Num d n) reg = put reg d 0
+cleared (Drop r) reg = put reg r 0
 
 -- the answer of a loaded reference
 abbrev pub reference_answer : ℕ → Answer
@@ -122,6 +123,8 @@ pub data Comes (p : Program) (lay : Layout) : Actor → Step → Bool → Actor 
       Comes p lay (within a rest (Access (GetD d r i))) (Load (Word (object_in a r + 2 + i)) v) true (over a rest (put a.reg d v) (Number v))
   -- a number
   num_sets : (a : Actor) (rest : List Statement) (d n x tag len : ℕ) → Comes p lay (before a (Num d n) rest) (Begin 0 x tag len) true (over a rest (put a.reg d n) Fine)
+  -- no object
+  drop_clears : (a : Actor) (rest : List Statement) (r x tag len : ℕ) → Comes p lay (before a (Drop r) rest) (Begin 0 x tag len) true (over a rest (put a.reg r 0) Fine)
   -- a new object: from the buffer, or from the lowest fragment that has room
   new_bumps : (a : Actor) (rest : List Statement) (r class x tag len : ℕ) → a.from + words_of_class p class ≤ a.to →
       Comes p lay (before a (New r class) rest) (Begin 0 x tag len) true (within (owning a (a.from + words_of_class p class) a.to) rest (StoreLength r class a.from))

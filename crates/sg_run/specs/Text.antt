@@ -1,6 +1,7 @@
 -- The grammar of the input: which program a text reads as. It speaks of the words of each line.
-use Rattle.std.specs.Prelude.{◌≡◌, ℕ, ◌+◌, ◌*◌, ◌^◌, ◌<◌, ◌≤◌, ◌==◌, ◌&&◌, ◌||◌, nat_le, ◌⊎◌, Bool, true, false, not, IsTrue, if◌then◌else◌, Some, List, [], ◌∷◌, ◌++◌, length, map, filter, slice_get, take_while, codes}
-use Rattle.std.specs.List.{list_all}
+use Rattle.std.specs.Prelude.{◌≡◌, ◌≢◌, ℕ, ◌+◌, ◌*◌, ◌^◌, ◌<◌, ◌≤◌, ◌==◌, ◌&&◌, ◌||◌, nat_le, ◌⊎◌, Bool, true, false, not, IsTrue, if◌then◌else◌, Option, Some, None, List, [], ◌∷◌, ◌++◌, length, map, filter, slice_get, take_while, codes}
+use Rattle.std.specs.List.{list_all, AllByRecursion}
+use Rattle.std.specs.Option.{unwrap_or}
 use Rattle.std.specs.Fmt.{decimal}
 use Rattle.sg_graph.specs.Epoch.{Pairwise}
 use Rattle.sg_graph.specs.declared.shapes.Descriptor.TheVariants.{PtrFree, Bitmap}
@@ -8,7 +9,7 @@ use Rattle.sg_graph.specs.declared.shapes.Shape.{Shape}
 use Rattle.sg_graph.specs.declared.program.Config.{Config}
 use Rattle.sg_graph.specs.declared.program.Class.{Class}
 use Rattle.sg_graph.specs.declared.program.Statement.{Statement}
-use Rattle.sg_graph.specs.declared.program.Statement.TheVariants.{New, Put, Get, PutD, GetD, Num}
+use Rattle.sg_graph.specs.declared.program.Statement.TheVariants.{New, Put, Get, PutD, GetD, Num, Drop}
 use Rattle.sg_graph.specs.declared.program.Item.{Item}
 use Rattle.sg_graph.specs.declared.program.Item.TheVariants.{One}
 use Rattle.sg_graph.specs.declared.program.Script.{Script}
@@ -112,6 +113,7 @@ IsStatementLine classes line (Get d r i) = (a b c : List ℕ) × (line ≡ codes
 IsStatementLine classes line (PutD r i s) = (a b c : List ℕ) × (line ≡ codes "putd" ∷ a ∷ b ∷ c ∷ []) × IsRegister a r × IsNumber b i × IsRegister c s
 IsStatementLine classes line (GetD d r i) = (a b c : List ℕ) × (line ≡ codes "getd" ∷ a ∷ b ∷ c ∷ []) × IsRegister a d × IsRegister b r × IsNumber c i
 IsStatementLine classes line (Num d n) = (a b : List ℕ) × (line ≡ codes "num" ∷ a ∷ b ∷ []) × IsRegister a d × IsNumber b n
+IsStatementLine classes line (Drop r) = (a : List ℕ) × (line ≡ codes "drop" ∷ a ∷ []) × IsRegister a r
 
 abbrev pub IsItemLine : List Class → List (List ℕ) → Item → Type 0
 IsItemLine classes line (One s) = IsStatementLine classes line s
@@ -132,15 +134,38 @@ AreScripts classes lines [] = lines ≡ []
 AreScripts classes lines (script ∷ scripts) =
     (body rest : List (List (List ℕ))) × (lines ≡ mutator_line ∷ body ++ end_line ∷ rest) × Pairwise (IsItemLine classes) body script.items × AreScripts classes rest scripts
 
--- the settings where no line says otherwise
-abbrev pub defaults : Config
-defaults = record { nursery = 4096; blocks = 64; pages = 64; buffer = 64; workers = 1; cement = 4 }
+-- the words with which the lines of settings begin
+abbrev pub setting_names : List (List ℕ)
+setting_names = codes "nursery" ∷ codes "blocks" ∷ codes "pages" ∷ codes "buffer" ∷ codes "workers" ∷ codes "cement" ∷ []
 
--- no line of a setting, or `nursery N` once
-abbrev pub AreSettings : List (List (List ℕ)) → Config → Type 0
-AreSettings [] config = config ≡ defaults
-AreSettings (line ∷ []) config = (word : List ℕ) × (n : ℕ) × (line ≡ codes "nursery" ∷ word ∷ []) × IsNumber word n × (config ≡ record defaults { nursery = n })
-AreSettings (line ∷ more ∷ lines) config = ⊥
+-- the word is the name of setting number `at`
+abbrev pub IsSettingName : List ℕ → ℕ → Type 0
+IsSettingName name at = slice_get setting_names at ≡ Some name
+
+-- `NAME N`, with the name of a setting
+abbrev pub IsSettingLine : List (List ℕ) → Type 0
+IsSettingLine line = (at : ℕ) × (name word : List ℕ) × (n : ℕ) × IsSettingName name at × (line ≡ name ∷ word ∷ []) × IsNumber word n
+
+-- what the lines tell of the setting with this name: the number of its one line, or nothing where it has none
+abbrev pub Tells : List ℕ → List (List (List ℕ)) → Option ℕ → Type 0
+Tells name [] told = told ≡ None
+Tells name (line ∷ lines) told =
+    ((word : List ℕ) × (n : ℕ) × (line ≡ name ∷ word ∷ []) × IsNumber word n × Tells name lines None × (told ≡ Some n))
+    ⊎ (((word : List ℕ) → line ≢ name ∷ word ∷ []) × Tells name lines told)
+
+-- the setting with this name has the number of its one line, or else the default
+abbrev pub Gives : List (List (List ℕ)) → List ℕ → ℕ → ℕ → Type 0
+Gives lines name default n = (told : Option ℕ) × Tells name lines told × (n ≡ unwrap_or told default)
+
+-- each line is that of a setting, no two are of the same one, and each setting has the number of its line or else its default
+pub record AreSettings (lines : List (List (List ℕ))) (config : Config) : Type 0 where
+  pub known : AllByRecursion IsSettingLine lines
+  pub nursery : Gives lines (codes "nursery") 4096 config.nursery
+  pub blocks : Gives lines (codes "blocks") 64 config.blocks
+  pub pages : Gives lines (codes "pages") 64 config.pages
+  pub buffer : Gives lines (codes "buffer") 64 config.buffer
+  pub workers : Gives lines (codes "workers") 1 config.workers
+  pub cement : Gives lines (codes "cement") 4 config.cement
 
 -- these lines are those of the program: its head, its settings, its classes and at most one script
 pub record IsProgram (lines : List (List (List ℕ))) (p : Program) : Type 0 where

@@ -5,7 +5,7 @@ use Rattle.sg_words.specs.Tags.{plain_word}
 use Rattle.sg_words.specs.Words.{put, Words}
 use Rattle.sg_graph.specs.declared.program.Program.{Program}
 use Rattle.sg_graph.specs.declared.program.Statement.{Statement}
-use Rattle.sg_graph.specs.declared.program.Statement.TheVariants.{New, Put, Get, PutD, GetD, Num}
+use Rattle.sg_graph.specs.declared.program.Statement.TheVariants.{New, Put, Get, PutD, GetD, Num, Drop}
 use Rattle.sg_graph.specs.declared.reports.Answer.TheVariants.{At, Full}
 use Rattle.sg_graph.specs.Shapes.{Sort, Reference, Plain, has_field}
 use Rattle.sg_graph.specs.Scripts.{kind_of, fields_of}
@@ -146,6 +146,7 @@ CanDo p s m (Get d r i) = HoldsObject p s m r × (d < 16)
 CanDo p s m (PutD r i v) = HoldsObject p s m r × (v < 16)
 CanDo p s m (GetD d r i) = HoldsObject p s m r × (d < 16)
 CanDo p s m (Num d n) = d < 16
+CanDo p s m (Drop r) = r < 16
 
 -- the statement may begin
 abbrev pub CanGo : Program → Space → Mutator → Statement → Type 0

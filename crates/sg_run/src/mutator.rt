@@ -75,6 +75,7 @@ impl Mutator {
             Statement::PutD { r, field, s } => self.put_number(program, space, r, field, s),
             Statement::GetD { d, r, field } => self.get_number(program, space, d, r, field),
             Statement::Num { d, n } => self.number(d, n),
+            Statement::Drop { r } => self.clear(r),
         }
     }
 
@@ -86,6 +87,16 @@ impl Mutator {
         ensures answers { IsNext self.old self.new }
     {
         self.tell(d, n, Answer::Fine);
+    }
+
+    /// `drop`.
+    fn clear(&mut self, r: u8)
+        requires answers { HasRoom self.old }
+        requires r { r < 16 }
+        ensures went { (p : Program) (lay : Layout) (w : Words) (rest : List Statement) → w.stop ≡ 0 → Went p lay (actor_of self.old (Statement.Drop r ∷ rest)) w (actor_of self.new rest) w }
+        ensures answers { IsNext self.old self.new }
+    {
+        self.tell(r, 0, Answer::Fine);
     }
 
     /// `put`.
@@ -247,6 +258,9 @@ impl Mutator {
         let object = held / 8;
         let class = match read_tag(space.load_word(object)) {
             Some(Tag::Plain { class }) => class,
+            Some(Tag::Forwarded { .. }) => unreachable!(),
+            Some(Tag::Pinned { .. }) => unreachable!(),
+            Some(Tag::Cemented { .. }) => unreachable!(),
             None => unreachable!(),
         };
         let len = space.load_word(object + 1);

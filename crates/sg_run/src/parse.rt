@@ -27,7 +27,7 @@ pub fn parse(alloc: Global, bytes: &[u8]) -> Result<Option<Program>, AllocError>
     if bytes.len() > MOST_BYTES {
         return Ok(None);
     }
-    let Some((nursery, rest)) = head::head(alloc, bytes)? else {
+    let Some((config, rest)) = head::head(alloc, bytes)? else {
         return Ok(None);
     };
     let Some((classes, rest)) = classes::classes(alloc, rest)? else {
@@ -39,28 +39,20 @@ pub fn parse(alloc: Global, bytes: &[u8]) -> Result<Option<Program>, AllocError>
     if !has_no_misuse(items.as_slice()) {
         return Ok(None);
     }
-    Ok(Some(program(alloc, nursery, classes, items)?))
+    Ok(Some(program(alloc, config, classes, items)?))
 }
 
 /// The program of one mutator.
 fn program(
     alloc: Global,
-    nursery: u32,
+    config: Config,
     classes: List<Class>,
     items: List<Item>,
 ) -> Result<Program, AllocError>
-    ensures { IfOk result (λ p. p ≡ program_of nursery classes items) }
+    ensures { IfOk result (λ p. p ≡ program_of config classes items) }
 {
     let mut scripts = Vec::new(alloc);
     scripts.push(Script { items })?;
-    let config = Config {
-        nursery,
-        blocks: 64,
-        pages: 64,
-        buffer: 64,
-        workers: 1,
-        cement: 4,
-    };
     Ok(Program {
         config,
         classes,
@@ -75,11 +67,11 @@ mod tests {
     use std::test::*;
 
     const FULL: &[u8] =
-        b"# any byte: \xff\x00\nsgen 1 # head\n\n\tnursery 256\r\nclass a_1 map r.r\nmutator\nnew r0 a_1\nnum r15 18446744073709551615\nput r0 0 r0\nget r1 r0 2\nputd r0 1 r15\ngetd r2 r0 1\nend";
+        b"# any byte: \xff\x00\nsgen 1 # head\n\n\tnursery 256\r\nbuffer 16\nclass a_1 map r.r\nmutator\nnew r0 a_1\nnum r15 18446744073709551615\nput r0 0 r0\nget r1 r0 2\nputd r0 1 r15\ngetd r2 r0 1\ndrop r2\nend";
 
     #[test]
     fn accepted_and_refused(rt: HostRuntime) {
-        let cases: [(&[u8], bool); 17] = [
+        let cases: [(&[u8], bool); 26] = [
             (FULL, true),
             (b"sgen 1\nmutator\nend\n", true),
             (b"sgen 1\nclass a plain 62\nmutator\nend\n", true),
@@ -88,6 +80,24 @@ mod tests {
             (b"sgen 1\nnursery 0256\nmutator\nend\n", false),
             (b"sgen 1\nnursery 300\nmutator\nend\n", false),
             (b"sgen 1\nnursery 256\nnursery 256\nmutator\nend\n", false),
+            (
+                b"sgen 1\ncement 1000\nworkers 8\npages 0\nbuffer 1024\nblocks 4096\nnursery 65536\nmutator\nend\n",
+                true,
+            ),
+            (
+                b"sgen 1\nblocks 4\npages 4\nblocks 4\nmutator\nend\n",
+                false,
+            ),
+            (b"sgen 1\nblocks 0\nmutator\nend\n", false),
+            (b"sgen 1\npages 1025\nmutator\nend\n", false),
+            (b"sgen 1\nbuffer 15\nmutator\nend\n", false),
+            (b"sgen 1\nworkers 9\nmutator\nend\n", false),
+            (
+                b"sgen 1\ncement 18446744073709551615\nmutator\nend\n",
+                false,
+            ),
+            (b"sgen 1\nworkers\nmutator\nend\n", false),
+            (b"sgen 1\nclass a plain 1\nbuffer 64\nmutator\nend\n", false),
             (b"sgen 1\nclass a plain 63\nmutator\nend\n", false),
             (
                 b"sgen 1\nclass a plain 1\nclass a plain 2\nmutator\nend\n",
@@ -115,13 +125,21 @@ mod tests {
     #[test]
     fn one_program(rt: HostRuntime) -> Result<(), Fail> {
         let program = parse(rt.alloc(), FULL).ok().flatten().ok_or("a program")?;
-        assert_eq!(rt; program.config.nursery, 256);
+        let config = Config {
+            nursery: 256,
+            blocks: 64,
+            pages: 64,
+            buffer: 16,
+            workers: 1,
+            cement: 4,
+        };
+        assert!(rt; program.config == config);
         for class in program.classes.as_slice() {
             assert_eq!(rt; class.name.bytes.as_slice(), b"a_1".as_slice());
             assert!(rt; class.shape.kind == Descriptor::Bitmap { bits: 5 });
         }
         for script in program.mutators.as_slice() {
-            assert_eq!(rt; script.items.as_slice().len(), 6);
+            assert_eq!(rt; script.items.as_slice().len(), 7);
             let Item::One(first) = script.items.as_slice()[0];
             assert!(rt; first == Statement::New { r: 0, class: 0 });
         }

@@ -1,5 +1,5 @@
 -- A space before its first object is sound: no word has an owner.
-use Rattle.std.proofs.Common.{◌≡◌, ℕ, zero, suc, ◌+◌, ◌*◌, ◌%◌, ◌<◌, ◌≤◌, List, length, Option, None, refl, sym, subst, arith, slice_index}
+use Rattle.std.proofs.Common.{◌≡◌, ℕ, zero, suc, ◌%◌, ◌<◌, ◌≤◌, List, None, refl, sym, subst, arith, slice_index}
 use Rattle.std.proofs.lemmas.List.{get_or-replicate, length-replicate}
 use Rattle.std.proofs.lemmas.Option.{none-some}
 use Rattle.sg_words.specs.Address.{byte_at}
@@ -18,7 +18,7 @@ module _ (layout : Layout) (shapes : List Shape) (is_layout : IsLayout layout) (
   clear_addresses zero below = (refl, omega arith)
   clear_addresses (suc f) below = absurd (omega arith)
 
-  clear_is_sound : IsSoundBy (clear_space layout shapes) (λ x. None)
+  pub clear_is_sound : IsSoundBy (clear_space layout shapes) (λ x. None)
   clear_is_sound = record {
     words = length-replicate (words_end layout) 0;
     classes = are_shapes.classes;

@@ -1,14 +1,12 @@
 -- What a walk over a section knows: by every owner by which the space is sound, no object that begins below the place that
 -- it reached ends above it.
-use Rattle.std.proofs.Common.{◌≡◌, ◌≢◌, ℕ, zero, suc, ◌+◌, ◌*◌, ◌/◌, ◌%◌, ◌<◌, ◌≤◌, ◌⊎◌, List, [], ◌∷◌, ◌++◌, map, length, get_or, Option, Some, None, refl, sym, ap, ◌∙◌, subst, arith, rules, slice_get, slice_index}
-use Rattle.std.proofs.lemmas.List.{map-append, places}
-use Rattle.std.proofs.lemmas.Option.{none-some, same_Some, slice_get_within}
-use Rattle.std.specs.List.Sorted.{IsStrictlyIncreasing}
-use Rattle.sg_words.specs.Address.{byte_at, word_at}
+use Rattle.std.proofs.Common.{◌≡◌, ◌≢◌, ℕ, ◌+◌, ◌%◌, ◌<◌, ◌≤◌, ◌⊎◌, Option, Some, None, refl, sym, ap, ◌∙◌, subst, arith}
+use Rattle.std.proofs.lemmas.Option.{none-some, same_Some}
+use Rattle.sg_words.specs.Address.{word_at}
 use Rattle.sg_space.specs.declared.objects.Object.{Object}
-use Rattle.sg_space.specs.Sections.{nursery_base, old_base, large_base, IsLayout, IsYoung}
-use Rattle.sg_space.specs.Space.{Contents, IsContents}
-use Rattle.sg_space.specs.Standing.{word, size_at, IsObject, IsSoundBy, IsSound, IsToldOf, TellsYoung, IsClearAt, IsFree, IsNoFront, TellsAt, HoldsWord, HasByte}
+use Rattle.sg_space.specs.Sections.{nursery_base, old_base, large_base}
+use Rattle.sg_space.specs.Space.{Contents}
+use Rattle.sg_space.specs.Standing.{word, size_at, IsObject, IsSoundBy, IsSound, IsClearAt, IsFree, IsNoFront, TellsAt, HoldsWord, HasByte}
 
 -- a range that has x, and doesn't end above x if it begins below x, begins at x
 at_front : (x h n : ℕ) → h ≤ x → x < h + n → (h < x → h + n ≤ x) → h ≡ x
@@ -51,32 +49,40 @@ module _ (s : Contents) (owner : ℕ → Option ℕ) (sound : IsSoundBy s owner)
 
 -- the walk's step over a word that isn't an object's
 pub clear_skip : (s : Contents) (x : ℕ) → IsClearAt s x → IsFree s x → IsClearAt s (x + 1)
-clear_skip s x clear free = record { ends = λ owner sound h e below.
-    let not_here : h ≢ x = λ same. none-some h (sym (free.none owner sound) ∙ subst (λ y. owner y ≡ Some h) same e) in
-    let c = clear.ends owner sound h e in
-    omega arith }
+clear_skip s x clear free = record {
+  ends = λ owner sound h e below.
+      let not_here : h ≢ x = λ same. none-some h (sym (free.none owner sound) ∙ subst (λ y. owner y ≡ Some h) same e) in
+      let c = clear.ends owner sound h e in
+      omega arith;
+}
 
 -- and over an object
 step_ends : (x n h size_h size_x : ℕ) → n ≡ size_x → (h < x → h + size_h ≤ x) → (x ≤ h → h < x + size_x → h ≡ x) → (h ≡ x → size_h ≡ size_x) → h < x + n → h + size_h ≤ x + n
 step_ends x n h size_h size_x size before inside same below = grind arith
 
 pub clear_step : (s : Contents) (x : ℕ) (o : Object) → IsClearAt s x → TellsAt s x o → IsClearAt s (x + o.words)
-clear_step s x o clear at = record { ends = λ owner sound h e below.
-    step_ends x o.words h (size_at s h) (size_at s x) at.told.words (clear.ends owner sound h e)
-        (inside_is_front s owner sound x h (at.begins owner sound) e) (λ same. ap (size_at s) same) below }
+clear_step s x o clear at = record {
+  ends = λ owner sound h e below.
+      step_ends x o.words h (size_at s h) (size_at s x) at.told.words (clear.ends owner sound h e)
+      (inside_is_front s owner sound x h (at.begins owner sound) e) (λ same. ap (size_at s) same) below;
+}
 
 -- the sections' fronts
 pub clear_nursery : (s : Contents) → IsClearAt s nursery_base
-clear_nursery s = record { ends = λ owner sound h e below.
-    let object = sound.objects h e in
-    let inside = object.inside in
-    absurd (omega (arith, inside)) }
+clear_nursery s = record {
+  ends = λ owner sound h e below.
+      let object = sound.objects h e in
+      let inside = object.inside in
+      absurd (omega (arith, inside));
+}
 
 pub clear_old : (s : Contents) → IsClearAt s (old_base s.layout)
-clear_old s = record { ends = λ owner sound h e below.
-    let object = sound.objects h e in
-    let inside = object.inside in
-    omega (arith, inside) }
+clear_old s = record {
+  ends = λ owner sound h e below.
+      let object = sound.objects h e in
+      let inside = object.inside in
+      omega (arith, inside);
+}
 
 -- how far the object that begins at x reaches
 pub record HasSizes (s : Contents) (x : ℕ) (o : Object) : Type 0 where
@@ -119,16 +125,20 @@ not_before : (x y h n : ℕ) → x ≤ y → y < h + n → (h < x → h + n ≤ 
 not_before x y h n below reaches ends = grind arith
 
 pub ahead_first : (s : Contents) (y x : ℕ) → IsClearAt s x → x ≤ y → IsAhead s y x
-ahead_first s y x clear below = record { ahead = λ owner sound h e.
-    let o = sound.owned y h e in
-    not_before x y h (size_at s h) below o.1 (clear.ends owner sound h o.2) }
+ahead_first s y x clear below = record {
+  ahead = λ owner sound h e.
+      let o = sound.owned y h e in
+      not_before x y h (size_at s h) below o.1 (clear.ends owner sound h o.2);
+}
 
 pub ahead_skip : (s : Contents) (y x : ℕ) → IsAhead s y x → IsFree s x → IsAhead s y (x + 1)
-ahead_skip s y x is free = record { ahead = λ owner sound h e.
-    let o = sound.owned y h e in
-    let not_here : h ≢ x = λ same. none-some h (sym (free.none owner sound) ∙ subst (λ z. owner z ≡ Some h) same o.2) in
-    let a = is.ahead owner sound h e in
-    omega arith }
+ahead_skip s y x is free = record {
+  ahead = λ owner sound h e.
+      let o = sound.owned y h e in
+      let not_here : h ≢ x = λ same. none-some h (sym (free.none owner sound) ∙ subst (λ z. owner z ≡ Some h) same o.2) in
+      let a = is.ahead owner sound h e in
+      omega arith;
+}
 
 pub ahead_step : (s : Contents) (y x : ℕ) (o : Object) → IsClearAt s x → TellsAt s x o → x + o.words ≤ y → IsAhead s y (x + o.words)
 ahead_step s y x o clear at beyond = ahead_first s y (x + o.words) (clear_step s x o clear at) beyond
@@ -179,10 +189,12 @@ pub free_no_front : (s : Contents) (x : ℕ) → IsFree s x → IsNoFront s x
 free_no_front s x free = record { other = λ owner sound e. none-some x (sym (free.none owner sound) ∙ e) }
 
 pub held_no_front : (s : Contents) (a : ℕ) (o : Object) → HoldsWord s (word_at a) o → a % 8 ≡ 0 → o.at ≢ a → IsNoFront s (word_at a)
-held_no_front s a o holds whole_a other = record { other = λ owner sound e.
-    let same : word_at o.at ≡ word_at a = same_Some _ _ (sym (holder_owns s (word_at a) o holds owner sound) ∙ e) in
-    let whole = holds.whole in
-    other (omega arith) }
+held_no_front s a o holds whole_a other = record {
+  other = λ owner sound e.
+      let same : word_at o.at ≡ word_at a = same_Some _ _ (sym (holder_owns s (word_at a) o holds owner sound) ∙ e) in
+      let whole = holds.whole in
+      other (omega arith);
+}
 
 pub held_front : (s : Contents) (a : ℕ) (o : Object) → HoldsWord s (word_at a) o → o.at ≡ a → TellsAt s (word_at a) o
 held_front s a o holds same = subst (λ z. TellsAt s (word_at z) o) same holds.tells

@@ -1,16 +1,16 @@
 -- What a walk of the nursery has told when it has come to the word x.
-use Rattle.std.proofs.Common.{◌≡◌, ◌≢◌, ℕ, zero, suc, ◌+◌, ◌*◌, ◌/◌, ◌%◌, ◌<◌, ◌≤◌, ◌⊎◌, inl, inr, List, [], ◌∷◌, ◌++◌, map, length, get_or, Option, Some, None, refl, sym, ap, ◌∙◌, subst, arith, slice_get, slice_index}
+use Rattle.std.proofs.Common.{◌≡◌, ◌≢◌, ℕ, zero, suc, ◌+◌, ◌<◌, ◌≤◌, ◌⊎◌, inl, inr, List, [], ◌∷◌, ◌++◌, map, length, Option, Some, refl, sym, ap, ◌∙◌, subst, arith, slice_get, slice_index}
 use Rattle.std.proofs.lemmas.Grind.{common_steps}
 use Rattle.std.proofs.lemmas.Bool.{cases_lt}
 use Rattle.std.proofs.lemmas.List.{map-append, places}
-use Rattle.std.proofs.lemmas.Option.{none-some, same_Some, slice_get_within}
+use Rattle.std.proofs.lemmas.Option.{none-some, same_Some}
 use Rattle.std.specs.List.Sorted.{IsStrictlyIncreasing}
 use Rattle.sg_words.specs.Address.{byte_at}
 use Rattle.sg_space.specs.declared.objects.Object.{Object}
 use Rattle.sg_space.specs.Sections.{nursery_base, old_base, IsYoung}
 use Rattle.sg_space.specs.Space.{Contents}
-use Rattle.sg_space.specs.Standing.{size_at, IsSoundBy, IsToldOf, TellsYoung, IsClearAt, IsFree, TellsAt}
-use Rattle.sg_space.proofs.Reached.{inside_is_front, clear_nursery}
+use Rattle.sg_space.specs.Standing.{IsSoundBy, IsToldOf, TellsYoung, IsFree, TellsAt}
+use Rattle.sg_space.proofs.Reached.{inside_is_front}
 
 -- the elements of a list with one more at its end
 module _ {A : Type 0} where
@@ -51,38 +51,42 @@ pub record HasTold (s : Contents) (x : ℕ) (told : List Object) : Type 0 where
   pub tells : (owner : ℕ → Option ℕ) → IsSoundBy s owner → TellsBelow s owner x told
 
 pub told_none : (s : Contents) → HasTold s nursery_base []
-told_none s = record { tells = λ owner sound. record {
-  in_order = λ k within. absurd (omega arith);
-  below = λ k o e. absurd (none-some o e);
-  each = λ k o e. absurd (none-some o e);
-  all = λ h e young before. absurd (omega arith);
-} }
+told_none s = record {
+  tells = λ owner sound. record {
+    in_order = λ k within. absurd (omega arith);
+    below = λ k o e. absurd (none-some o e);
+    each = λ k o e. absurd (none-some o e);
+    all = λ h e young before. absurd (omega arith);
+  };
+}
 
 pub told_skip : (s : Contents) (x : ℕ) (told : List Object) → HasTold s x told → IsFree s x → HasTold s (x + 1) told
-told_skip s x told has free = record { tells = λ owner sound.
-    let t = has.tells owner sound in
-    record {
-      in_order = t.in_order;
-      below = λ k o e. let b = t.below k o e in omega arith;
-      each = t.each;
-      all = λ h e young before.
-        let not_here : h ≢ x = λ same. none-some h (sym (free.none owner sound) ∙ subst (λ z. owner z ≡ Some h) same e) in
-        t.all h e young (omega arith);
-    } }
+told_skip s x told has free = record {
+  tells = λ owner sound.
+      let t = has.tells owner sound in
+      record {
+        in_order = t.in_order;
+        below = λ k o e. let b = t.below k o e in omega arith;
+        each = t.each;
+        all = λ h e young before.
+            let not_here : h ≢ x = λ same. none-some h (sym (free.none owner sound) ∙ subst (λ z. owner z ≡ Some h) same e) in
+            t.all h e young (omega arith);
+      };
+}
 
 module _ (s : Contents) (owner : ℕ → Option ℕ) (sound : IsSoundBy s owner) (x : ℕ) (told : List Object) (o : Object)
     (t : TellsBelow s owner x told) (at : TellsAt s x o) (young_x : IsYoung s.layout x) where
   push_below : (k : ℕ) (p : Object) → slice_get (told ++ o ∷ []) k ≡ Some p → p.at < byte_at (x + o.words)
   push_below k p e = elim (pushed_cases told o p k e) [
-      | inl before ↦ let b = t.below k p before in omega arith
-      | inr same ↦ let place = at.told.at in let size = at.told.words in subst (λ (q : Object). q.at < byte_at (x + o.words)) same (omega (arith, place, size))
-    ]
+    | inl before ↦ let b = t.below k p before in omega arith
+    | inr same ↦ let place = at.told.at in let size = at.told.words in subst (λ (q : Object). q.at < byte_at (x + o.words)) same (omega (arith, place, size))
+  ]
 
   push_each : (k : ℕ) (p : Object) → slice_get (told ++ o ∷ []) k ≡ Some p → (h : ℕ) × (owner h ≡ Some h) × IsYoung s.layout h × IsToldOf s h p
   push_each k p e = elim (pushed_cases told o p k e) [
-      | inl before ↦ t.each k p before
-      | inr same ↦ (x, at.begins owner sound, young_x, subst (λ (q : Object). IsToldOf s x q) same at.told)
-    ]
+    | inl before ↦ t.each k p before
+    | inr same ↦ (x, at.begins owner sound, young_x, subst (λ (q : Object). IsToldOf s x q) same at.told)
+  ]
 
   push_all : (h : ℕ) → owner h ≡ Some h → IsYoung s.layout h → h < x + o.words → (h < x) ⊎ (x ≤ h) → (k : ℕ) × (p : Object) × (slice_get (told ++ o ∷ []) k ≡ Some p) × (p.at ≡ byte_at h)
   push_all h e young before (inl below) = let a = t.all h e young below in (a.0, a.1, pushed_keeps told o a.1 a.0 a.2, a.3)

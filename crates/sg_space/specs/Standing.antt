@@ -1,13 +1,12 @@
 -- Which objects stand in a space, read off its words, and when the space is sound.
-use Rattle.std.specs.Prelude.{◌≡◌, ◌≢◌, ℕ, ◌+◌, ◌*◌, ◌/◌, ◌%◌, ◌<◌, ◌≤◌, ◌⊎◌, ◌↔◌, Bool, true, Option, Some, None, List, length, slice_index, slice_get, Contains, map}
+use Rattle.std.specs.Prelude.{◌≡◌, ◌≢◌, ℕ, ◌+◌, ◌*◌, ◌%◌, ◌<◌, ◌≤◌, ◌⊎◌, true, Option, Some, None, List, length, slice_index, slice_get, map}
 use Rattle.std.specs.List.Sorted.{IsStrictlyIncreasing}
 use Rattle.sg_words.specs.Address.{byte_at, word_at}
 use Rattle.sg_words.specs.Tags.{plain_word}
 use Rattle.sg_graph.specs.declared.shapes.Shape.{Shape}
 use Rattle.sg_graph.specs.Shapes.{holds_reference}
-use Rattle.sg_space.specs.declared.layout.Layout.{Layout}
 use Rattle.sg_space.specs.declared.objects.Object.{Object}
-use Rattle.sg_space.specs.Sections.{nursery_base, old_base, large_base, words_end, IsYoung, IsOld}
+use Rattle.sg_space.specs.Sections.{nursery_base, old_base, large_base, words_end, IsYoung}
 use Rattle.sg_space.specs.Space.{Contents}
 
 -- the word with this number
@@ -28,7 +27,7 @@ pub record IsObject (s : Contents) (h : ℕ) : Type 0 where
   pub size : word s (h + 1) ≡ shape.fields
   pub small : size_at s h ≤ 64
   pub inside : ((nursery_base ≤ h) × (h + size_at s h ≤ old_base s.layout)) ⊎ ((old_base s.layout ≤ h) × (h + size_at s h ≤ large_base s.layout))
-  -- each reference field holds nothing or the address of a standing object: said in IsSoundBy, where the owners are known
+  -- that each reference field holds nothing or the address of a standing object is said in RefersSoundly, where the owners are known
 
 -- Whose word each word is: `owner x` is the first word of the standing object that has the word x. One function says that
 -- ranges are disjoint, that gaps are what is left, and what a word points into.

@@ -9,3 +9,6 @@ mod walks;
 pub use layout::Layout;
 pub use objects::Object;
 pub use space::Space;
+
+#[cfg(test)]
+mod tests;

@@ -26,21 +26,21 @@ impl Model for Space {
     ghost Value = { Contents };
 
     ghost view = { λ s. record {
-        layout = s.layout;
-        shapes = s.shapes.items;
-        words = s.words.items;
-        next = s.next.items;
-        ends = s.ends.items;
-        stop = s.stop;
+      layout = s.layout;
+      shapes = s.shapes.items;
+      words = s.words.items;
+      next = s.next.items;
+      ends = s.ends.items;
+      stop = s.stop;
     } };
 
     ghost invariant = { λ s. IsContents (record {
-        layout = s.layout;
-        shapes = s.shapes.items;
-        words = s.words.items;
-        next = s.next.items;
-        ends = s.ends.items;
-        stop = s.stop;
+      layout = s.layout;
+      shapes = s.shapes.items;
+      words = s.words.items;
+      next = s.next.items;
+      ends = s.ends.items;
+      stop = s.stop;
     }) × (2048 ≤ vec_capacity s.next) × (2048 ≤ vec_capacity s.ends) };
 }
 
@@ -165,7 +165,7 @@ impl Space {
 
     /// Whether the mutators are asked to stop.
     pub fn stopping(&self) -> bool
-        ensures { result ≡ true ↔ self.now.stop ≢ 0 }
+        ensures { (result ≡ true) ↔ (self.now.stop ≢ 0) }
     {
         self.stop != 0
     }
@@ -187,6 +187,7 @@ fn put_fragments(next: &mut Vec<u64>, ends: &mut Vec<u64>, pieces: &[Piece])
     requires ends { length (fronts_of pieces.now) ≤ vec_capacity ends.old }
     ensures fronts { next.new.items ≡ fronts_of pieces.now }
     ensures ends { ends.new.items ≡ ends_of pieces.now }
+    ensures same { length next.new.items ≡ length ends.new.items }
     ensures room { vec_capacity next.old ≤ vec_capacity next.new }
     ensures room_of_ends { vec_capacity ends.old ≤ vec_capacity ends.new }
 {

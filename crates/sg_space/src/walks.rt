@@ -39,13 +39,7 @@ impl Space {
         ensures { MatchOption result (IsNoFront self.now (word_at a)) (TellsAt self.now (word_at a)) }
     {
         match self.holder(a.get()) {
-            Some(object) => {
-                if object.at == a {
-                    Some(object)
-                } else {
-                    None
-                }
-            }
+            Some(object) => { if object.at == a { Some(object) } else { None } }
             None => None,
         }
     }
@@ -73,7 +67,11 @@ impl Space {
             return None;
         }
         let word = word as u32;
-        let from = if word < layout.old_word() { FIRST_WORD } else { layout.old_word() };
+        let from = if word < layout.old_word() {
+            FIRST_WORD
+        } else {
+            layout.old_word()
+        };
         self.find(from, word)
     }
 
@@ -114,7 +112,11 @@ impl Space {
         ensures young { IfSome result (λ object. x < old_base self.now.layout → x + object.words ≤ old_base self.now.layout) }
         ensures section { IfSome result (λ object. x + object.words ≤ large_base self.now.layout) }
     {
-        if self.word(x) == 0 { None } else { Some(self.read_object(x)) }
+        if self.word(x) == 0 {
+            None
+        } else {
+            Some(self.read_object(x))
+        }
     }
 
     /// The object whose first word is `x`.

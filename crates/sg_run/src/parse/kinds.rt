@@ -12,7 +12,7 @@ fn is_fit(numbers: &[bool; 256], statement: Statement) -> bool
     ensures { IsTrue result ↔ Needs (kinds_by numbers.now) statement }
 {
     match statement {
-        Statement::New { .. } | Statement::Num { .. } => true,
+        Statement::New { .. } | Statement::Num { .. } | Statement::Drop { .. } => true,
         Statement::Put { r, s, .. } => !numbers[r as usize] && !numbers[s as usize],
         Statement::PutD { r, s, .. } => !numbers[r as usize] && numbers[s as usize],
         Statement::Get { r, .. } | Statement::GetD { r, .. } => !numbers[r as usize],
@@ -28,6 +28,7 @@ fn note(numbers: &mut [bool; 256], statement: Statement)
         Statement::Get { d, .. } => numbers[d as usize] = false,
         Statement::GetD { d, .. } => numbers[d as usize] = true,
         Statement::Num { d, .. } => numbers[d as usize] = true,
+        Statement::Drop { r } => numbers[r as usize] = false,
         Statement::Put { .. } | Statement::PutD { .. } => {}
     }
 }

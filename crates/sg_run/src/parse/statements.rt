@@ -33,6 +33,18 @@ fn load(a: &[u8], b: &[u8], c: &[u8]) -> Option<(u8, u8, u64)>
     Some((d, r, field))
 }
 
+/// A statement of two words, none of which is the name of a class.
+fn brief(verb: &[u8], a: &[u8]) -> Option<Statement>
+    ensures found { (classes : Sequence AnyClass) → IfSome result (IsStatementLine classes (verb.now ∷ a.now ∷ [])) }
+    ensures only { (classes : Sequence AnyClass) → Only (IsStatementLine classes (verb.now ∷ a.now ∷ [])) result }
+{
+    if says(verb, b"drop") {
+        let r = register(a)?;
+        return Some(Statement::Drop { r });
+    }
+    None
+}
+
 /// A statement of three words.
 fn short(classes: &[Class], verb: &[u8], a: &[u8], b: &[u8]) -> Option<Statement>
     requires { AreLimited classes.now }
@@ -83,6 +95,7 @@ fn statement(classes: &[Class], words: &[&[u8]]) -> Option<Statement>
     ensures only { Only (IsStatementLine classes.now (map (λ word. word.now) words.now)) result }
 {
     match *words {
+        [verb, a] => brief(verb, a),
         [verb, a, b] => short(classes, verb, a, b),
         [verb, a, b, c] => long(verb, a, b, c),
         _ => None,

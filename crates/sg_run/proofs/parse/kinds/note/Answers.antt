@@ -13,3 +13,6 @@ returns-in-GetD c = rw c.in-GetD.is (kinds_int c.args.numbers.now c.in-GetD.d (o
 
 pub returns-in-Num : goal.returns-in-Num
 returns-in-Num c = rw c.in-Num.is (kinds_int c.args.numbers.now c.in-Num.d (omega arith))
+
+pub returns-in-Drop : goal.returns-in-Drop
+returns-in-Drop c = rw c.in-Drop.is (kinds_ref c.args.numbers.now c.in-Drop.r (omega arith))

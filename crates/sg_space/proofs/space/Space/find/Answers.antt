@@ -1,4 +1,4 @@
-use Rattle.std.proofs.Common.{◌+◌, ◌<◌, ◌≤◌, arith}
+use Rattle.std.proofs.Common.{◌≤◌, arith}
 use Rattle.sg_space.proofs.Reached.{clear_skip, clear_step, ahead_first, ahead_skip, ahead_step, free_behind, holds_at}
 use Rattle.sg_space.proofs.space.Space.find.Goals as goal
 

@@ -5,7 +5,7 @@ use Rattle.sg_space.proofs.space.Space.object_from.Goals as goal
 pub read_object-requires-clause-object : goal.read_object-requires-clause-object
 read_object-requires-clause-object c =
     front_is_object c.args.self.now c.args.x c.requires.sound
-        (tag_begins c.args.self.now c.args.x c.requires.clear (λ z. c.if-word-eq0.false (c.word.ensures ∙ z)) c.requires.above c.requires.below)
+    (tag_begins c.args.self.now c.args.x c.requires.clear (λ z. c.if-word-eq0.false (c.word.ensures ∙ z)) c.requires.above c.requires.below)
 
 pub returns-then-word-eq0-clause-told : goal.returns-then-word-eq0-clause-told
 returns-then-word-eq0-clause-told c = zero_is_free c.args.self.now c.args.x c.requires.clear (sym c.word.ensures ∙ c.if-word-eq0.true)

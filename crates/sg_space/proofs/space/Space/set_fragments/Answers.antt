@@ -14,8 +14,7 @@ invariant_of-self c =
     let room = e.room in
     let room_of_ends = e.room_of_ends in
     let next_room = inv.1 in
-    let ends_room = inv.2 in
-    (
+    let ends_room = inv.2 in (
       record {
         layout = inv.0.layout;
         shapes = inv.0.shapes;

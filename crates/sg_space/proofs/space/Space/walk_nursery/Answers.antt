@@ -1,4 +1,4 @@
-use Rattle.std.proofs.Common.{◌≡◌, ◌+◌, ◌<◌, ◌≤◌, ◌++◌, [], ◌∷◌, ap, sym, ◌∙◌, subst, arith}
+use Rattle.std.proofs.Common.{◌≡◌, ◌+◌, ◌<◌, ◌≤◌, ap, sym, ◌∙◌, subst, arith}
 use Rattle.sg_space.specs.Sections.{old_base}
 use Rattle.sg_space.specs.Standing.{TellsYoung}
 use Rattle.sg_space.proofs.Reached.{clear_skip, clear_step}
@@ -32,4 +32,4 @@ returns c owner sound =
     let s = c.args.self.now in
     let end : c.old_word-end.result ≡ old_base s.layout = c.old_word-end.ensures ∙ ap old_base c.sections.ensures.layout in
     subst (λ told. TellsYoung s owner told) (sym c.from_vec.ensures)
-        (told_all s c.loop-x.x c.loop-x.told.items c.loop-x.invariant.told (subst (λ n. n ≤ c.loop-x.x) end c.loop-x-test.false) owner sound)
+    (told_all s c.loop-x.x c.loop-x.told.items c.loop-x.invariant.told (subst (λ n. n ≤ c.loop-x.x) end c.loop-x-test.false) owner sound)
