@@ -1,10 +1,6 @@
 -- Byte addresses and the numbers of words.
-use Rattle.std.proofs.Common.{◌≡◌, ◌≢◌, ℕ, zero, suc, ◌+◌, ◌-◌, ◌*◌, ◌/◌, ◌%◌, ◌^◌, ◌<◌, ◌≤◌, List, [], ◌∷◌, ◌++◌, map, length, refl, sym, ap, ◌∙◌, subst, inl, inr, arith, get_or-set_same, get_or-set_other}
-use Rattle.std.proofs.Math.Nat.{div-add-mod}
+use Rattle.std.proofs.Common.{◌≡◌, ℕ, ◌+◌, ◌*◌, ◌%◌, ◌^◌, ◌<◌, ◌≤◌, arith}
 use Rattle.sg_words.specs.Address.{IsAddress, byte_at, word_at}
-use Rattle.sg_space.specs.Sections.{nursery_base, old_base, large_base, words_end, IsLayout, IsInSection}
-use Rattle.sg_space.specs.Space.{Contents, IsContents}
-use Rattle.sg_space.specs.Standing.{word}
 
 pub word_at-plus : (a k : ℕ) → word_at (a + 8 * k) ≡ word_at a + k
 word_at-plus a k = omega arith

@@ -1,7 +1,7 @@
 -- Where no slot is left the words are the image of the opening.
-use Rattle.std.proofs.Common.{◌≡◌, ◌≢◌, ℕ, ◌+◌, ◌*◌, ◌/◌, ◌≤◌, ◌<◌, ◌⊎◌, cond, Bool, true, false, List, [], sym, refl, ap, ◌∙◌, subst, inl, inr, arith}
+use Rattle.std.proofs.Common.{◌≡◌, ◌≢◌, ℕ, ◌+◌, ◌≤◌, ◌<◌, ◌⊎◌, cond, true, false, List, [], sym, refl, ap, ◌∙◌, subst, inl, inr, arith}
 use Rattle.std.proofs.lemmas.Bool.{cond-true, cond-false, cases_lt, cases_Bool}
-use Rattle.sg_words.specs.Address.{byte_at, word_at}
+use Rattle.sg_words.specs.Address.{byte_at}
 use Rattle.sg_words.specs.Tags.{plain_word}
 use Rattle.sg_graph.specs.Reach.Reached.{Root, Next}
 use Rattle.sg_copy.specs.Area.{Area, has, In, IsYoung, size_of, is_strong, Traces, sent}

@@ -1,12 +1,12 @@
 -- What handling one slot keeps.
-use Rattle.std.proofs.Common.{◌≡◌, ◌≢◌, ℕ, suc, ◌+◌, ◌-◌, ◌*◌, ◌/◌, ◌≤◌, ◌<◌, ◌⊎◌, eqb, cond, Bool, true, false, List, [], ◌∷◌, ◌++◌, sym, refl, ap, ◌∙◌, subst, inl, inr, arith, le_refl}
-use Rattle.std.proofs.lemmas.Bool.{cond-true, cond-false, cases_eq, cases_lt, cases_Bool, eq-eqb, ne_eqb}
-use Rattle.sg_words.specs.Address.{byte_at, word_at}
+use Rattle.std.proofs.Common.{◌≡◌, ◌≢◌, ℕ, ◌+◌, ◌≤◌, ◌<◌, cond, Bool, true, false, List, ◌∷◌, sym, refl, ap, ◌∙◌, subst, inl, inr, arith}
+use Rattle.std.proofs.lemmas.Bool.{cond-true, cond-false, cases_eq, cases_lt, cases_Bool, ne_eqb}
+use Rattle.sg_words.specs.Address.{byte_at}
 use Rattle.sg_words.specs.Tags.{plain_word}
 use Rattle.sg_graph.specs.Reach.Reached.{Root, Next}
-use Rattle.sg_copy.specs.Area.{Area, has, In, IsYoung, size_of, is_strong, Traces, sent}
+use Rattle.sg_copy.specs.Area.{Area, has, In, IsYoung, size_of, Traces, sent}
 use Rattle.sg_copy.specs.Round.{Round, IsOpening, Slot, Item, Copied, Failed, IsSettled, IsGoing}
-use Rattle.sg_copy.proofs.Members.{word_at-byte_at, has-cases, in-here, in-there, out, not-in, sent-at, sent-fixed, placed-grows, placed-in}
+use Rattle.sg_copy.proofs.Members.{has-cases, in-here, in-there, out, sent-at, sent-fixed, placed-grows, placed-in}
 
 module _ (area : Area) (w : ℕ → ℕ) (items : List ℕ) (fill : ℕ) (op : IsOpening area w items fill) (r : Round) (go : IsGoing area w items fill r) where
   pub grown : fill ≤ r.fill

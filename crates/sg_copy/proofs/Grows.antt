@@ -1,11 +1,11 @@
 -- An object is copied, or fails.
-use Rattle.std.proofs.Common.{◌≡◌, ◌≢◌, ℕ, ◌+◌, ◌-◌, ◌*◌, ◌/◌, ◌≤◌, ◌<◌, ◌⊎◌, eqb, ltb, leb, cond, false, List, [], ◌∷◌, ◌++◌, sym, refl, ap, ◌∙◌, subst, inl, inr, arith, zero-le}
-use Rattle.std.proofs.lemmas.Bool.{cond-true, cond-false, cases_eq, cases_lt, cases_Bool, eq-eqb, ne_eqb, le-leb, lt-ltb, lt-leb, le-ltb}
-use Rattle.sg_words.specs.Address.{byte_at, word_at}
+use Rattle.std.proofs.Common.{◌≡◌, ◌≢◌, ℕ, ◌+◌, ◌-◌, ◌≤◌, ◌<◌, ◌⊎◌, ltb, leb, cond, false, List, [], ◌∷◌, ◌++◌, sym, refl, ap, ◌∙◌, subst, inl, inr, arith, zero-le}
+use Rattle.std.proofs.lemmas.Bool.{cond-true, cond-false, cases_eq, cases_lt, cases_Bool, le-leb, lt-ltb, lt-leb, le-ltb}
+use Rattle.sg_words.specs.Address.{byte_at}
 use Rattle.sg_words.specs.Tags.{plain_word}
-use Rattle.sg_copy.specs.Area.{Area, has, In, IsYoung, size_of, is_strong, Traces, sent, Placed}
+use Rattle.sg_copy.specs.Area.{Area, has, In, IsYoung, size_of, is_strong, Traces, sent}
 use Rattle.sg_copy.specs.Round.{Round, slots, IsOpening, Slot, Item, Copied, Failed, IsSettled, IsGoing}
-use Rattle.sg_copy.proofs.Members.{has-cases, in-last, in-before, last-cases, in-here, in-there, in-left, in-right, in-cases, in-one, out, not-in, sent-along, placed-more, slots-in, slots-are, sends, sends-at, sends-other}
+use Rattle.sg_copy.proofs.Members.{in-last, in-before, last-cases, in-here, in-left, in-right, in-cases, in-one, out, not-in, sent-along, placed-more, slots-in, slots-are, sends, sends-at, sends-other}
 use Rattle.sg_copy.proofs.Going.{grown, young-below, target-old, slot-run}
 
 -- source, but the n words from `at` on come from x on

@@ -1,8 +1,8 @@
 -- What the code does with one slot is one of the ways to handle it.
-use Rattle.std.proofs.Common.{◌≡◌, ◌≢◌, ℕ, zero, suc, ◌+◌, ◌-◌, ◌*◌, ◌/◌, ◌%◌, ◌^◌, ◌≤◌, ◌<◌, cond, Bool, true, false, List, [], ◌∷◌, ◌++◌, map, length, Some, slice_get, slice_index, slice_set, sym, refl, ap, ◌∙◌, subst, inl, inr, arith, get_or-set_same, get_or-set_other, length-set}
+use Rattle.std.proofs.Common.{◌≡◌, ℕ, suc, ◌+◌, ◌-◌, ◌*◌, ◌≤◌, ◌<◌, cond, Bool, true, false, List, [], ◌∷◌, ◌++◌, map, length, Some, slice_get, slice_index, slice_set, sym, refl, ap, ◌∙◌, subst, arith, get_or-set_same, get_or-set_other, length-set}
 use Rattle.std.proofs.lemmas.Bool.{cond-true, cond-false}
-use Rattle.std.proofs.lemmas.List.{append_assoc, append-nil, map-append}
-use Rattle.sg_words.specs.Address.{IsAddress, byte_at, word_at}
+use Rattle.std.proofs.lemmas.List.{append_assoc, map-append}
+use Rattle.sg_words.specs.Address.{byte_at, word_at}
 use Rattle.sg_words.specs.Tags.{plain_word, IsTag, tag_word}
 use Rattle.sg_words.specs.declared.tags.Tag.{Tag}
 use Rattle.sg_words.specs.declared.tags.Tag.TheVariants.{Plain, Forwarded, Pinned}
@@ -12,7 +12,7 @@ use Rattle.sg_space.specs.Sections.{old_base}
 use Rattle.sg_space.specs.Space.{Contents}
 use Rattle.sg_space.specs.Standing.{word}
 use Rattle.sg_copy.specs.Area.{Area, IsYoung, size_of}
-use Rattle.sg_copy.specs.Round.{slots_by, Handles, HoldsNone, FindsPinned, FindsForwarded, Copies, Fails}
+use Rattle.sg_copy.specs.Round.{slots_by, Handles, Copies, Fails}
 use Rattle.sg_copy.specs.Copying.{is_reference, area_of, IsStill, Stores, HasCopied, IsTarget, Went, Stays, IsPlain}
 
 -- a write changes one word

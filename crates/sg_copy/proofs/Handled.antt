@@ -1,5 +1,5 @@
 -- What the code makes of a copier is what handling a slot makes of it.
-use Rattle.std.proofs.Common.{◌≡◌, ◌≢◌, ℕ, ◌+◌, ◌-◌, ◌*◌, ◌/◌, ◌%◌, ◌≤◌, ◌<◌, List, [], ◌∷◌, ◌++◌, map, length, slice_set, sym, refl, ap, ◌∙◌, subst, arith}
+use Rattle.std.proofs.Common.{◌≡◌, ℕ, ◌+◌, ◌-◌, ◌*◌, ◌/◌, ◌≤◌, ◌<◌, List, [], ◌∷◌, ◌++◌, map, length, slice_set, sym, refl, ap, ◌∙◌, subst, arith}
 use Rattle.std.proofs.lemmas.List.{append-nil}
 use Rattle.sg_words.specs.Address.{IsAddress, byte_at, word_at}
 use Rattle.sg_words.specs.Tags.{plain_word, IsTag, tag_word}
@@ -9,9 +9,9 @@ use Rattle.sg_space.specs.Sections.{old_base, large_base}
 use Rattle.sg_space.specs.Space.{Contents}
 use Rattle.sg_space.specs.Standing.{word}
 use Rattle.sg_copy.specs.Area.{IsYoung}
-use Rattle.sg_copy.specs.Round.{slots_by, Handles, HoldsNone, FindsPinned, FindsForwarded}
+use Rattle.sg_copy.specs.Round.{slots_by, Handles, FindsForwarded}
 use Rattle.sg_copy.specs.declared.copier.Copier.{Copier}
-use Rattle.sg_copy.specs.Copying.{area_of, IsStill, Stores, HasCopied, IsFront, moved_to, IsHandled}
+use Rattle.sg_copy.specs.Copying.{area_of, IsStill, Stores, HasCopied, IsFront, IsHandled}
 use Rattle.sg_copy.proofs.Hand.{stores, still_set, still_same, still_on, area_still, fails_at, copies_to}
 
 layout_still : (s t : Contents) → IsStill s t → t.layout ≡ s.layout

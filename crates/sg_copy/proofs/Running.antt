@@ -1,18 +1,17 @@
 -- What the law says of a round under way in the code.
-use Rattle.std.proofs.Common.{◌≡◌, ◌≢◌, ℕ, zero, suc, ◌+◌, ◌-◌, ◌*◌, ◌^◌, ◌≤◌, ◌<◌, Bool, false, List, [], ◌∷◌, ◌++◌, map, length, drop, get_or, sym, refl, ap, ◌∙◌, subst, inl, inr, arith, length-append, length-drop}
+use Rattle.std.proofs.Common.{◌≡◌, ℕ, zero, suc, ◌+◌, ◌-◌, ◌*◌, ◌≤◌, ◌<◌, List, [], ◌∷◌, ◌++◌, map, length, drop, get_or, sym, refl, ap, ◌∙◌, subst, inl, inr, arith, length-append, length-drop}
 use Rattle.std.proofs.lemmas.Bool.{cases_Bool}
 use Rattle.std.proofs.lemmas.List.{length-map, map-append}
 use Rattle.sg_words.specs.Address.{byte_at, word_at}
-use Rattle.sg_words.specs.Tags.{plain_word}
 use Rattle.sg_words.specs.declared.pieces.Move.{Move}
 use Rattle.sg_graph.specs.Reach.{AreDistinct}
-use Rattle.sg_space.specs.Sections.{nursery_base, old_base, large_base, words_end, IsInSection}
+use Rattle.sg_space.specs.Sections.{old_base, IsInSection}
 use Rattle.sg_space.specs.Space.{Contents}
 use Rattle.sg_space.specs.Standing.{word}
 use Rattle.sg_copy.specs.declared.copier.Copier.{Copier}
-use Rattle.sg_copy.specs.Area.{Area, In, has, IsYoung, Traces}
+use Rattle.sg_copy.specs.Area.{Area, In, has, IsYoung}
 use Rattle.sg_copy.specs.Round.{Round, Slot, Item, Copied, Failed, IsGoing, Handles, IsAfter, remains}
-use Rattle.sg_copy.specs.Copying.{area_of, IsStill, IsTarget, Went, Stays, IsPlain, HasTarget, IsFront, moved_to, IsHandled, CanCopy}
+use Rattle.sg_copy.specs.Copying.{area_of, IsStill, Went, Stays, IsPlain, HasTarget, IsFront, moved_to, IsHandled, CanCopy}
 use Rattle.sg_copy.proofs.Addresses.{is_address}
 use Rattle.sg_copy.proofs.Members.{in-here, in-there, not-in}
 use Rattle.sg_copy.proofs.Going.{target-old, plain-words}

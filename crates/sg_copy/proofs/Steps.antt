@@ -1,17 +1,16 @@
 -- One handled slot after another, from the opening to the image.
-use Rattle.std.proofs.Common.{◌≡◌, ◌≢◌, ℕ, zero, suc, ◌+◌, ◌-◌, ◌*◌, ◌/◌, ◌≤◌, ◌<◌, ◌⊎◌, cond, Bool, true, false, List, [], ◌∷◌, ◌++◌, length, sym, refl, ap, ◌∙◌, subst, inl, inr, arith, zero-le}
-use Rattle.std.proofs.lemmas.Bool.{cond-true, cond-false, cases_lt, cases_Bool}
+use Rattle.std.proofs.Common.{◌≡◌, ◌≢◌, ℕ, suc, ◌+◌, ◌-◌, ◌*◌, ◌≤◌, ◌<◌, ◌⊎◌, false, List, [], ◌∷◌, ◌++◌, length, sym, refl, ap, ◌∙◌, subst, inl, inr, arith}
+use Rattle.std.proofs.lemmas.Bool.{cond-false, cases_Bool}
 use Rattle.std.proofs.lemmas.List.{append-nil, length-append}
-use Rattle.sg_words.specs.Address.{byte_at, word_at}
+use Rattle.sg_words.specs.Address.{byte_at}
 use Rattle.sg_words.specs.Tags.{plain_word}
 use Rattle.sg_graph.specs.Reach.{AreDistinct}
 use Rattle.sg_graph.specs.Reach.Reached.{Root, Next}
-use Rattle.sg_copy.specs.Area.{Area, has, In, IsYoung, size_of, is_strong, Traces, sent}
-use Rattle.sg_copy.specs.Image.{IsImage}
-use Rattle.sg_copy.specs.Round.{Round, slots, slots_by, IsOpening, Slot, Item, Copied, Failed, IsSettled, IsGoing, started, Handles, HoldsNone, FindsPinned, FindsForwarded, Copies, Fails, remains, IsAfter, CopierLaw}
+use Rattle.sg_copy.specs.Area.{Area, has, In, IsYoung, size_of, Traces, sent}
+use Rattle.sg_copy.specs.Round.{Round, slots, slots_by, IsOpening, Slot, Item, Copied, Failed, IsSettled, IsGoing, started, Handles, HoldsNone, FindsPinned, FindsForwarded, Copies, Fails, IsAfter}
 use Rattle.sg_graph.proofs.Distinct.{few}
-use Rattle.sg_copy.proofs.Members.{in-here, in-left, in-cases, in-there, in-right, out, not-in, distinct-more, in-last, among-all, sent-at, sent-fixed, slots-same, slots-few, in-one, sends, sends-at, sends-other}
-use Rattle.sg_copy.proofs.Going.{young-below, target-old, slot-run, slot-apart, slot-word, plain-words, traced, found, quiet, settle}
+use Rattle.sg_copy.proofs.Members.{in-here, in-left, in-cases, in-right, out, not-in, distinct-more, in-last, among-all, sent-at, slots-same, slots-few, in-one, sends, sends-at, sends-other}
+use Rattle.sg_copy.proofs.Going.{young-below, slot-run, slot-apart, slot-word, plain-words, traced, found, quiet, settle}
 use Rattle.sg_copy.proofs.Grows.{from_range, from-out, grow, fail}
 
 pub at_start : (area : Area) (w : ℕ → ℕ) (items : List ℕ) (fill : ℕ) → IsOpening area w items fill → IsGoing area w items fill (started w items fill)

@@ -1,11 +1,11 @@
 -- What the code of a copier works on, and what it does with one slot.
-use Rattle.std.specs.Prelude.{◌≡◌, ◌≢◌, ℕ, ◌+◌, ◌-◌, ◌*◌, ◌<◌, ◌≤◌, Bool, false, Option, Some, None, List, ◌++◌, map, length, slice_get}
+use Rattle.std.specs.Prelude.{◌≡◌, ◌≢◌, ℕ, ◌+◌, ◌-◌, ◌<◌, ◌≤◌, Bool, false, Option, Some, None, List, ◌++◌, map, length, slice_get}
 use Rattle.sg_words.specs.Address.{IsAddress, byte_at, word_at}
 use Rattle.sg_words.specs.Tags.{plain_word}
 use Rattle.sg_words.specs.declared.pieces.Move.{Move}
 use Rattle.sg_graph.specs.declared.shapes.Shape.{Shape}
 use Rattle.sg_graph.specs.Shapes.{holds_reference}
-use Rattle.sg_space.specs.Sections.{nursery_base, old_base, large_base, words_end, IsInSection}
+use Rattle.sg_space.specs.Sections.{nursery_base, old_base, large_base, IsInSection}
 use Rattle.sg_space.specs.Space.{Contents, IsContents}
 use Rattle.sg_space.specs.Standing.{word}
 use Rattle.sg_copy.specs.declared.copier.Copier.{Copier}

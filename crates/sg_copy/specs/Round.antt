@@ -3,7 +3,7 @@ use Rattle.std.specs.Prelude.{◌≡◌, ◌≢◌, ℕ, zero, suc, ◌+◌, ◌
 use Rattle.sg_words.specs.Address.{byte_at}
 use Rattle.sg_words.specs.Tags.{plain_word}
 use Rattle.sg_graph.specs.Reach.{AreDistinct}
-use Rattle.sg_copy.specs.Area.{Area, In, has, IsYoung, size_of, is_strong, Points, Traces, sent, Placed}
+use Rattle.sg_copy.specs.Area.{Area, In, has, IsYoung, size_of, is_strong, Traces, sent, Placed}
 use Rattle.sg_copy.specs.Image.{IsImage}
 
 -- The words; where each object is now; which word of the opening each word was copied from; the slots to come and those

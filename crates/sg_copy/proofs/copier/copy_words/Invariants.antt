@@ -1,4 +1,3 @@
-use Rattle.std.proofs.Common.{◌≡◌}
 use Rattle.sg_words.specs.Address.{word_at}
 use Rattle.sg_space.specs.Standing.{word}
 use Rattle.sg_copy.specs.Copying.{IsStill, HasCopied}

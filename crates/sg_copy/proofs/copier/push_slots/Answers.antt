@@ -1,4 +1,4 @@
-use Rattle.std.proofs.Common.{◌+◌, ◌-◌, ◌++◌, arith, sym, ap, ◌∙◌, map, true}
+use Rattle.std.proofs.Common.{◌+◌, ◌-◌, ◌++◌, arith, sym, ap, ◌∙◌, map}
 use Rattle.sg_copy.specs.Round.{slots_by}
 use Rattle.sg_copy.specs.Copying.{area_of}
 use Rattle.sg_words.specs.Address.{word_at}

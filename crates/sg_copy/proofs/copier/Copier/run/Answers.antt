@@ -1,11 +1,11 @@
-use Rattle.std.proofs.Common.{◌≡◌, ◌∷◌, ◌<◌, ◌+◌, ℕ, List, [], map, drop, length, arith, sym, refl, ap, ◌∙◌, subst, zero-le}
+use Rattle.std.proofs.Common.{◌≡◌, ◌∷◌, ◌<◌, ◌+◌, ℕ, map, drop, length, arith, sym, refl, ◌∙◌, subst, zero-le}
 use Rattle.std.proofs.lemmas.List.{length-map}
 use Rattle.std.proofs.Math.ListN.{drop_of_length-le}
 use Rattle.sg_words.specs.Address.{word_at}
 use Rattle.sg_space.specs.Sections.{IsInSection}
 use Rattle.sg_space.specs.Space.{Contents}
 use Rattle.sg_space.specs.Standing.{word}
-use Rattle.sg_copy.specs.Round.{started, IsAfter, remains}
+use Rattle.sg_copy.specs.Round.{started, IsAfter}
 use Rattle.sg_copy.specs.Image.{IsImage}
 use Rattle.sg_copy.specs.Copying.{area_of, IsStill}
 use Rattle.sg_copy.proofs.Steps.{at_start}

@@ -1,4 +1,4 @@
-use Rattle.std.proofs.Common.{◌≡◌, ◌<◌, ◌-◌, length, arith, sym, refl, ap, ◌∙◌}
+use Rattle.std.proofs.Common.{◌<◌, ◌-◌, length, arith, sym, refl, ◌∙◌}
 use Rattle.sg_words.specs.Address.{word_at}
 use Rattle.sg_copy.specs.Round.Handles.{FindsPinned}
 use Rattle.sg_copy.proofs.Hand.{no_target}
