@@ -24,10 +24,10 @@ front_still s t f g h e front = record {
   below = subst (λ l. word_at g ≤ large_base l) (sym (layout_still s t h)) (subst (λ (z : ℕ). word_at z ≤ large_base s.layout) (sym e) front.below);
 }
 
-moved_front : (f n : ℕ) → byte_at (word_at f) ≡ f → byte_at (word_at (f + 8 * (n + 2))) ≡ f + 8 * (n + 2)
+pub moved_front : (f n : ℕ) → byte_at (word_at f) ≡ f → byte_at (word_at (f + 8 * (n + 2))) ≡ f + 8 * (n + 2)
 moved_front f n e = omega arith
 
-moved_word : (f n : ℕ) → word_at (f + 8 * (n + 2)) ≡ word_at f + (n + 2)
+pub moved_word : (f n : ℕ) → word_at (f + 8 * (n + 2)) ≡ word_at f + (n + 2)
 moved_word f n = omega arith
 
 module _ (old : Copier) (slot : ℕ) (front : IsFront old.space old.front) where

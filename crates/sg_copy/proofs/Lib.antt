@@ -7,3 +7,4 @@ pub mod Addresses
 pub mod Hand
 pub mod Handled
 pub mod Running
+pub mod Filled

@@ -1,5 +1,5 @@
 -- Members of lists, where a word leads, and where moved objects stand.
-use Rattle.std.proofs.Common.{◌≡◌, ◌≢◌, ℕ, zero, suc, ◌+◌, ◌-◌, ◌*◌, ◌/◌, ◌≤◌, ◌<◌, ◌⊎◌, eqb, cond, Bool, true, false, List, [], ◌∷◌, ◌++◌, length, sym, refl, ap, ◌∙◌, subst, inl, inr, arith, zero-le}
+use Rattle.std.proofs.Common.{◌≡◌, ◌≢◌, ℕ, zero, suc, ◌+◌, ◌-◌, ◌*◌, ◌/◌, ◌≤◌, ◌<◌, ◌⊎◌, eqb, cond, Bool, true, false, List, [], ◌∷◌, ◌++◌, length, drop, sym, refl, ap, ◌∙◌, subst, inl, inr, arith, zero-le}
 use Rattle.std.proofs.lemmas.Bool.{cond-true, cond-false, cases_eq, cases_Bool, eq-eqb, ne_eqb}
 use Rattle.sg_words.specs.Address.{byte_at, word_at}
 use Rattle.sg_graph.specs.Reach.{IsFreshIn, AreDistinct, AreAmong}
@@ -85,6 +85,12 @@ fresh-more x y (z ∷ xs) f n = (f.0, fresh-more x y xs f.1 n)
 pub distinct-more : (x : ℕ) (xs : List ℕ) → AreDistinct xs → (In x xs → ⊥) → AreDistinct (xs ++ x ∷ [])
 distinct-more x [] d n = (tt, tt)
 distinct-more x (y ∷ xs) d n = (fresh-more y x xs d.0 (λ e. n (in-here x y xs (sym e))), distinct-more x xs d.1 (λ h. n (in-there x y xs h)))
+
+-- what comes next in a list is one of the list
+pub in-dropped : (x : ℕ) (xs : List ℕ) (i : ℕ) (rest : List ℕ) → drop i xs ≡ x ∷ rest → In x xs
+in-dropped x xs zero rest e = subst (λ (l : List ℕ). In x l) (sym e) (in-here x x rest refl)
+in-dropped x [] (suc i) rest e = subst (λ (l : List ℕ). In x l) (sym e) (in-here x x rest refl)
+in-dropped x (y ∷ xs) (suc i) rest e = in-there x y xs (in-dropped x xs i rest e)
 
 pub among-all : (h : ℕ) (xs : List ℕ) → ((a : ℕ) → In a xs → (1 ≤ a) × (a ≤ h)) → AreAmong h xs
 among-all h [] f = tt

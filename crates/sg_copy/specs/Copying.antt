@@ -1,5 +1,5 @@
 -- What the code of a copier works on, and what it does with one slot.
-use Rattle.std.specs.Prelude.{◌≡◌, ◌≢◌, ℕ, ◌+◌, ◌-◌, ◌<◌, ◌≤◌, Bool, false, Option, Some, None, List, ◌++◌, map, length, slice_get}
+use Rattle.std.specs.Prelude.{◌≡◌, ◌≢◌, ℕ, ◌+◌, ◌-◌, ◌<◌, ◌≤◌, Bool, false, Option, Some, None, List, [], ◌∷◌, ◌++◌, map, length, slice_get}
 use Rattle.sg_words.specs.Address.{IsAddress, byte_at, word_at}
 use Rattle.sg_words.specs.Tags.{plain_word}
 use Rattle.sg_words.specs.declared.pieces.Move.{Move}
@@ -9,9 +9,9 @@ use Rattle.sg_space.specs.Sections.{nursery_base, old_base, large_base, IsInSect
 use Rattle.sg_space.specs.Space.{Contents, IsContents}
 use Rattle.sg_space.specs.Standing.{word}
 use Rattle.sg_copy.specs.declared.copier.Copier.{Copier}
-use Rattle.sg_copy.specs.Area.{Area, In, IsYoung, size_of, Traces}
+use Rattle.sg_copy.specs.Area.{Area, In, IsYoung, size_of, class_of, Traces}
 use Rattle.sg_copy.specs.Image.{IsImage}
-use Rattle.sg_copy.specs.Round.{IsOpening, Handles}
+use Rattle.sg_copy.specs.Round.{IsOpening, Handles, slots_by}
 
 -- whether field i of an object of this shape holds a reference
 abbrev pub is_reference : Option Shape → ℕ → Bool
@@ -84,3 +84,31 @@ pub record HasCopiedTo (old : Contents) (front : ℕ) (slots : List ℕ) (new : 
   pub image : IsImage (area_of old) (word old) slots (word_at front) went stayed m (word new) (word_at end)
   pub told_moves : moves ≡ map (λ a. moved_to (byte_at (m a)) a) went
   pub told_fails : fails ≡ map byte_at stayed
+
+-- the reference fields of an object that is taken whole, and those of several, in order
+abbrev pub fields_of : Contents → ℕ → List ℕ
+fields_of s h = slots_by (area_of s) (class_of (word s h)) h 0 (word s (h + 1))
+
+abbrev pub fields_of_all : Contents → List ℕ → List ℕ
+fields_of_all s [] = []
+fields_of_all s (h ∷ hs) = fields_of s h ++ fields_of_all s hs
+
+-- the object is pinned, of one of the classes, and lies in the nursery
+pub record IsWhole (s : Contents) (h : ℕ) : Type 0 where
+  pub class : ℕ
+  pub known : class < length s.shapes
+  pub tag : word s h ≡ plain_word class + 2
+  pub above : nursery_base ≤ h
+  pub within : h + size_of (word s) h ≤ old_base s.layout
+
+-- from the word x on the objects of the major heap stand one behind another up to the front, where none stands
+pub data IsFilled (s : Contents) (front : ℕ) : ℕ → Type 0 where
+  Ends : (x : ℕ) → x ≡ front → x ≤ large_base s.layout → (x < large_base s.layout → word s x ≡ 0) → IsFilled s front x
+  Goes : (x : ℕ) → word s x ≢ 0 → x + size_of (word s) x ≤ large_base s.layout → IsFilled s front (x + size_of (word s) x) → IsFilled s front x
+
+-- what a round over slots and whole objects asks of a space
+pub record CanCopyAll (s : Contents) (slots wholes : List ℕ) : Type 0 where
+  pub front : ℕ
+  pub filled : IsFilled s front (old_base s.layout)
+  pub pinned : (h : ℕ) → In h wholes → IsWhole s h
+  pub can : CanCopy s (byte_at front) (slots ++ fields_of_all s wholes)

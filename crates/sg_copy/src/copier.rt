@@ -143,7 +143,7 @@ fn copy_words(space: &mut Space, from: Addr, to: Addr, words: u32)
 }
 
 /// Adds the reference fields of an object of this class at `at`, in order.
-fn push_slots(
+pub(crate) fn push_slots(
     space: &Space,
     todo: &mut Vec<Addr>,
     class: u16,

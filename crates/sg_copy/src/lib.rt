@@ -4,6 +4,7 @@
 mod copier;
 mod law;
 mod round;
+mod wholes;
 
 pub use law::copier_law;
-pub use round::{Round, copy_slots};
+pub use round::{Round, copy_one};

@@ -1,8 +1,10 @@
-ghost use Rattle.std.specs.Prelude.{IfOk, map};
-ghost use Rattle.sg_words.specs.Address.{word_at};
-ghost use Rattle.sg_copy.specs.Copying.{CanCopy, HasCopiedTo};
+ghost use Rattle.std.specs.Prelude.{◌≡◌, ℕ, ◌++◌, IfOk, map};
+ghost use Rattle.sg_words.specs.Address.{byte_at, word_at};
+ghost use Rattle.sg_space.specs.Sections.{old_base, IsLayout};
+ghost use Rattle.sg_copy.specs.Copying.{IsFilled, CanCopy, CanCopyAll, HasCopiedTo, fields_of_all};
 
 use crate::copier::Copier;
+use crate::wholes::push_wholes;
 use sg_space::Space;
 use sg_words::{Addr, Move};
 use std::alloc::{AllocError, Global};
@@ -20,23 +22,35 @@ pub struct Round {
     pub fails: Vec<Addr>,
 }
 
-/// Copies the young objects that these slots lead to over strong fields, to the front of the major heap's rest, and sends
-/// each slot that refers to one of them. What a pinned object holds has to be among the slots; it stays where it is.
+/// Copies the young objects that these slots, and the reference fields of these pinned objects, lead to over strong
+/// fields, to the front of the major heap's rest; and sends each slot that refers to one of them. It goes through the slots
+/// first, then through the pinned objects, and then through what it copied, in that order.
 ///
-/// Takes memory for the slots, the moves and the failed objects, and time linear in the slots and the words of what is
-/// copied. Where memory runs out the space is lost.
-pub fn copy_slots(
+/// Takes memory for the slots, the moves and the failed objects, and time linear in the slots, the words of what is copied
+/// and the objects of the major heap. Where memory runs out the space is lost.
+pub fn copy_one(
     alloc: Global,
     space: Space,
-    front: Addr,
     slots: &[Addr],
+    wholes: &[Addr],
 ) -> Result<Round, AllocError>
-    requires { CanCopy space front (map word_at slots.now) }
-    ensures { IfOk result (λ round. HasCopiedTo space front (map word_at slots.now) round.space round.moves.items round.fails.items round.front) }
+    requires { CanCopyAll space (map word_at slots.now) (map word_at wholes.now) }
+    ensures { IfOk result (λ round. (front : ℕ) → IsFilled space front (old_base space.layout) → HasCopiedTo space (byte_at front) (map word_at slots.now ++ fields_of_all space (map word_at wholes.now)) round.space round.moves.items round.fails.items round.front) }
+{
+    let front = old_front(&space);
+    let mut todo = slots.to_vec(alloc)?;
+    push_wholes(&space, &mut todo, wholes)?;
+    copy_from(alloc, space, front, todo)
+}
+
+/// Goes through these slots, with the major heap filled to before `front`.
+fn copy_from(alloc: Global, space: Space, front: Addr, todo: Vec<Addr>) -> Result<Round, AllocError>
+    requires { CanCopy space front (map word_at todo.items) }
+    ensures { IfOk result (λ round. HasCopiedTo space front (map word_at todo.items) round.space round.moves.items round.fails.items round.front) }
 {
     let mut copier = Copier {
         space,
-        todo: slots.to_vec(alloc)?,
+        todo,
         front,
         moves: Vec::new(alloc),
         fails: Vec::new(alloc),
@@ -48,4 +62,22 @@ pub fn copy_slots(
         moves: copier.moves,
         fails: copier.fails,
     })
+}
+
+/// The first word behind the objects of the major heap.
+fn old_front(space: &Space) -> Addr
+    requires layout { IsLayout space.now.layout }
+    requires filled { (front : ℕ) × IsFilled space.now front (old_base space.now.layout) }
+    ensures { (front : ℕ) → IsFilled space.now front (old_base space.now.layout) → result ≡ byte_at front }
+{
+    let end = space.layout().large_base();
+    let mut at = match Addr::of(space.layout().old_base()) {
+        Some(base) => base,
+        None => unreachable!(),
+    };
+    while at.get() < end && space.read(at) != 0 {
+        let fields = space.read(at.plus(1)) as u32;
+        at = at.plus(fields + 2);
+    }
+    at
 }
