@@ -8,3 +8,4 @@ pub mod Hand
 pub mod Handled
 pub mod Running
 pub mod Filled
+pub mod One

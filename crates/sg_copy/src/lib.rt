@@ -8,3 +8,6 @@ mod wholes;
 
 pub use law::copier_law;
 pub use round::{Round, copy_one};
+
+#[cfg(test)]
+mod tests;
