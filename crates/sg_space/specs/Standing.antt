@@ -6,7 +6,7 @@ use Rattle.sg_words.specs.Tags.{plain_word}
 use Rattle.sg_graph.specs.declared.shapes.Shape.{Shape}
 use Rattle.sg_graph.specs.Shapes.{holds_reference}
 use Rattle.sg_space.specs.declared.objects.Object.{Object}
-use Rattle.sg_space.specs.Sections.{nursery_base, old_base, large_base, words_end, IsYoung}
+use Rattle.sg_space.specs.Sections.{nursery_base, old_base, large_base, globals_base, words_end, IsYoung}
 use Rattle.sg_space.specs.Space.{Contents}
 
 -- the word with this number
@@ -56,6 +56,7 @@ IsSound s = (owner : ℕ → Option ℕ) × IsSoundBy s owner
 pub record RefersSoundly (s : Contents) (owner : ℕ → Option ℕ) : Type 0 where
   pub fields : (h i class : ℕ) (shape : Shape) → owner h ≡ Some h → slice_get s.shapes class ≡ Some shape → word s h ≡ plain_word class → i < shape.fields → holds_reference shape.kind i shape.fields ≡ true →
       (word s (h + 2 + i) ≡ 0) ⊎ ((g : ℕ) × (owner g ≡ Some g) × (word s (h + 2 + i) ≡ byte_at g))
+  pub rows : (x : ℕ) → globals_base s.layout ≤ x → x < words_end s.layout → (word s x ≡ 0) ⊎ ((g : ℕ) × (owner g ≡ Some g) × (word s x ≡ byte_at g))
 
 -- what is told of the standing object whose first word is h
 pub record IsToldOf (s : Contents) (h : ℕ) (o : Object) : Type 0 where
