@@ -6,8 +6,8 @@ use Rattle.sg_words.specs.Address.{byte_at, word_at}
 use Rattle.sg_words.specs.Tags.{plain_word, IsTag, tag_word}
 use Rattle.sg_words.specs.declared.tags.Tag.{Tag}
 use Rattle.sg_words.specs.declared.tags.Tag.TheVariants.{Plain, Forwarded, Pinned}
-use Rattle.sg_graph.specs.declared.shapes.Shape.{Shape}
-use Rattle.sg_graph.specs.Shapes.{holds_reference}
+use Rattle.sg_desc.specs.declared.shapes.Shape.{Shape}
+use Rattle.sg_desc.specs.Shapes.{holds_reference}
 use Rattle.sg_space.specs.Sections.{old_base}
 use Rattle.sg_space.specs.Space.{Contents}
 use Rattle.sg_space.specs.Standing.{word}

@@ -9,3 +9,5 @@ pub mod Handled
 pub mod Running
 pub mod Filled
 pub mod One
+pub mod Order
+pub mod Row

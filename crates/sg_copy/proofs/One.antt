@@ -2,8 +2,8 @@
 use Rattle.std.proofs.Common.{◌≡◌, ℕ, ◌+◌, ◌<◌, ◌≤◌, true, false, List, [], ◌∷◌, length, Some, slice_get, slice_set, inl, refl, sym, ap, ◌∙◌, subst, arith, length-set}
 use Rattle.std.proofs.lemmas.List.{get_or-replicate}
 use Rattle.sg_words.specs.Address.{byte_at, word_at}
-use Rattle.sg_graph.specs.declared.shapes.Shape.{Shape}
-use Rattle.sg_graph.specs.declared.shapes.Descriptor.TheVariants.{PtrFree}
+use Rattle.sg_desc.specs.declared.shapes.Shape.{Shape}
+use Rattle.sg_desc.specs.declared.shapes.Descriptor.TheVariants.{PtrFree}
 use Rattle.sg_graph.specs.Reach.Reached.{Root, Next}
 use Rattle.sg_space.specs.declared.layout.Layout.{Layout}
 use Rattle.sg_space.specs.Sections.{old_base, globals_base, words_end}

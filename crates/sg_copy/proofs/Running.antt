@@ -102,14 +102,19 @@ module _ (s : Contents) (front : ℕ) (slots : List ℕ) (can : CanCopy s front 
         ]
       ]
 
+  -- what the code does with the slot
+  pub next_handles : (old new : Copier) → IsStill s old.space → r.word ≡ word old.space → r.fill ≡ word_at old.front → (h : IsHandled old slot new) →
+      Handles (area_of s) r.word r.fill slot (word new.space) (word_at new.front) h.added h.moved h.failed
+  next_handles old new still words fills h =
+      subst (λ (area : Area). Handles area r.word r.fill slot (word new.space) (word_at new.front) h.added h.moved h.failed) (area_still s old.space still)
+      (subst (λ (z : ℕ). Handles (area_of old.space) r.word z slot (word new.space) (word_at new.front) h.added h.moved h.failed) (sym fills)
+      (subst (λ (f : ℕ → ℕ). Handles (area_of old.space) f (word_at old.front) slot (word new.space) (word_at new.front) h.added h.moved h.failed) (sym words) h.handles))
+
   -- one step of the code is one of the law
   pub next : (old new : Copier) → IsStill s old.space → r.word ≡ word old.space → r.fill ≡ word_at old.front → (h : IsHandled old slot new) →
       IsAfter (area_of s) (word s) slots (word_at front) r rest (word new.space) (word_at new.front) h.added h.moved h.failed
   next old new still words fills h =
-      handled (area_of s) (word s) slots (word_at front) can.opening r go d slot rest td (word new.space) (word_at new.front) h.added h.moved h.failed
-      (subst (λ (area : Area). Handles area r.word r.fill slot (word new.space) (word_at new.front) h.added h.moved h.failed) (area_still s old.space still)
-      (subst (λ (z : ℕ). Handles (area_of old.space) r.word z slot (word new.space) (word_at new.front) h.added h.moved h.failed) (sym fills)
-      (subst (λ (f : ℕ → ℕ). Handles (area_of old.space) f (word_at old.front) slot (word new.space) (word_at new.front) h.added h.moved h.failed) (sym words) h.handles)))
+      handled (area_of s) (word s) slots (word_at front) can.opening r go d slot rest td (word new.space) (word_at new.front) h.added h.moved h.failed (next_handles old new still words fills h)
 
 -- what is told of the round after a step
 module _ (area : Area) (w : ℕ → ℕ) (items : List ℕ) (fill : ℕ) (r : Round) (old new : Copier) (slot at : ℕ) (h : IsHandled old slot new) (front : IsFront old.space old.front)

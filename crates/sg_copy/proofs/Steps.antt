@@ -86,7 +86,7 @@ module _ (area : Area) (w : ℕ → ℕ) (items : List ℕ) (fill : ℕ) (op : I
     ]
 
     -- where the object is now, by its first word
-    tag-moves : (x t : ℕ) → Traces area w items x → r.word x ≡ byte_at t + 1 → In x r.moves
+    pub tag-moves : (x t : ℕ) → Traces area w items x → r.word x ≡ byte_at t + 1 → In x r.moves
     tag-moves x t tx e = elim (settled-by x (byte_at t + 1) tx e (λ nm nf p q. (let z = p.1 in absurd (omega arith)))) [
       | inl h ↦ h
       | inr h ↦ elim h [
@@ -100,14 +100,14 @@ module _ (area : Area) (w : ℕ → ℕ) (items : List ℕ) (fill : ℕ) (op : I
     ]
 
     -- a plain object hasn't moved or failed
-    tag-plain : (x c : ℕ) → Traces area w items x → r.word x ≡ plain_word c → (In x r.moves → ⊥) × (In x r.fails → ⊥) × (w x ≡ plain_word c)
+    pub tag-plain : (x c : ℕ) → Traces area w items x → r.word x ≡ plain_word c → (In x r.moves → ⊥) × (In x r.fails → ⊥) × (w x ≡ plain_word c)
     tag-plain x c t e =
         let nm : In x r.moves → ⊥ = λ h. (let z = go.forwarded x h in omega arith) in
         let nf : In x r.fails → ⊥ = λ h. (let z = go.pinned x h in let f = (go.failed x h).1 in let y = f.1 in omega arith) in
         (nm, nf, sym (word-of x t (out x r.moves nm) (out x r.fails nf)) ∙ e)
 
     -- what a pinned tag tells
-    tag-pinned : (x c : ℕ) → Traces area w items x → r.word x ≡ plain_word c + 2 → IsSettled w r.moves r.fails x × (has x r.moves ≡ false)
+    pub tag-pinned : (x c : ℕ) → Traces area w items x → r.word x ≡ plain_word c + 2 → IsSettled w r.moves r.fails x × (has x r.moves ≡ false)
     tag-pinned x c t e = (settled-by x (plain_word c + 2) t e (λ nm nf p q. (let z = p.1 in omega arith)), out x r.moves (λ h. (let z = go.forwarded x h in omega arith)))
 
     -- the young object that the slot refers to
@@ -117,7 +117,7 @@ module _ (area : Area) (w : ℕ → ℕ) (items : List ℕ) (fill : ℕ) (op : I
         (e, traced area w items fill op r go s x slot e y)
 
     -- two addresses of one word are of one object
-    one : (x z : ℕ) → w (r.source s) ≡ byte_at x → w (r.source s) ≡ byte_at z → z ≡ x
+    pub one : (x z : ℕ) → w (r.source s) ≡ byte_at x → w (r.source s) ≡ byte_at z → z ≡ x
     one x z e q = omega arith
 
     after-growing : (x c : ℕ) → w (r.source s) ≡ byte_at x → Traces area w items x → r.word x ≡ plain_word c → (copied word : ℕ → ℕ) (filled : ℕ) (added : List ℕ) →

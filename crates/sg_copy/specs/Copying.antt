@@ -3,14 +3,15 @@ use Rattle.std.specs.Prelude.{◌≡◌, ◌≢◌, ℕ, ◌+◌, ◌-◌, ◌<�
 use Rattle.sg_words.specs.Address.{IsAddress, byte_at, word_at}
 use Rattle.sg_words.specs.Tags.{plain_word}
 use Rattle.sg_words.specs.declared.pieces.Move.{Move}
-use Rattle.sg_graph.specs.declared.shapes.Shape.{Shape}
-use Rattle.sg_graph.specs.Shapes.{holds_reference}
+use Rattle.sg_desc.specs.declared.shapes.Shape.{Shape}
+use Rattle.sg_desc.specs.Shapes.{holds_reference}
 use Rattle.sg_space.specs.Sections.{nursery_base, old_base, large_base, IsInSection}
 use Rattle.sg_space.specs.Space.{Contents, IsContents}
 use Rattle.sg_space.specs.Standing.{word}
 use Rattle.sg_copy.specs.declared.copier.Copier.{Copier}
 use Rattle.sg_copy.specs.Area.{Area, In, IsYoung, size_of, class_of, Traces}
 use Rattle.sg_copy.specs.Image.{IsImage}
+use Rattle.sg_copy.specs.Order.{IsInOrder}
 use Rattle.sg_copy.specs.Round.{IsOpening, Handles, slots_by}
 
 -- whether field i of an object of this shape holds a reference
@@ -75,13 +76,15 @@ pub record CanCopy (s : Contents) (front : ℕ) (slots : List ℕ) : Type 0 wher
   pub classes : (x c : ℕ) → Traces (area_of s) (word s) slots x → (word s x ≡ plain_word c) → c < length s.shapes
   pub stays : (x c : ℕ) → Traces (area_of s) (word s) slots x → (word s x ≡ plain_word c + 2) → c < 256
 
--- the space is the image of the old one by a round on these slots; these objects moved, in this order, and these failed
+-- The space is the image of the old one by a round on these slots; these objects moved, in this order, and these failed, as
+-- they were found, breadth first.
 pub record HasCopiedTo (old : Contents) (front : ℕ) (slots : List ℕ) (new : Contents) (moves : List Move) (fails : List ℕ) (end : ℕ) : Type 0 where
   pub still : IsStill old new
   pub m : ℕ → ℕ
   pub went : List ℕ
   pub stayed : List ℕ
   pub image : IsImage (area_of old) (word old) slots (word_at front) went stayed m (word new) (word_at end)
+  pub ordered : IsInOrder (area_of old) (word old) slots (word_at front) went stayed (word_at end)
   pub told_moves : moves ≡ map (λ a. moved_to (byte_at (m a)) a) went
   pub told_fails : fails ≡ map byte_at stayed
 

@@ -1,4 +1,5 @@
 pub mod Area
 pub mod Round
 pub mod Image
+pub mod Order
 pub mod Copying

@@ -1,5 +1,5 @@
 use crate::*;
-use sg_graph::{Descriptor, Shape};
+use sg_desc::{Descriptor, Shape};
 use sg_space::{Layout, Space};
 use sg_words::Addr;
 use std::test::Fail;

@@ -1,13 +1,14 @@
 -- The book: which objects stand, and where; the fragments; the buffers.
-use Rattle.std.specs.Prelude.{◌≡◌, ℕ, ◌+◌, ◌-◌, ◌<◌, ◌≤◌, ◌⊎◌, ◌==◌, min, max, Bool, true}
+use Rattle.std.specs.Prelude.{◌≡◌, ℕ, ◌+◌, ◌-◌, ◌*◌, ◌<◌, ◌≤◌, ◌⊎◌, ◌==◌, min, max, Bool, true}
 use Rattle.sg_words.specs.Words.{put}
 use Rattle.sg_graph.specs.declared.program.Statement.{Statement}
-use Rattle.sg_graph.specs.declared.program.Statement.TheVariants.{New}
+use Rattle.sg_graph.specs.declared.program.Statement.TheVariants.{New, CollectMinor}
 use Rattle.sg_graph.specs.declared.program.Program.{Program}
 use Rattle.sg_graph.specs.declared.reports.Answer.{Answer}
 use Rattle.sg_graph.specs.declared.reports.Answer.TheVariants.{At, Full}
 use Rattle.sg_graph.specs.Scripts.{fields_of, words_for}
-use Rattle.sg_graph.specs.Graph.{Graph}
+use Rattle.sg_words.specs.Address.{byte_at}
+use Rattle.sg_graph.specs.Graph.{Graph, Entry, Ref, Int}
 
 -- where an object stands: in the nursery, in a block of the major heap, or in pages of its own
 pub data Section : Type 0 where
@@ -17,11 +18,12 @@ pub data Section : Type 0 where
 
 -- Addresses are numbers of words. The name 0, which stands for no object, always stands, at address 0.
 -- A fragment's words from `next` to before `limit` weren't given away yet. A buffer's words from `from` to before `to`
--- are those that its mutator has taken and not used.
+-- are those that its mutator has taken and not used. The words of the major heap from `fill` on were never given away.
 pub record Book : Type 0 where
   pub stands : ℕ → Bool
   pub address : ℕ → ℕ
   pub section : ℕ → Section
+  pub fill : ℕ
   pub fragments : ℕ
   pub next : ℕ → ℕ
   pub limit : ℕ → ℕ
@@ -35,12 +37,17 @@ nursery_base = 512
 abbrev pub nursery_end : Program → ℕ
 nursery_end p = nursery_base + p.config.nursery
 
+-- the word behind the major heap's last one: the heap begins where the nursery ends, and a block has 256 words
+abbrev pub old_end : Program → ℕ
+old_end p = nursery_end p + 256 * p.config.blocks
+
 -- nothing stands, and the whole nursery is one fragment
 abbrev pub empty_book : Program → Book
 empty_book p = record {
   stands = λ n. n == 0;
   address = λ _. 0;
   section = λ _. Young;
+  fill = nursery_end p;
   fragments = 1;
   next = λ _. nursery_base;
   limit = λ _. nursery_end p;
@@ -97,8 +104,15 @@ words_of_class p c = words_for (fields_of p c)
 -- where the object of a statement of mutator k with this answer stands; no other statement changes the book
 abbrev pub Books : Program → Book → ℕ → Statement → Answer → Book → Type 0
 Books p b k (New r class) (At name) c = Bumps b k (words_of_class p class) name c ⊎ ((f : ℕ) × Claims p b k (words_of_class p class) name f c)
-Books p b k (New r class) Full c = HasNoPlace b k (words_of_class p class) × (c ≡ b)
+-- no room is told at a stop alone, and a pause is made there
+Books p b k (New r class) Full c = ⊥
+Books p b k CollectMinor answer c = ⊥
 Books p b k s answer c = c ≡ b
+
+-- the word of what a register or a field holds: an object's byte address, 0 for none, or the number
+abbrev pub word_of : (ℕ → ℕ) → Entry → ℕ
+word_of address (Ref name) = byte_at (address name)
+word_of address (Int number) = number
 
 -- the word x is one of the standing object with this name
 pub record IsWordOf (g : Graph) (b : Book) (name x : ℕ) : Type 0 where

@@ -1,18 +1,21 @@
 -- An epoch: each mutator that hasn't ended does some of its next statements and then leaves.
-use Rattle.std.specs.Prelude.{◌≡◌, ℕ, zero, suc, ◌+◌, ◌<◌, ◌==◌, ◌↔◌, Bool, true, false, not, IsTrue, if◌then◌else◌, List, [], ◌∷◌, ◌++◌, length, map, filter}
+use Rattle.std.specs.Prelude.{◌≡◌, ℕ, zero, suc, ◌+◌, ◌<◌, ◌==◌, ◌↔◌, ◌&&◌, nat_lt, Bool, true, false, not, IsTrue, if◌then◌else◌, List, [], ◌∷◌, ◌++◌, length, map, filter}
 use Rattle.sg_words.specs.Address.{byte_at}
 use Rattle.sg_graph.specs.declared.program.Statement.{Statement}
+use Rattle.sg_graph.specs.declared.program.Statement.TheVariants.{New, CollectMinor}
 use Rattle.sg_graph.specs.declared.program.Program.{Program}
 use Rattle.sg_graph.specs.declared.reports.Answer.{Answer}
 use Rattle.sg_graph.specs.declared.reports.Answer.TheVariants.{At, Nil, Null, Number, Fine, Field, Full}
 use Rattle.sg_graph.specs.declared.reports.Leave.{Leave}
-use Rattle.sg_graph.specs.declared.reports.Leave.TheVariants.{Ended}
+use Rattle.sg_graph.specs.declared.reports.Leave.TheVariants.{Ended, Wants}
+use Rattle.sg_graph.specs.declared.reports.Request.{Request}
+use Rattle.sg_graph.specs.declared.reports.Request.TheVariants.{Need, Minor}
 use Rattle.sg_graph.specs.declared.reports.Part.{Part}
 use Rattle.sg_graph.specs.declared.reports.EpochReport.{EpochReport}
 use Rattle.sg_graph.specs.Scripts.{script_of}
 use Rattle.sg_graph.specs.Graph.{Graph}
 use Rattle.sg_graph.specs.Statements.{Does}
-use Rattle.sg_graph.specs.Book.{Book, Books, IsApart}
+use Rattle.sg_graph.specs.Book.{Book, Books, HasNoPlace, words_of_class, IsApart}
 
 -- mutator `by` did its next statement and got this answer, in which a name stands for an address
 pub record Said : Type 0 where
@@ -47,16 +50,24 @@ by_address b Fine = Fine
 by_address b Field = Field
 by_address b Full = Full
 
--- how a mutator leaves: it has ended exactly where no statement is left
-abbrev pub Leaves : Leave → List Statement → Type 0
-Leaves Ended script = script ≡ []
+-- Which statement asks for what: a new object asks for its words, where neither the buffer nor, as the epoch ends, any
+-- fragment has them.
+abbrev pub Asks : Program → Book → ℕ → Statement → Request → Type 0
+Asks p b k (New r class) (Need words) = (words ≡ words_of_class p class) × HasNoPlace b k words
+Asks p b k CollectMinor Minor = Unit {0}
+Asks p b k s request = ⊥
+
+-- how mutator k leaves: it has ended exactly where no statement is left, and else its next statement asks for something
+abbrev pub Leaves : Program → Book → ℕ → Leave → List Statement → Type 0
+Leaves p b k Ended script = script ≡ []
+Leaves p b k (Wants request) script = (statement : Statement) × (rest : List Statement) × (script ≡ statement ∷ rest) × Asks p b k statement request
 
 -- what the report says of mutator k: its first statement's number, its answers and how it left
 pub record IsPart (p : Program) (g : Graph) (order : List Said) (h : Graph) (c : Book) (k : ℕ) (part : Part) : Type 0 where
   pub number : part.mutator ≡ k
   pub first : part.first + length (g.mutator k).script ≡ length (script_of p k)
   pub answers : part.answers ≡ map (by_address c) (answers_of k order)
-  pub leaves : Leaves part.leave (h.mutator k).script
+  pub leaves : Leaves p c k part.leave (h.mutator k).script
 
 -- the numbers below n, in order
 abbrev pub numbers_below : ℕ → List ℕ
@@ -78,9 +89,9 @@ abbrev pub is_done : List Statement → Bool
 is_done [] = true
 is_done (s ∷ rest) = false
 
--- as an epoch ends, the mutators without a statement left have ended
-abbrev pub left : Graph → Graph
-left g = record g { mutator = λ k. record (g.mutator k) { ended = is_done (g.mutator k).script } }
+-- as an epoch ends, the program's mutators without a statement left have ended
+abbrev pub left : Program → Graph → Graph
+left p g = record g { mutator = λ k. record (g.mutator k) { ended = nat_lt k (length p.mutators) && is_done (g.mutator k).script } }
 
 -- every mutator has ended
 abbrev pub AllEnded : Program → Graph → Type 0
@@ -93,7 +104,7 @@ pub record IsEpoch (p : Program) (e : ℕ) (g : Graph) (b : Book) (report : Epoc
   pub order : List Said
   pub last : Graph
   pub explains : Explains p g b order last c
-  pub after : h ≡ left last
+  pub after : h ≡ left p last
   pub number : report.number ≡ e
   pub parts : Pairwise (IsPart p g order last c) (running p g) report.parts
   pub ends : IsTrue report.last ↔ AllEnded p h

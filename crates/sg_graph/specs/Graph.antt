@@ -3,8 +3,8 @@ use Rattle.std.specs.Prelude.{ℕ, suc, Bool, false, if◌then◌else◌, List}
 use Rattle.sg_words.specs.Words.{put}
 use Rattle.sg_graph.specs.declared.program.Statement.{Statement}
 use Rattle.sg_graph.specs.declared.program.Program.{Program}
-use Rattle.sg_graph.specs.declared.shapes.Descriptor.{Descriptor}
-use Rattle.sg_graph.specs.Shapes.{holds_reference}
+use Rattle.sg_desc.specs.declared.shapes.Descriptor.{Descriptor}
+use Rattle.sg_desc.specs.Shapes.{holds_reference}
 use Rattle.sg_graph.specs.Scripts.{script_of, kind_of, fields_of}
 
 -- what a register or a field holds: the object with this name, where name 0 stands for none, or a number
@@ -19,13 +19,15 @@ pub record Mutator : Type 0 where
   pub ended : Bool
 
 -- The objects have the names 1 to `count`, in the order in which they were made, each by the mutator `maker`.
--- An object has a class, a number of fields, and what each field holds. Objects are only added.
+-- An object has a class, a number of fields, and what each field holds. Objects are only added. Each of the 64 globals holds
+-- the object with this name, where name 0 stands for none.
 pub record Graph : Type 0 where
   pub count : ℕ
   pub maker : ℕ → ℕ
   pub class : ℕ → ℕ
   pub size : ℕ → ℕ
   pub field : ℕ → ℕ → Entry
+  pub global : ℕ → ℕ
   pub mutator : ℕ → Mutator
 
 -- what a field without a content holds
@@ -50,7 +52,7 @@ stored g n i entry = record g { field = put g.field n (put (g.field n) i entry) 
 abbrev pub goes_on : Graph → ℕ → List Statement → (ℕ → Entry) → Graph
 goes_on g k rest register = record g { mutator = put g.mutator k (record { register = register; script = rest; ended = false }) }
 
--- before a program: there is no object, each register holds none, and each mutator is before its script
+-- before a program: there is no object, each register and each global holds none, and each mutator is before its script
 abbrev pub no_objects : Program → Graph
 no_objects p = record {
   count = 0;
@@ -58,5 +60,6 @@ no_objects p = record {
   class = λ _. 0;
   size = λ _. 0;
   field = λ _ _. Ref 0;
+  global = λ _. 0;
   mutator = λ k. record { register = λ _. Ref 0; script = script_of p k; ended = false };
 }

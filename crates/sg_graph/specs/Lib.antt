@@ -1,4 +1,3 @@
-pub mod Shapes
 pub mod Scripts
 pub mod Kinds
 pub mod Graph
@@ -7,5 +6,9 @@ pub mod Names
 pub mod Statements
 pub mod Book
 pub mod Epoch
+pub mod Pause
+pub mod Tiling
+pub mod Minor
+pub mod Stop
 pub mod Run
 pub mod Trace

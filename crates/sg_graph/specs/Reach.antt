@@ -1,5 +1,5 @@
 -- What a set of objects reaches: by rounds, and as a closure.
-use Rattle.std.specs.Prelude.{◌≡◌, ◌≢◌, ℕ, zero, suc, ◌<◌, ◌≤◌, ◌⊎◌, ◌↔◌, Bool, true, IsTrue, List, [], ◌∷◌}
+use Rattle.std.specs.Prelude.{◌≢◌, ℕ, zero, suc, ◌≤◌, ◌⊎◌, List, [], ◌∷◌}
 
 -- one round adds the targets of all members
 abbrev pub Round : (ℕ → ℕ → Type 0) → (ℕ → Type 0) → ℕ → Type 0

@@ -2,11 +2,11 @@
 use Rattle.std.specs.Prelude.{◌≡◌, ◌≢◌, ℕ, suc, true, false, Option, Some, None, List}
 use Rattle.sg_words.specs.Words.{put}
 use Rattle.sg_graph.specs.declared.program.Statement.{Statement}
-use Rattle.sg_graph.specs.declared.program.Statement.TheVariants.{New, Put, Get, PutD, GetD, Num, Drop}
+use Rattle.sg_graph.specs.declared.program.Statement.TheVariants.{New, Put, Get, PutD, GetD, Num, Drop, CollectMinor}
 use Rattle.sg_graph.specs.declared.program.Program.{Program}
 use Rattle.sg_graph.specs.declared.reports.Answer.{Answer}
 use Rattle.sg_graph.specs.declared.reports.Answer.TheVariants.{At, Nil, Null, Number, Fine, Field, Full}
-use Rattle.sg_graph.specs.Shapes.{Sort, Reference, Plain, has_field}
+use Rattle.sg_desc.specs.Shapes.{Sort, Reference, Plain, has_field}
 use Rattle.sg_graph.specs.Scripts.{kind_of}
 use Rattle.sg_graph.specs.Graph.{Entry, Ref, Int, Mutator, Graph, grown, stored, goes_on}
 
@@ -25,6 +25,7 @@ test_of (PutD r i s) = Some (record { register = r; field = i; sort = Plain })
 test_of (GetD d r i) = Some (record { register = r; field = i; sort = Plain })
 test_of (Num d n) = None
 test_of (Drop r) = None
+test_of CollectMinor = None
 
 -- the registers after a statement that found no object, no such field or no room: the one that it sets becomes empty
 abbrev pub emptied : Statement → (ℕ → Entry) → ℕ → Entry
@@ -35,6 +36,7 @@ emptied (PutD r i s) register = register
 emptied (GetD d r i) register = put register d (Int 0)
 emptied (Num d n) register = put register d (Int 0)
 emptied (Drop r) register = put register r (Ref 0)
+emptied CollectMinor register = register
 
 -- the tested register holds no object
 pub record FindsNone (m : Mutator) (s : Statement) : Type 0 where
@@ -74,6 +76,7 @@ Does p g k m (GetD d r i) rest (Number n) h =
     (name : ℕ) × Finds p g m (GetD d r i) name × (g.field name i ≡ Int n) × (h ≡ goes_on g k rest (put m.register d (Int n)))
 Does p g k m (Num d n) rest Fine h = h ≡ goes_on g k rest (put m.register d (Int n))
 Does p g k m (Drop r) rest Fine h = h ≡ goes_on g k rest (put m.register r (Ref 0))
+Does p g k m CollectMinor rest Fine h = h ≡ goes_on g k rest m.register
 -- a failed object test
 Does p g k m s rest Null h = FindsNone m s × (h ≡ goes_on g k rest (emptied s m.register))
 Does p g k m s rest Field h = Misses p g m s × (h ≡ goes_on g k rest (emptied s m.register))

@@ -7,23 +7,7 @@
 mod names;
 mod program;
 mod reports;
-mod shapes;
 
 pub use names::names_are_pairs;
 pub use program::{Class, Config, Item, Name, Program, Script, Statement};
-pub use reports::{Answer, EpochReport, Leave, Part};
-pub use shapes::{Descriptor, Shape};
-
-#[cfg(test)]
-mod tests {
-    use super::*;
-
-    // A mask `r.` has bit 0 set.
-    #[test]
-    fn fields_of_a_mask(rt: HostRuntime) {
-        let kind = Descriptor::Bitmap { bits: 1 };
-        assert!(rt; kind.is_ref(0, 2));
-        assert!(rt; !kind.is_ref(1, 2));
-        assert!(rt; !Descriptor::PtrFree.is_ref(0, 2));
-    }
-}
+pub use reports::{Answer, EpochReport, Leave, MinorReport, Part, Request, Service, StopReport};

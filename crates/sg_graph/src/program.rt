@@ -1,4 +1,4 @@
-use crate::shapes::Shape;
+use sg_desc::Shape;
 use sg_words::List;
 use std::marker::Model;
 
@@ -57,6 +57,8 @@ pub enum Statement {
     Num { d: u8, n: u64 },
     /// Register `r` holds no object any more.
     Drop { r: u8 },
+    /// A minor pause, at a stop.
+    CollectMinor,
 }
 
 /// A part of a script.

@@ -1,4 +1,4 @@
-use sg_words::{Addr, List};
+use sg_words::{Addr, List, Move, Piece};
 
 /// What a statement answers.
 #[derive(Clone, Copy, Debug, PartialEq, Eq)]
@@ -19,11 +19,22 @@ pub enum Answer {
     Full,
 }
 
+/// What a mutator asks a stop for. Its next statement is the one that asks, and the stop answers it.
+#[derive(Clone, Copy, Debug, PartialEq, Eq)]
+pub enum Request {
+    /// Room for a new object of this many words.
+    Need { words: u32 },
+    /// A minor pause.
+    Minor,
+}
+
 /// How a mutator leaves an epoch.
 #[derive(Clone, Copy, Debug, PartialEq, Eq)]
 pub enum Leave {
     /// No statement is left.
     Ended,
+    /// It asks for this.
+    Wants(Request),
 }
 
 /// What one mutator did in an epoch.
@@ -47,4 +58,40 @@ pub struct EpochReport {
     pub last: bool,
     /// A part for each mutator that hadn't ended before, in order of numbers.
     pub parts: List<Part>,
+}
+
+/// What a minor pause did. Each list is in increasing order of address.
+#[derive(Debug, Drop)]
+pub struct MinorReport {
+    /// The objects that stayed because an ambiguous word points into them.
+    pub pins: List<Addr>,
+    /// The objects that moved to the major heap.
+    pub moves: List<Move>,
+    /// The objects that stayed because the major heap had no room for them.
+    pub fails: List<Addr>,
+    /// The places in the major heap that were taken for a copy and given back.
+    pub spares: u32,
+    /// The gaps of the nursery.
+    pub pieces: List<Piece>,
+}
+
+/// The answer to one request.
+#[derive(Clone, Copy, Debug, PartialEq, Eq)]
+pub struct Service {
+    /// The mutator's number.
+    pub mutator: u32,
+    /// The number of the statement that asked, counted from 0 over the whole script.
+    pub statement: u32,
+    pub answer: Answer,
+}
+
+/// What happened at one stop.
+#[derive(Debug, Drop)]
+pub struct StopReport {
+    /// The number of the epoch before it.
+    pub number: u32,
+    /// The minor pause, if there was one.
+    pub minor: Option<MinorReport>,
+    /// The answers to the requests, in order of mutators.
+    pub served: List<Service>,
 }

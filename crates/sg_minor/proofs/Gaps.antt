@@ -3,14 +3,16 @@ use Rattle.std.proofs.Common.{◌≡◌, ℕ, ◌+◌, ◌-◌, ◌*◌, ◌<◌
 use Rattle.std.specs.List.{Contains}
 use Rattle.std.specs.List.Sorted.{IsStrictlyIncreasing}
 use Rattle.std.proofs.lemmas.Bool.{cases_eq, cases_lt}
-use Rattle.std.proofs.lemmas.List.{get_or-map, length-map, map_push, get_or_append_left, get_or_push, length_push}
+use Rattle.std.proofs.lemmas.List.{get_or-map, length-map, map_push}
 use Rattle.std.proofs.lemmas.List.Elements.{Contains-get_or, Contains-append_left, Contains-push, Contains-push_cases}
 use Rattle.sg_words.specs.declared.pieces.Piece.{Piece}
 use Rattle.sg_words.specs.declared.pieces.Piece.TheVariants.{Frag, Waste}
 use Rattle.sg_space.specs.declared.layout.Layout.{Layout}
 use Rattle.sg_space.specs.declared.objects.Object.{Object}
 use Rattle.sg_space.specs.Sections.{nursery_base, old_base}
-use Rattle.sg_minor.specs.Pieces.{IsTaken, IsGap, IsPieceOf, place, ArePieces, IsGrown}
+use Rattle.sg_words.specs.Pieces.{IsPieceOf, place}
+use Rattle.sg_minor.specs.Pieces.{IsTaken, IsGap, ArePieces, IsGrown}
+use Rattle.sg_pins.proofs.Merging.{increasing_push}
 
 -- words from f up to g, without g, that no object has, between objects or edges
 pub record IsStretch (layout : Layout) (standing : List Object) (f g : ℕ) : Type 0 where
@@ -59,21 +61,6 @@ ends_there layout standing f g x n s gap l m =
       ]
     ]
 
-increasing_push : (xs : List ℕ) (a : ℕ) → IsStrictlyIncreasing xs → ((x : ℕ) → Contains xs x → x < a) → IsStrictlyIncreasing (xs ++ a ∷ [])
-increasing_push xs a up below k m =
-    let n = length_push xs a in
-    let left : get_or (xs ++ a ∷ []) k 0 ≡ get_or xs k 0 = get_or_append_left xs (a ∷ []) 0 k (omega arith) in
-    elim (cases_eq (k + 1) (length xs)) [
-      | inl e ↦
-          let right = get_or_push xs a 0 (k + 1) (sym e) in
-          let lower = below (get_or xs k 0) (Contains-get_or xs k 0 (omega arith)) in
-          omega arith
-      | inr d ↦
-          let right = get_or_append_left xs (a ∷ []) 0 (k + 1) (omega arith) in
-          let lower = up k (omega arith) in
-          omega arith
-    ]
-
 some_piece : Piece
 some_piece = Waste 0 0
 
@@ -85,7 +72,7 @@ placed pieces a w =
     let k : w.0 < length pieces = omega arith in
     (get_or pieces w.0 some_piece, Contains-get_or pieces w.0 some_piece k, sym (get_or-map place pieces w.0 some_piece a k) ∙ w.2)
 
-place_is : (p : Piece) (x n : ℕ) → IsPieceOf p x n → place p ≡ 8 * x
+pub place_is : (p : Piece) (x n : ℕ) → IsPieceOf p x n → place p ≡ 8 * x
 place_is (Frag at words) x n h = h.1
 place_is (Waste at words) x n h = h.1
 

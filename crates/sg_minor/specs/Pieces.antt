@@ -2,9 +2,9 @@
 use Rattle.std.specs.Prelude.{◌≡◌, ℕ, ◌+◌, ◌<◌, ◌≤◌, ◌⊎◌, List, [], ◌∷◌, ◌++◌, map, slice_index_or, length}
 use Rattle.std.specs.List.{Contains}
 use Rattle.std.specs.List.Sorted.{IsStrictlyIncreasing}
-use Rattle.sg_words.specs.Address.{byte_at, word_at}
+use Rattle.sg_words.specs.Address.{word_at}
 use Rattle.sg_words.specs.declared.pieces.Piece.{Piece}
-use Rattle.sg_words.specs.declared.pieces.Piece.TheVariants.{Frag, Waste}
+use Rattle.sg_words.specs.Pieces.{IsPieceOf, place}
 use Rattle.sg_space.specs.declared.layout.Layout.{Layout}
 use Rattle.sg_space.specs.declared.objects.Object.{Object}
 use Rattle.sg_space.specs.Sections.{nursery_base, old_base}
@@ -34,16 +34,6 @@ pub record IsGap (layout : Layout) (standing : List Object) (x n : ℕ) : Type 0
   pub free : (y : ℕ) → x ≤ y → y < x + n → IsTaken standing y → ⊥
   pub before : (x ≡ nursery_base) ⊎ ((y : ℕ) × (y + 1 ≡ x) × IsTaken standing y)
   pub behind : (x + n ≡ old_base layout) ⊎ IsTaken standing (x + n)
-
--- the piece is a fragment of 32 words or more, or a waste of fewer, at this word and with so many words
-abbrev pub IsPieceOf : Piece → ℕ → ℕ → Type 0
-IsPieceOf (Frag at words) x n = (32 ≤ n) × (at ≡ byte_at x) × (words ≡ n)
-IsPieceOf (Waste at words) x n = (n < 32) × (at ≡ byte_at x) × (words ≡ n)
-
--- the address of a piece
-abbrev pub place : Piece → ℕ
-place (Frag at words) = at
-place (Waste at words) = at
 
 -- the pieces stand for exactly the gaps, in increasing order
 pub record ArePieces (layout : Layout) (standing : List Object) (pieces : List Piece) : Type 0 where

@@ -1,7 +1,8 @@
 ghost use Rattle.std.specs.Prelude.{◌≡◌, ◌≤◌, ◌+◌, ◌*◌, ◌-◌, ◌/◌, ◌%◌, ◌^◌, ◌<◌, OnOk, IfOk};
 ghost use Rattle.sg_words.specs.Address.{word_at};
 ghost use Rattle.sg_space.specs.Sections.{IsLayout};
-ghost use Rattle.sg_minor.specs.Pieces.{AreStanding, ArePieces, IsPieceOf, IsGrown};
+ghost use Rattle.sg_words.specs.Pieces.{IsPieceOf};
+ghost use Rattle.sg_minor.specs.Pieces.{AreStanding, ArePieces, IsGrown};
 
 use sg_space::{Layout, Object, Space};
 use sg_words::{Addr, List, Piece};

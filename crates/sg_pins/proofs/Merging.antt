@@ -14,13 +14,13 @@ pub record IsMerged (words : List ℕ) (objects : List Object) (i index : ℕ) (
   pub index_in : index ≤ length words
   pub passed : (k j : ℕ) (d : Object) → k < index → i ≤ j → j < length objects → get_or words k 0 < (get_or objects j d).at
 
-far : (xs : List ℕ) → IsStrictlyIncreasing xs → (i j : ℕ) → i < j → j < length xs → get_or xs i 0 < get_or xs j 0
-far xs up i zero l m = absurd (omega arith)
-far xs up i (suc j) l m =
+pub sorted_far : (xs : List ℕ) → IsStrictlyIncreasing xs → (i j : ℕ) → i < j → j < length xs → get_or xs i 0 < get_or xs j 0
+sorted_far xs up i zero l m = absurd (omega arith)
+sorted_far xs up i (suc j) l m =
     let next : get_or xs j 0 < get_or xs (suc j) 0 = subst (λ n. get_or xs j 0 < get_or xs n 0) (add-one j) (up j (omega arith)) in
     elim (cases_eq i j) [
       | inl e ↦ rw e next
-      | inr d ↦ let below = far xs up i j (omega arith) (omega arith) in omega arith
+      | inr d ↦ let below = sorted_far xs up i j (omega arith) (omega arith) in omega arith
     ]
 
 -- an object further on has a greater address
@@ -29,10 +29,10 @@ rising objects up i j d l m =
     let at_i = get_or-map (λ (o : Object). o.at) objects i d 0 (omega arith) in
     let at_j = get_or-map (λ (o : Object). o.at) objects j d 0 m in
     let lengths = length-map objects (λ (o : Object). o.at) in
-    let below = far (map (λ (o : Object). o.at) objects) up i j l (omega arith) in
+    let below = sorted_far (map (λ (o : Object). o.at) objects) up i j l (omega arith) in
     omega arith
 
-increasing_push : (xs : List ℕ) (a : ℕ) → IsStrictlyIncreasing xs → ((x : ℕ) → Contains xs x → x < a) → IsStrictlyIncreasing (xs ++ a ∷ [])
+pub increasing_push : (xs : List ℕ) (a : ℕ) → IsStrictlyIncreasing xs → ((x : ℕ) → Contains xs x → x < a) → IsStrictlyIncreasing (xs ++ a ∷ [])
 increasing_push xs a up below k m =
     let n = length_push xs a in
     let left : get_or (xs ++ a ∷ []) k 0 ≡ get_or xs k 0 = get_or_append_left xs (a ∷ []) 0 k (omega arith) in

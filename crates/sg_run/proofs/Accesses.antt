@@ -7,19 +7,22 @@ use Rattle.sg_words.specs.Words.{put, Words, write}
 use Rattle.sg_graph.specs.declared.program.Statement.{Statement}
 use Rattle.sg_graph.specs.declared.program.Statement.TheVariants.{Put, Get, PutD, GetD}
 use Rattle.sg_graph.specs.declared.program.Program.{Program}
-use Rattle.sg_graph.specs.declared.shapes.Descriptor.{Descriptor}
+use Rattle.sg_desc.specs.declared.shapes.Descriptor.{Descriptor}
 use Rattle.sg_graph.specs.declared.reports.Answer.{Answer}
 use Rattle.sg_graph.specs.declared.reports.Answer.TheVariants.{At, Nil, Number, Fine}
-use Rattle.sg_graph.specs.Shapes.{Reference, Plain, has_field, holds_reference}
+use Rattle.sg_desc.specs.Shapes.{Reference, Plain, has_field, holds_reference}
 use Rattle.sg_graph.specs.Scripts.{kind_of}
 use Rattle.sg_graph.specs.Kinds.{IsRef, IsInt}
 use Rattle.sg_graph.specs.Graph.{Entry, Ref, Int, Graph, stored}
 use Rattle.sg_graph.specs.Statements.{Test, test_of, Finds}
-use Rattle.sg_graph.specs.Book.{Book}
+use Rattle.sg_graph.specs.Book.{Book, word_of}
+use Rattle.sg_space.specs.Sections.{globals_base}
+use Rattle.sg_space.specs.Heap.{Owner, IsKnown, IsKnownEntry, IsOfSort, layout_of}
 use Rattle.sg_run.specs.Rules.{Layout, Access, Actor, within, over, reference_answer, object_in}
-use Rattle.sg_run.proofs.Puts.{put-at, put-other, put-all, put-along}
+use Rattle.sg_run.specs.Rest.{kind_of_entry}
+use Rattle.sg_words.proofs.Puts.{put-at, put-other, put-all, put-along}
 use Rattle.sg_run.proofs.Frame.{entry_later}
-use Rattle.sg_run.proofs.Relation.{Known, KnownEntry, word_of, Owner, Ground, IsOfSort, Tested, kind_of_entry, Stands, Later, Kept}
+use Rattle.sg_run.proofs.Relation.{Ground, Tested, Stands, Later, Kept}
 use Rattle.sg_run.proofs.Moves.{Change, unchanged, decided, fits_as}
 use Rattle.sg_run.proofs.Loads.{is_ref, is_int, same_object, name_nil, object_at, known_at}
 
@@ -71,31 +74,41 @@ module _ (p : Program) (lay : Layout) (w : Words) (g : Graph) (b : Book) (said :
     pub same_there : (m x : ℕ) → b.stands m ≡ true → b.address m ≤ x → x < b.address m + (g.size m + 2) → x ≡ y → m ≡ n
     same_there m x q e r s = same_object p lay w g b said k owner t m n x q sn e r (omega arith) (omega arith)
 
+    -- no global and no row behind it
+    below_globals : y < globals_base (layout_of p)
+    below_globals = elim (cases_eq n 0) [
+      | inl z ↦ let u : b.address n ≡ 0 = ap b.address z ∙ t.laid.nothing.at_nil in let v : g.size n ≡ 0 = ap g.size z ∙ t.laid.nothing.no_size in omega arith
+      | inr some ↦ elim (t.laid.objects.inside n (omega arith) sn) [
+        | inl i ↦ (let l = i.2 in omega arith)
+        | inr i ↦ (let l = i.2 in let u = t.laid.objects.filled.1 in omega arith)
+      ]
+    ]
+
     pub ground_stored : (fld : ℕ → ℕ → Entry) →
         ((m i : ℕ) → b.stands m ≡ true → i < g.size m → put w.word y val (b.address m + 2 + i) ≡ word_of b.address (fld m i)) →
-        ((m i : ℕ) → b.stands m ≡ true → KnownEntry (write w (Word y) val) g b (fld m i)) →
+        ((m i : ℕ) → b.stands m ≡ true → i < g.size m → IsKnownEntry (put w.word y val) g b (fld m i)) →
         ((m i : ℕ) → b.stands m ≡ true → i < g.size m → IsOfSort (holds_reference (kind_of p (g.class m)) i (g.size m)) (fld m i)) →
         Ground p lay (write w (Word y) val) (record g { field = fld }) b owner
     ground_stored fld holds known sorted = record {
-      nothing = t.nothing;
-      objects = t.objects;
-      fields = record { holds = holds; known = known; sorted = sorted };
-      fragments = record {
-        number = t.fragments.number;
-        limits = t.fragments.limits;
-        words = t.fragments.words;
-        owns = t.fragments.owns;
-        clear = λ f x l p q. put-other w.word y val x (λ e. let u = t.objects.owns n x sn (omega arith) (omega arith) in let v = t.fragments.owns f x l p q in cc) ∙ t.fragments.clear f x l p q;
-        inside = t.fragments.inside;
+      laid = record {
+        nothing = t.laid.nothing;
+        objects = t.laid.objects;
+        fields = record { holds = holds; known = known; sorted = sorted };
+        globals = record {
+          holds = λ x l. put-other w.word y val (globals_base (layout_of p) + x) (λ e. let u = below_globals in absurd (omega arith)) ∙ t.laid.globals.holds x l;
+          stand = t.laid.globals.stand;
+          empty = λ x l m. put-other w.word y val x (λ e. let u = below_globals in absurd (omega arith)) ∙ t.laid.globals.empty x l m;
+        };
+        clear = record { clear = λ x l m none. put-other w.word y val x (λ e. none n (t.laid.objects.owns n x sn (omega arith) (omega arith))) ∙ t.laid.clear.clear x l m none };
+        fragments = t.laid.fragments;
+        buffers = t.laid.buffers;
       };
-      buffers = record {
-        owns = t.buffers.owns;
-        clear = λ j x p q. put-other w.word y val x (λ e. let u = t.objects.owns n x sn (omega arith) (omega arith) in let v = t.buffers.owns j x p q in cc) ∙ t.buffers.clear j x p q;
-        inside = t.buffers.inside;
-      };
+      number = t.number;
+      limits = t.limits;
+      words = t.words;
     }
 
-    pub later_stored : (fld : ℕ → ℕ → Entry) → ((m : ℕ) → Known w g b m → Known (write w (Word y) val) g b m) →
+    pub later_stored : (fld : ℕ → ℕ → Entry) → ((m : ℕ) → IsKnown w.word g b m → IsKnown (put w.word y val) g b m) →
         ((m : ℕ) → b.stands m ≡ true → w.word (b.address m + 1) ≡ g.size m → put w.word y val (b.address m + 1) ≡ g.size m) →
         Later w g b said (write w (Word y) val) (record g { field = fld }) b said k
     later_stored fld known length_word = record {
@@ -123,17 +136,17 @@ module _ (p : Program) (lay : Layout) (w : Words) (g : Graph) (b : Book) (said :
 
     -- a tag or a length: no field
     pub fields_off : y < b.address n + 2 → (m i : ℕ) → b.stands m ≡ true → i < g.size m → put w.word y val (b.address m + 2 + i) ≡ word_of b.address (g.field m i)
-    fields_off l m i q r = put-other w.word y val (b.address m + 2 + i) (λ e. let s : b.address m ≡ b.address n = ap b.address (same_there m (b.address m + 2 + i) q (omega arith) (omega arith) e) in omega arith) ∙ t.fields.holds m i q r
+    fields_off l m i q r = put-other w.word y val (b.address m + 2 + i) (λ e. let s : b.address m ≡ b.address n = ap b.address (same_there m (b.address m + 2 + i) q (omega arith) (omega arith) e) in omega arith) ∙ t.laid.fields.holds m i q r
 
   -- the store of a field of a known object: e is what it holds then
-  module _ (n i : ℕ) (e : Entry) (sn : b.stands n ≡ true) (inside : i < g.size n) (ke : KnownEntry w g b e) (se : IsOfSort (holds_reference (kind_of p (g.class n)) i (g.size n)) e) where
+  module _ (n i : ℕ) (e : Entry) (sn : b.stands n ≡ true) (inside : i < g.size n) (ke : IsKnownEntry w.word g b e) (se : IsOfSort (holds_reference (kind_of p (g.class n)) i (g.size n)) e) where
     abbrev at : ℕ
     at = b.address n + 2 + i
 
     abbrev val : ℕ
     val = word_of b.address e
 
-    pub known_stored : (m : ℕ) → Known w g b m → Known (write w (Word (b.address n + 2 + i)) (word_of b.address e)) g b m
+    pub known_stored : (m : ℕ) → IsKnown w.word g b m → IsKnown (put w.word (b.address n + 2 + i) (word_of b.address e)) g b m
     known_stored m q = (
       q.0,
       elim q.1 [
@@ -142,7 +155,7 @@ module _ (p : Program) (lay : Layout) (w : Words) (g : Graph) (b : Book) (said :
       ],
     )
 
-    pub entry_stored : (x : Entry) → KnownEntry w g b x → KnownEntry (write w (Word (b.address n + 2 + i)) (word_of b.address e)) (stored g n i e) b x
+    pub entry_stored : (x : Entry) → IsKnownEntry w.word g b x → IsKnownEntry (put w.word (b.address n + 2 + i) (word_of b.address e)) (stored g n i e) b x
     entry_stored (Ref m) q = known_stored m q
     entry_stored (Int v) q = tt
 
@@ -151,10 +164,10 @@ module _ (p : Program) (lay : Layout) (w : Words) (g : Graph) (b : Book) (said :
       | inl same ↦ elim (cases_eq j i) [
         | inl here ↦ put-at w.word at val (b.address m + 2 + j) (let u : b.address m ≡ b.address n = ap b.address same in omega arith)
             ∙ sym (ap (word_of b.address) (ap (λ (f : ℕ → Entry). f j) (put-at g.field n (put (g.field n) i e) m same) ∙ put-at (g.field n) i e j here))
-        | inr there ↦ put-other w.word at val (b.address m + 2 + j) (λ c. there (let u : b.address m ≡ b.address n = ap b.address same in omega arith)) ∙ t.fields.holds m j p q
+        | inr there ↦ put-other w.word at val (b.address m + 2 + j) (λ c. there (let u : b.address m ≡ b.address n = ap b.address same in omega arith)) ∙ t.laid.fields.holds m j p q
             ∙ sym (ap (word_of b.address) (ap (λ (f : ℕ → Entry). f j) (put-at g.field n (put (g.field n) i e) m same) ∙ put-other (g.field n) i e j there ∙ ap (λ x. g.field x j) (sym same)))
       ]
-      | inr other ↦ put-other w.word at val (b.address m + 2 + j) (λ c. other (same_there n at val sn (omega arith) (omega arith) m (b.address m + 2 + j) p (omega arith) (omega arith) c)) ∙ t.fields.holds m j p q
+      | inr other ↦ put-other w.word at val (b.address m + 2 + j) (λ c. other (same_there n at val sn (omega arith) (omega arith) m (b.address m + 2 + j) p (omega arith) (omega arith) c)) ∙ t.laid.fields.holds m j p q
           ∙ sym (ap (word_of b.address) (ap (λ (f : ℕ → Entry). f j) (put-other g.field n (put (g.field n) i e) m other)))
     ]
 
@@ -168,15 +181,15 @@ module _ (p : Program) (lay : Layout) (w : Words) (g : Graph) (b : Book) (said :
       later = later_stored n at val sn (omega arith) (omega arith) (put g.field n (put (g.field n) i e)) known_stored
           (λ m q x. length_off n at val sn (omega arith) (omega arith) (omega arith) m q ∙ x);
       ground = ground_stored n at val sn (omega arith) (omega arith) (put g.field n (put (g.field n) i e)) holds_stored
-          (λ m j q. field_all (λ m j x. b.stands m ≡ true → KnownEntry (write w (Word at) val) g b x)
-          (λ _. entry_later w g b (write w (Word at) val) g b e known_stored ke)
-          (λ m j s. entry_later w g b (write w (Word at) val) g b (g.field m j) known_stored (t.fields.known m j s)) m j q)
-          (λ m j q r. field_all (λ m j x. b.stands m ≡ true → j < g.size m → IsOfSort (holds_reference (kind_of p (g.class m)) j (g.size m)) x) (λ _ _. se) t.fields.sorted m j q r);
+          (λ m j q r. field_all (λ m j x. b.stands m ≡ true → j < g.size m → IsKnownEntry (put w.word at val) g b x)
+          (λ _ _. entry_later w g b (write w (Word at) val) g b e known_stored ke)
+          (λ m j s l. entry_later w g b (write w (Word at) val) g b (g.field m j) known_stored (t.laid.fields.known m j s l)) m j q r)
+          (λ m j q r. field_all (λ m j x. b.stands m ≡ true → j < g.size m → IsOfSort (holds_reference (kind_of p (g.class m)) j (g.size m)) x) (λ _ _. se) t.laid.fields.sorted m j q r);
     }
 
   module _ (a : Actor) (rest : List Statement) where
     -- the deciding store of a reference
-    pub puts : (r i s : ℕ) → Stands p lay w g b said k (within a rest (Access (Put r i s))) → Kept p lay w g b said k true (write w (Word (object_in a r + 2 + i)) (a.reg s)) (over a rest a.reg Fine)
+    pub puts : (r i s : ℕ) → Stands p lay w g b said k (within a rest (Access (Put r i s))) → Kept p lay w g b said k (Access (Put r i s)) true (write w (Word (object_in a r + 2 + i)) (a.reg s)) (over a rest a.reg Fine)
     puts r i s st =
         let test : Test = record { register = r; field = i; sort = Reference } in
         let x = tested_as p g st.entry (Put r i s) st.at.0 test refl st.at.1 in
@@ -186,17 +199,17 @@ module _ (p : Program) (lay : Layout) (w : Words) (g : Graph) (b : Book) (said :
         let target = is_ref (st.entry s) (fits_as p lay w g b said k st.entry (Put r i s ∷ rest) st.answers st.at.2 st.fits).0.1 in
         let ea = object_at p lay w g b said k owner t _ st r n x.holds in
         let es = st.regs s in
-        let kt : KnownEntry w g b (Ref target.0) = subst (KnownEntry w g b) target.1 (st.known s) in
+        let kt : IsKnownEntry w.word g b (Ref target.0) = subst (IsKnownEntry w.word g b) target.1 (st.known s) in
         let ch = field_stored n i (Ref target.0) sn f.0 kt (subst (λ q. IsOfSort q (Ref target.0)) (sym f.1) tt) in
         let known = entry_stored n i (Ref target.0) sn f.0 kt (subst (λ q. IsOfSort q (Ref target.0)) (sym f.1) tt) in
-        subst (λ z. Kept p lay w g b said k true (write w (Word (z + 2 + i)) (a.reg s)) (over a rest a.reg Fine)) (sym ea)
-        (subst (λ z. Kept p lay w g b said k true (write w (Word (b.address n + 2 + i)) z) (over a rest a.reg Fine)) (sym (es ∙ ap (word_of b.address) target.1))
-        (decided p lay w g b said k (write w (Word (b.address n + 2 + i)) (word_of b.address (Ref target.0))) (stored g n i (Ref target.0)) b ch _ (Put r i s) rest st st.entry Fine a.reg Fine st.at.2
-        (n, target.0, finds_as p g st.entry (Put r i s ∷ rest) (Put r i s) test x, target.1, refl) refl refl refl st.regs
+        subst (λ z. Kept p lay w g b said k (Access (Put r i s)) true (write w (Word (z + 2 + i)) (a.reg s)) (over a rest a.reg Fine)) (sym ea)
+        (subst (λ z. Kept p lay w g b said k (Access (Put r i s)) true (write w (Word (b.address n + 2 + i)) z) (over a rest a.reg Fine)) (sym (es ∙ ap (word_of b.address) target.1))
+        (decided p lay w g b said k _ (λ x e. e) (write w (Word (b.address n + 2 + i)) (word_of b.address (Ref target.0))) (stored g n i (Ref target.0)) ch _ (Put r i s) rest st st.entry Fine a.reg Fine st.at.2
+        (n, target.0, finds_as p g st.entry (Put r i s ∷ rest) (Put r i s) test x, target.1, refl) refl st.regs
         (λ q. known (st.entry q) (st.known q)) refl tt (λ q. refl)))
 
     -- the deciding store of a number
-    pub puts_number : (r i s : ℕ) → Stands p lay w g b said k (within a rest (Access (PutD r i s))) → Kept p lay w g b said k true (write w (Word (object_in a r + 2 + i)) (a.reg s)) (over a rest a.reg Fine)
+    pub puts_number : (r i s : ℕ) → Stands p lay w g b said k (within a rest (Access (PutD r i s))) → Kept p lay w g b said k (Access (PutD r i s)) true (write w (Word (object_in a r + 2 + i)) (a.reg s)) (over a rest a.reg Fine)
     puts_number r i s st =
         let test : Test = record { register = r; field = i; sort = Plain } in
         let x = tested_as p g st.entry (PutD r i s) st.at.0 test refl st.at.1 in
@@ -208,51 +221,51 @@ module _ (p : Program) (lay : Layout) (w : Words) (g : Graph) (b : Book) (said :
         let es = st.regs s in
         let ch = field_stored n i (Int number.0) sn f.0 tt (subst (λ q. IsOfSort q (Int number.0)) (sym f.1) tt) in
         let known = entry_stored n i (Int number.0) sn f.0 tt (subst (λ q. IsOfSort q (Int number.0)) (sym f.1) tt) in
-        subst (λ z. Kept p lay w g b said k true (write w (Word (z + 2 + i)) (a.reg s)) (over a rest a.reg Fine)) (sym ea)
-        (subst (λ z. Kept p lay w g b said k true (write w (Word (b.address n + 2 + i)) z) (over a rest a.reg Fine)) (sym (es ∙ ap (word_of b.address) number.1))
-        (decided p lay w g b said k (write w (Word (b.address n + 2 + i)) (word_of b.address (Int number.0))) (stored g n i (Int number.0)) b ch _ (PutD r i s) rest st st.entry Fine a.reg Fine st.at.2
-        (n, number.0, finds_as p g st.entry (PutD r i s ∷ rest) (PutD r i s) test x, number.1, refl) refl refl refl st.regs
+        subst (λ z. Kept p lay w g b said k (Access (PutD r i s)) true (write w (Word (z + 2 + i)) (a.reg s)) (over a rest a.reg Fine)) (sym ea)
+        (subst (λ z. Kept p lay w g b said k (Access (PutD r i s)) true (write w (Word (b.address n + 2 + i)) z) (over a rest a.reg Fine)) (sym (es ∙ ap (word_of b.address) number.1))
+        (decided p lay w g b said k _ (λ x e. e) (write w (Word (b.address n + 2 + i)) (word_of b.address (Int number.0))) (stored g n i (Int number.0)) ch _ (PutD r i s) rest st st.entry Fine a.reg Fine st.at.2
+        (n, number.0, finds_as p g st.entry (PutD r i s ∷ rest) (PutD r i s) test x, number.1, refl) refl st.regs
         (λ q. known (st.entry q) (st.known q)) refl tt (λ q. refl)))
 
     -- the deciding load of a reference
-    pub gets : (d r i v : ℕ) → w.word (object_in a r + 2 + i) ≡ v → Stands p lay w g b said k (within a rest (Access (Get d r i))) → Kept p lay w g b said k true w (over a rest (put a.reg d v) (reference_answer v))
+    pub gets : (d r i v : ℕ) → w.word (object_in a r + 2 + i) ≡ v → Stands p lay w g b said k (within a rest (Access (Get d r i))) → Kept p lay w g b said k (Access (Get d r i)) true w (over a rest (put a.reg d v) (reference_answer v))
     gets d r i v e st =
         let test : Test = record { register = r; field = i; sort = Reference } in
         let x = tested_as p g st.entry (Get d r i) st.at.0 test refl st.at.1 in
         let n = x.name in
         let sn = (known_at p lay w g b said k owner t _ st r n x.holds).0 in
         let f = reference_field (kind_of p (g.class n)) (g.size n) i x.finds in
-        let target = of_reference _ (g.field n i) f.1 (t.fields.sorted n i sn f.0) in
-        let ev : v ≡ word_of b.address (Ref target.0) = sym e ∙ ap (λ z. w.word (z + 2 + i)) (object_at p lay w g b said k owner t _ st r n x.holds) ∙ t.fields.holds n i sn f.0 ∙ ap (word_of b.address) target.1 in
-        let kt : KnownEntry w g b (Ref target.0) = subst (KnownEntry w g b) target.1 (t.fields.known n i sn) in
+        let target = of_reference _ (g.field n i) f.1 (t.laid.fields.sorted n i sn f.0) in
+        let ev : v ≡ word_of b.address (Ref target.0) = sym e ∙ ap (λ z. w.word (z + 2 + i)) (object_at p lay w g b said k owner t _ st r n x.holds) ∙ t.laid.fields.holds n i sn f.0 ∙ ap (word_of b.address) target.1 in
+        let kt : IsKnownEntry w.word g b (Ref target.0) = subst (IsKnownEntry w.word g b) target.1 (t.laid.fields.known n i sn f.0) in
         let regs = put-along (word_of b.address) a.reg st.entry d v (Ref target.0) st.regs ev in
-        let known = put-all (λ _ e. KnownEntry w g b e) st.entry d (Ref target.0) kt (λ j _. st.known j) in
+        let known = put-all (λ _ e. IsKnownEntry w.word g b e) st.entry d (Ref target.0) kt (λ j _. st.known j) in
         let kinds = put-along kind_of_entry (λ r. kind_of_entry (st.entry r)) st.entry d IsRef (Ref target.0) (λ r. refl) refl in
         let found = finds_as p g st.entry (Get d r i ∷ rest) (Get d r i) test x in
         elim (cases_eq target.0 0) [
-          | inl z ↦ decided p lay w g b said k w g b (unchanged p lay w g b said k owner t) _ (Get d r i) rest st (put st.entry d (Ref 0)) Nil (put a.reg d v) (reference_answer v) st.at.2
-              (n, found, target.1 ∙ ap Ref z, refl) refl refl refl
+          | inl z ↦ decided p lay w g b said k _ (λ x e. e) w g (unchanged p lay w g b said k owner t) _ (Get d r i) rest st (put st.entry d (Ref 0)) Nil (put a.reg d v) (reference_answer v) st.at.2
+              (n, found, target.1 ∙ ap Ref z, refl) refl
               (subst (λ m. (q : ℕ) → put a.reg d v q ≡ word_of b.address (put st.entry d (Ref m) q)) z regs)
-              (subst (λ m. (q : ℕ) → KnownEntry w g b (put st.entry d (Ref m) q)) z known)
-              (cond-true _ _ _ (eq-eqb v 0 (ev ∙ ap (λ m. byte_at (b.address m)) z ∙ (let u = t.nothing.at_nil in omega arith)))) tt
+              (subst (λ m. (q : ℕ) → IsKnownEntry w.word g b (put st.entry d (Ref m) q)) z known)
+              (cond-true _ _ _ (eq-eqb v 0 (ev ∙ ap (λ m. byte_at (b.address m)) z ∙ (let u = t.laid.nothing.at_nil in omega arith)))) tt
               (subst (λ m. (q : ℕ) → put (λ r. kind_of_entry (st.entry r)) d IsRef q ≡ kind_of_entry (put st.entry d (Ref m) q)) z kinds)
-          | inr z ↦ decided p lay w g b said k w g b (unchanged p lay w g b said k owner t) _ (Get d r i) rest st (put st.entry d (Ref target.0)) (At target.0) (put a.reg d v) (reference_answer v) st.at.2
-              (n, found, target.1, z, refl) refl refl refl regs known
+          | inr z ↦ decided p lay w g b said k _ (λ x e. e) w g (unchanged p lay w g b said k owner t) _ (Get d r i) rest st (put st.entry d (Ref target.0)) (At target.0) (put a.reg d v) (reference_answer v) st.at.2
+              (n, found, target.1, z, refl) refl regs known
               (cond-false _ _ _ (ne_eqb v 0 (λ q. z (name_nil p lay w g b said k owner t target.0 kt.0 (omega arith)))) ∙ ap At ev) kt.0 kinds
         ]
 
     -- the deciding load of a number
-    pub gets_number : (d r i v : ℕ) → w.word (object_in a r + 2 + i) ≡ v → Stands p lay w g b said k (within a rest (Access (GetD d r i))) → Kept p lay w g b said k true w (over a rest (put a.reg d v) (Number v))
+    pub gets_number : (d r i v : ℕ) → w.word (object_in a r + 2 + i) ≡ v → Stands p lay w g b said k (within a rest (Access (GetD d r i))) → Kept p lay w g b said k (Access (GetD d r i)) true w (over a rest (put a.reg d v) (Number v))
     gets_number d r i v e st =
         let test : Test = record { register = r; field = i; sort = Plain } in
         let x = tested_as p g st.entry (GetD d r i) st.at.0 test refl st.at.1 in
         let n = x.name in
         let sn = (known_at p lay w g b said k owner t _ st r n x.holds).0 in
         let f = plain_field (kind_of p (g.class n)) (g.size n) i x.finds in
-        let number = of_number _ (g.field n i) f.1 (t.fields.sorted n i sn f.0) in
-        let ev : v ≡ number.0 = sym e ∙ ap (λ z. w.word (z + 2 + i)) (object_at p lay w g b said k owner t _ st r n x.holds) ∙ t.fields.holds n i sn f.0 ∙ ap (word_of b.address) number.1 in
-        decided p lay w g b said k w g b (unchanged p lay w g b said k owner t) _ (GetD d r i) rest st (put st.entry d (Int number.0)) (Number number.0) (put a.reg d v) (Number v) st.at.2
-        (n, finds_as p g st.entry (GetD d r i ∷ rest) (GetD d r i) test x, number.1, refl) refl refl refl
+        let number = of_number _ (g.field n i) f.1 (t.laid.fields.sorted n i sn f.0) in
+        let ev : v ≡ number.0 = sym e ∙ ap (λ z. w.word (z + 2 + i)) (object_at p lay w g b said k owner t _ st r n x.holds) ∙ t.laid.fields.holds n i sn f.0 ∙ ap (word_of b.address) number.1 in
+        decided p lay w g b said k _ (λ x e. e) w g (unchanged p lay w g b said k owner t) _ (GetD d r i) rest st (put st.entry d (Int number.0)) (Number number.0) (put a.reg d v) (Number v) st.at.2
+        (n, finds_as p g st.entry (GetD d r i ∷ rest) (GetD d r i) test x, number.1, refl) refl
         (put-along (word_of b.address) a.reg st.entry d v (Int number.0) st.regs ev)
-        (put-all (λ _ e. KnownEntry w g b e) st.entry d (Int number.0) tt (λ j _. st.known j)) (ap Number ev) tt
+        (put-all (λ _ e. IsKnownEntry w.word g b e) st.entry d (Int number.0) tt (λ j _. st.known j)) (ap Number ev) tt
         (put-along kind_of_entry (λ r. kind_of_entry (st.entry r)) st.entry d IsInt (Int number.0) (λ r. refl) refl)

@@ -1,167 +1,122 @@
--- The statements of an accepted program name registers and classes that there are, and so each object has a class of the program.
-use Rattle.std.proofs.Common.{◌≡◌, false, ℕ, zero, suc, ◌<◌, ◌≤◌, List, [], ◌∷◌, length, slice_get, sym, subst, inl, inr, arith}
-use Rattle.std.proofs.lemmas.Bool.{cases_eq}
-use Rattle.std.specs.List.{AllByRecursion}
-use Rattle.sg_graph.specs.declared.shapes.Descriptor.{Descriptor}
-use Rattle.sg_graph.specs.declared.shapes.Descriptor.TheVariants.{PtrFree, Bitmap}
+-- What the code asks of a program holds of an accepted one: its statements name registers and classes that there are, its settings and its classes fit a space, and no register is misused.
+use Rattle.std.proofs.Common.{◌≡◌, None, ℕ, zero, suc, ◌<◌, ◌≤◌, List, [], ◌∷◌, length, map, slice_get, refl, sym, subst, inl, inr, arith}
+use Rattle.std.proofs.lemmas.Bool.{cases_lt}
+use Rattle.std.proofs.lemmas.List.{length-map}
+use Rattle.std.proofs.lemmas.List.Elements.{All-nil, All-cons}
+use Rattle.std.specs.List.{All, AllByRecursion}
+use Rattle.sg_desc.specs.declared.shapes.Descriptor.{Descriptor}
+use Rattle.sg_desc.specs.declared.shapes.Descriptor.TheVariants.{PtrFree, Run, Bitmap, VectorRefs, VectorPlain, Ephemeron}
+use Rattle.sg_desc.specs.declared.shapes.Shape.{Shape}
 use Rattle.sg_graph.specs.declared.program.Class.{Class}
 use Rattle.sg_graph.specs.declared.program.Item.{Item}
 use Rattle.sg_graph.specs.declared.program.Item.TheVariants.{One}
 use Rattle.sg_graph.specs.declared.program.Script.{Script}
 use Rattle.sg_graph.specs.declared.program.Statement.{Statement}
-use Rattle.sg_graph.specs.declared.program.Statement.TheVariants.{New, Put, Get, PutD, GetD, Num, Drop}
+use Rattle.sg_graph.specs.declared.program.Statement.TheVariants.{New, Put, Get, PutD, GetD, Num, Drop, CollectMinor}
 use Rattle.sg_graph.specs.declared.program.Program.{Program}
-use Rattle.sg_graph.specs.declared.reports.Answer.{Answer}
-use Rattle.sg_graph.specs.declared.reports.Answer.TheVariants.{At, Nil, Null, Number, Fine, Field, Full}
-use Rattle.sg_graph.specs.Scripts.{written_out, statements_at, script_of, shape_at, fields_of}
-use Rattle.sg_graph.specs.Graph.{Entry, Mutator, Graph, no_objects, grown, stored, goes_on}
-use Rattle.sg_graph.specs.Statements.{Does}
-use Rattle.sg_graph.specs.Book.{Book}
-use Rattle.sg_graph.specs.Epoch.{Said, Turn, Explains, Pairwise}
-use Rattle.sg_run.specs.Text.{IsItemLine, IsStatementLine, IsClassName, AreScripts}
-use Rattle.sg_run.specs.Accepted.{most_fields, IsSmallClass, IsAcceptedAs}
-use Rattle.sg_run.proofs.Puts.{put-at, put-other, put-all}
+use Rattle.sg_graph.specs.Scripts.{written_out, statements_at, script_of, NamesClass, NameClasses}
+use Rattle.sg_graph.specs.Kinds.{first_kinds, HasNoMisuse}
+use Rattle.sg_graph.specs.Epoch.{Pairwise}
+use Rattle.sg_space.specs.Heap.{layout_of as sections_of}
+use Rattle.sg_space.specs.Sections.{IsLayout}
+use Rattle.sg_space.specs.Space.{AreShapes}
+use Rattle.sg_parse.specs.Text.{IsItemLine, IsStatementLine, IsClassName, AreScripts}
+use Rattle.sg_parse.specs.Accepted.{MayHave, IsSmallClass, IsAcceptedAs}
+use Rattle.sg_run.specs.Views.{NamesRegisters, NameRegisters}
 
--- the statement names registers and a class that there are
-abbrev pub IsNamed : List Class → Statement → Type 0
-IsNamed classes (New r class) = (r < 16) × (class < length classes)
-IsNamed classes (Put r i s) = (r < 16) × (s < 16)
-IsNamed classes (Get d r i) = (d < 16) × (r < 16)
-IsNamed classes (PutD r i s) = (r < 16) × (s < 16)
-IsNamed classes (GetD d r i) = (d < 16) × (r < 16)
-IsNamed classes (Num d n) = d < 16
-IsNamed classes (Drop r) = r < 16
+-- the registers of statements
+registers_in_line : (classes : List Class) (line : List (List ℕ)) (s : Statement) → IsStatementLine classes line s → NamesRegisters s
+registers_in_line classes line (New r class) (a, b, e, f, g) = omega (arith, f.1)
+registers_in_line classes line (Put r i s) (a, b, c, e, f, g, h) = (omega (arith, f.1), omega (arith, h.1))
+registers_in_line classes line (Get d r i) (a, b, c, e, f, g, h) = (omega (arith, f.1), omega (arith, g.1))
+registers_in_line classes line (PutD r i s) (a, b, c, e, f, g, h) = (omega (arith, f.1), omega (arith, h.1))
+registers_in_line classes line (GetD d r i) (a, b, c, e, f, g, h) = (omega (arith, f.1), omega (arith, g.1))
+registers_in_line classes line (Num d n) (a, b, e, f, g) = omega (arith, f.1)
+registers_in_line classes line (Drop r) (a, e, f) = omega (arith, f.1)
+registers_in_line classes line CollectMinor q = tt
 
-abbrev pub AreNamed : List Class → List Statement → Type 0
-AreNamed classes [] = Unit {0}
-AreNamed classes (s ∷ rest) = IsNamed classes s × AreNamed classes rest
+registers_in_items : (classes : List Class) (body : List (List (List ℕ))) (items : List Item) → Pairwise (IsItemLine classes) body items → NameRegisters (written_out items)
+registers_in_items classes [] [] q = tt
+registers_in_items classes [] (item ∷ items) q = absurd q
+registers_in_items classes (line ∷ body) [] q = absurd q
+registers_in_items classes (line ∷ body) (One s ∷ items) q = (registers_in_line classes line s q.0, registers_in_items classes body items q.1)
 
+registers_in_scripts : (classes : List Class) (lines : List (List (List ℕ))) (scripts : List Script) (k : ℕ) → AreScripts classes lines scripts → NameRegisters (statements_at (slice_get scripts k))
+registers_in_scripts classes lines [] k q = tt
+registers_in_scripts classes lines (script ∷ scripts) zero (body, rest, e, items, more) = registers_in_items classes body script.items items
+registers_in_scripts classes lines (script ∷ scripts) (suc k) (body, rest, e, items, more) = registers_in_scripts classes rest scripts k more
+
+pub accepted_registers : (bytes : List ℕ) (p : Program) → IsAcceptedAs bytes p → (k : ℕ) → NameRegisters (script_of p k)
+accepted_registers bytes p a k = registers_in_scripts p.classes a.reads.program.scripts p.mutators k a.reads.program.are_scripts
+
+-- the classes of statements
 class_below : (classes : List Class) (name : List ℕ) (c : ℕ) → IsClassName classes name c → c < length classes
 class_below [] name c e = cc
 class_below (class ∷ classes) name zero e = omega arith
 class_below (class ∷ classes) name (suc c) e = let l = class_below classes name c e in omega arith
 
-named_line : (classes : List Class) (line : List (List ℕ)) (s : Statement) → IsStatementLine classes line s → IsNamed classes s
-named_line classes line (New r class) (a, b, e, f, g) = (omega (arith, f.1), class_below classes b class g)
-named_line classes line (Put r i s) (a, b, c, e, f, g, h) = (omega (arith, f.1), omega (arith, h.1))
-named_line classes line (Get d r i) (a, b, c, e, f, g, h) = (omega (arith, f.1), omega (arith, g.1))
-named_line classes line (PutD r i s) (a, b, c, e, f, g, h) = (omega (arith, f.1), omega (arith, h.1))
-named_line classes line (GetD d r i) (a, b, c, e, f, g, h) = (omega (arith, f.1), omega (arith, g.1))
-named_line classes line (Num d n) (a, b, e, f, g) = omega (arith, f.1)
-named_line classes line (Drop r) (a, e, f) = omega (arith, f.1)
+module _ (p : Program) where
+  class_in_line : (line : List (List ℕ)) (s : Statement) → IsStatementLine p.classes line s → NamesClass p s
+  class_in_line line (New r class) (a, b, e, f, g) = class_below p.classes b class g
+  class_in_line line (Put r i s) q = tt
+  class_in_line line (Get d r i) q = tt
+  class_in_line line (PutD r i s) q = tt
+  class_in_line line (GetD d r i) q = tt
+  class_in_line line (Num d n) q = tt
+  class_in_line line (Drop r) q = tt
+  class_in_line line CollectMinor q = tt
 
-named_items : (classes : List Class) (body : List (List (List ℕ))) (items : List Item) → Pairwise (IsItemLine classes) body items → AreNamed classes (written_out items)
-named_items classes [] [] q = tt
-named_items classes [] (item ∷ items) q = absurd q
-named_items classes (line ∷ body) [] q = absurd q
-named_items classes (line ∷ body) (One s ∷ items) q = (named_line classes line s q.0, named_items classes body items q.1)
+  classes_in_items : (body : List (List (List ℕ))) (items : List Item) → Pairwise (IsItemLine p.classes) body items → NameClasses p (written_out items)
+  classes_in_items [] [] q = tt
+  classes_in_items [] (item ∷ items) q = absurd q
+  classes_in_items (line ∷ body) [] q = absurd q
+  classes_in_items (line ∷ body) (One s ∷ items) q = (class_in_line line s q.0, classes_in_items body items q.1)
 
-named_scripts : (classes : List Class) (lines : List (List (List ℕ))) (scripts : List Script) (k : ℕ) → AreScripts classes lines scripts → AreNamed classes (statements_at (slice_get scripts k))
-named_scripts classes lines [] k q = tt
-named_scripts classes lines (script ∷ scripts) zero (body, rest, e, items, more) = named_items classes body script.items items
-named_scripts classes lines (script ∷ scripts) (suc k) (body, rest, e, items, more) = named_scripts classes rest scripts k more
+  classes_in_scripts : (lines : List (List (List ℕ))) (scripts : List Script) (k : ℕ) → AreScripts p.classes lines scripts → NameClasses p (statements_at (slice_get scripts k))
+  classes_in_scripts lines [] k q = tt
+  classes_in_scripts lines (script ∷ scripts) zero (body, rest, e, items, more) = classes_in_items body script.items items
+  classes_in_scripts lines (script ∷ scripts) (suc k) (body, rest, e, items, more) = classes_in_scripts rest scripts k more
 
--- every statement of an accepted program
-pub accepted_named : (bytes : List ℕ) (p : Program) → IsAcceptedAs bytes p → (k : ℕ) → AreNamed p.classes (script_of p k)
-accepted_named bytes p a k = named_scripts p.classes a.reads.program.scripts p.mutators k a.reads.program.are_scripts
+pub accepted_classes : (bytes : List ℕ) (p : Program) → IsAcceptedAs bytes p → (k : ℕ) → NameClasses p (script_of p k)
+accepted_classes bytes p a k = classes_in_scripts p a.reads.program.scripts p.mutators k a.reads.program.are_scripts
 
--- and each class is small
-small_kind : (kind : Descriptor) (n : ℕ) → n ≤ most_fields kind → n ≤ 62
+-- the settings and the classes fit a space
+pub accepted_layout : (bytes : List ℕ) (p : Program) → IsAcceptedAs bytes p → IsLayout (sections_of p)
+accepted_layout bytes p a = record {
+  nursery_least = a.limits.settings.nursery_least;
+  nursery_most = a.limits.settings.nursery_most;
+  nursery_even = a.limits.settings.nursery_even;
+  blocks_least = a.limits.settings.blocks_least;
+  blocks_most = a.limits.settings.blocks_most;
+  pages = a.limits.settings.pages_most;
+}
+
+small_kind : (kind : Descriptor) (n : ℕ) → MayHave kind n → n ≤ 62
 small_kind PtrFree n l = l
+small_kind (Run first count) n l = l.2
 small_kind (Bitmap bits) n l = omega arith
+small_kind VectorRefs n l = omega arith
+small_kind VectorPlain n l = omega arith
+small_kind Ephemeron n l = omega arith
 
-small_at : (classes : List Class) (c : ℕ) → AllByRecursion IsSmallClass classes → (shape_at (slice_get classes c)).fields ≤ 62
-small_at [] c q = omega arith
-small_at (class ∷ classes) zero q = small_kind class.shape.kind class.shape.fields q.0
-small_at (class ∷ classes) (suc c) q = small_at classes c q.1
+small_shapes : (classes : List Class) → AllByRecursion IsSmallClass classes → All (λ (shape : Shape). shape.fields ≤ 62) (map (λ (class : Class). class.shape) classes)
+small_shapes [] q = All-nil (λ (shape : Shape). shape.fields ≤ 62)
+small_shapes (class ∷ classes) q = All-cons (λ (shape : Shape). shape.fields ≤ 62) class.shape _ (small_kind class.shape.kind class.shape.fields q.0) (small_shapes classes q.1)
 
-pub accepted_small : (bytes : List ℕ) (p : Program) → IsAcceptedAs bytes p → (c : ℕ) → fields_of p c ≤ 62
-accepted_small bytes p a c = small_at p.classes c a.limits.fields
+pub accepted_shapes : (bytes : List ℕ) (p : Program) → IsAcceptedAs bytes p → AreShapes (map (λ (class : Class). class.shape) p.classes)
+accepted_shapes bytes p a = record {
+  classes = omega (arith, length-map p.classes (λ (class : Class). class.shape), a.limits.classes);
+  fields = small_shapes p.classes a.limits.fields;
+}
 
--- each object has a class of the program, and the statements before the mutators name what there is
-pub record IsClassed (p : Program) (g : Graph) : Type 0 where
-  pub objects : (n : ℕ) → 1 ≤ n → n ≤ g.count → g.class n < length p.classes
-  pub scripts : (k : ℕ) → AreNamed p.classes (g.mutator k).script
+-- no mutator of an accepted program misuses a register
+beyond : {A : Type 0} (xs : List A) (k : ℕ) → length xs ≤ k → slice_get xs k ≡ None
+beyond [] k l = refl
+beyond (x ∷ xs) zero l = absurd (omega arith)
+beyond (x ∷ xs) (suc k) l = beyond xs k (omega arith)
 
-module _ (p : Program) (g : Graph) (k : ℕ) (c : IsClassed p g) where
-  on : (h x : Graph) (rest : List Statement) (register : ℕ → Entry) → AreNamed p.classes rest → IsClassed p x → h ≡ goes_on x k rest register → IsClassed p h
-  on h x rest register named q e = subst (λ y. IsClassed p y) (sym e) (record {
-    objects = q.objects;
-    scripts = put-all (λ j m. AreNamed p.classes m.script) x.mutator k (record { register = register; script = rest; ended = false }) named (λ j n. q.scripts j);
-  })
-
-  classed_grown : (class : ℕ) → class < length p.classes → IsClassed p (grown p g k class)
-  classed_grown class l = record {
-    objects = λ n some most. elim (cases_eq n (suc g.count)) [
-      | inl e ↦ subst (λ x. x < length p.classes) (sym (put-at g.class (suc g.count) class n e)) l
-      | inr e ↦ subst (λ x. x < length p.classes) (sym (put-other g.class (suc g.count) class n e)) (c.objects n some (omega arith))
-    ];
-    scripts = c.scripts;
-  }
-
-  classed_stored : (n i : ℕ) (entry : Entry) → IsClassed p (stored g n i entry)
-  classed_stored n i entry = record { objects = c.objects; scripts = c.scripts }
-
-  classed_does : (m : Mutator) (s : Statement) (rest : List Statement) (answer : Answer) (h : Graph) → IsNamed p.classes s → AreNamed p.classes rest → Does p g k m s rest answer h → IsClassed p h
-  classed_does m (New r class) rest (At x) h named more q = on h _ rest _ more (classed_grown class named.1) q.1
-  classed_does m (New r class) rest Nil h named more q = absurd q
-  classed_does m (New r class) rest Null h named more q = on h g rest _ more c q.1
-  classed_does m (New r class) rest (Number x) h named more q = absurd q
-  classed_does m (New r class) rest Fine h named more q = absurd q
-  classed_does m (New r class) rest Field h named more q = on h g rest _ more c q.1
-  classed_does m (New r class) rest Full h named more q = on h g rest _ more c q
-  classed_does m (Put r i s) rest (At x) h named more q = absurd q
-  classed_does m (Put r i s) rest Nil h named more q = absurd q
-  classed_does m (Put r i s) rest Null h named more q = on h g rest _ more c q.1
-  classed_does m (Put r i s) rest (Number x) h named more q = absurd q
-  classed_does m (Put r i s) rest Fine h named more q = on h _ rest _ more (classed_stored q.0 i _) q.4
-  classed_does m (Put r i s) rest Field h named more q = on h g rest _ more c q.1
-  classed_does m (Put r i s) rest Full h named more q = absurd q
-  classed_does m (Get d r i) rest (At x) h named more q = on h g rest _ more c q.4
-  classed_does m (Get d r i) rest Nil h named more q = on h g rest _ more c q.3
-  classed_does m (Get d r i) rest Null h named more q = on h g rest _ more c q.1
-  classed_does m (Get d r i) rest (Number x) h named more q = absurd q
-  classed_does m (Get d r i) rest Fine h named more q = absurd q
-  classed_does m (Get d r i) rest Field h named more q = on h g rest _ more c q.1
-  classed_does m (Get d r i) rest Full h named more q = absurd q
-  classed_does m (PutD r i s) rest (At x) h named more q = absurd q
-  classed_does m (PutD r i s) rest Nil h named more q = absurd q
-  classed_does m (PutD r i s) rest Null h named more q = on h g rest _ more c q.1
-  classed_does m (PutD r i s) rest (Number x) h named more q = absurd q
-  classed_does m (PutD r i s) rest Fine h named more q = on h _ rest _ more (classed_stored q.0 i _) q.4
-  classed_does m (PutD r i s) rest Field h named more q = on h g rest _ more c q.1
-  classed_does m (PutD r i s) rest Full h named more q = absurd q
-  classed_does m (GetD d r i) rest (At x) h named more q = absurd q
-  classed_does m (GetD d r i) rest Nil h named more q = absurd q
-  classed_does m (GetD d r i) rest Null h named more q = on h g rest _ more c q.1
-  classed_does m (GetD d r i) rest (Number x) h named more q = on h g rest _ more c q.3
-  classed_does m (GetD d r i) rest Fine h named more q = absurd q
-  classed_does m (GetD d r i) rest Field h named more q = on h g rest _ more c q.1
-  classed_does m (GetD d r i) rest Full h named more q = absurd q
-  classed_does m (Num d n) rest (At x) h named more q = absurd q
-  classed_does m (Num d n) rest Nil h named more q = absurd q
-  classed_does m (Num d n) rest Null h named more q = on h g rest _ more c q.1
-  classed_does m (Num d n) rest (Number x) h named more q = absurd q
-  classed_does m (Num d n) rest Fine h named more q = on h g rest _ more c q
-  classed_does m (Num d n) rest Field h named more q = on h g rest _ more c q.1
-  classed_does m (Num d n) rest Full h named more q = absurd q
-  classed_does m (Drop r) rest (At x) h named more q = absurd q
-  classed_does m (Drop r) rest Nil h named more q = absurd q
-  classed_does m (Drop r) rest Null h named more q = on h g rest _ more c q.1
-  classed_does m (Drop r) rest (Number x) h named more q = absurd q
-  classed_does m (Drop r) rest Fine h named more q = on h g rest _ more c q
-  classed_does m (Drop r) rest Field h named more q = on h g rest _ more c q.1
-  classed_does m (Drop r) rest Full h named more q = absurd q
-
-classed_turn : (p : Program) (g : Graph) (b : Book) (said : Said) (h : Graph) (c : Book) → Turn p g b said h c → IsClassed p g → IsClassed p h
-classed_turn p g b said h c turn q =
-    let named : AreNamed p.classes (turn.statement ∷ turn.rest) = subst (λ s. AreNamed p.classes s) turn.next (q.scripts said.by) in
-    classed_does p g said.by q (g.mutator said.by) turn.statement turn.rest said.answer h named.0 named.1 turn.does
-
--- whole statements keep it
-pub classed_along : (p : Program) (order : List Said) (g : Graph) (b : Book) (h : Graph) (c : Book) → Explains p g b order h c → IsClassed p g → IsClassed p h
-classed_along p [] g b h c e q = subst (λ x. IsClassed p x) (sym e.0) q
-classed_along p (said ∷ order) g b h c (h1, c1, turn, more) q = classed_along p order h1 c1 h c more (classed_turn p g b said h1 c1 turn q)
-
-pub classed_first : (bytes : List ℕ) (p : Program) → IsAcceptedAs bytes p → IsClassed p (no_objects p)
-classed_first bytes p a = record { objects = λ n some none. absurd (omega arith); scripts = accepted_named bytes p a }
+pub no_misuse : (bytes : List ℕ) (p : Program) → IsAcceptedAs bytes p → (k : ℕ) → HasNoMisuse first_kinds (script_of p k)
+no_misuse bytes p a k = elim (cases_lt k (length p.mutators)) [
+  | inl l ↦ a.kinds k l
+  | inr l ↦ subst (λ o. HasNoMisuse first_kinds (statements_at o)) (sym (beyond p.mutators k l)) tt
+]

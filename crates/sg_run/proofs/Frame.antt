@@ -3,18 +3,21 @@ use Rattle.std.proofs.Common.{◌≡◌, ◌≢◌, ℕ, ◌+◌, subst, Bool, t
 use Rattle.sg_words.specs.Address.{byte_at}
 use Rattle.sg_words.specs.Words.{Words}
 use Rattle.sg_graph.specs.declared.program.Statement.{Statement}
+use Rattle.sg_graph.specs.declared.program.Statement.TheVariants.{New, Put, Get, PutD, GetD, Num, Drop, CollectMinor}
 use Rattle.sg_graph.specs.declared.program.Program.{Program}
 use Rattle.sg_graph.specs.declared.reports.Answer.{Answer}
 use Rattle.sg_graph.specs.declared.reports.Answer.TheVariants.{At, Nil, Null, Number, Fine, Field, Full}
-use Rattle.sg_graph.specs.Shapes.{has_field}
-use Rattle.sg_graph.specs.Scripts.{kind_of}
+use Rattle.sg_desc.specs.Shapes.{has_field}
+use Rattle.sg_graph.specs.Scripts.{kind_of, NameClasses}
 use Rattle.sg_graph.specs.Kinds.{HasNoMisuse}
-use Rattle.sg_graph.specs.Graph.{Entry, Ref, Int, Graph}
+use Rattle.sg_graph.specs.Graph.{Entry, Ref, Int, Mutator, Graph}
 use Rattle.sg_graph.specs.Statements.{Test}
-use Rattle.sg_graph.specs.Book.{Book}
+use Rattle.sg_graph.specs.Book.{Book, word_of, words_of_class}
 use Rattle.sg_graph.specs.Epoch.{by_address}
-use Rattle.sg_run.specs.Rules.{Layout, Mid, Idle, TestTag, TestLength, FailTag, FailLength, Access, Look, Claim, StoreLength, StoreTag, Actor}
-use Rattle.sg_run.proofs.Relation.{Known, KnownEntry, word_of, IsGiven, AreGiven, IsMutator, Tight, Tested, Placed, AtMid, kind_of_entry, kinds_in, Stands, Later}
+use Rattle.sg_run.specs.Rules.{Layout, Mid, Idle, TestTag, TestLength, FailTag, FailLength, Access, Look, Claim, StoreLength, StoreTag, Ask, Left, Actor}
+use Rattle.sg_run.specs.Rest.{kind_of_entry}
+use Rattle.sg_space.specs.Heap.{IsKnown, IsKnownEntry}
+use Rattle.sg_run.proofs.Relation.{IsGiven, AreGiven, IsMutator, Tight, IsAsked, Tested, Placed, AtMid, kinds_in, Stands, Later}
 
 address_later : (b c : Book) (answer : Answer) → IsGiven b.stands answer → ((n : ℕ) → b.stands n ≡ true → c.address n ≡ b.address n) → by_address c answer ≡ by_address b answer
 address_later b c (At n) g e = ap (λ x. At (byte_at x)) (e n g)
@@ -52,11 +55,11 @@ given_push s [] answer g i = (i, tt)
 given_push s (x ∷ said) answer g i = (g.0, given_push s said answer g.1 i)
 
 -- the word of a known entry stays
-pub word_later : (w : Words) (g : Graph) (b c : Book) (entry : Entry) → KnownEntry w g b entry → ((n : ℕ) → b.stands n ≡ true → c.address n ≡ b.address n) → word_of c.address entry ≡ word_of b.address entry
+pub word_later : (w : Words) (g : Graph) (b c : Book) (entry : Entry) → IsKnownEntry w.word g b entry → ((n : ℕ) → b.stands n ≡ true → c.address n ≡ b.address n) → word_of c.address entry ≡ word_of b.address entry
 word_later w g b c (Ref n) q e = ap byte_at (e n q.0)
 word_later w g b c (Int v) q e = refl
 
-pub entry_later : (w : Words) (g : Graph) (b : Book) (v : Words) (h : Graph) (c : Book) (entry : Entry) → ((n : ℕ) → Known w g b n → Known v h c n) → KnownEntry w g b entry → KnownEntry v h c entry
+pub entry_later : (w : Words) (g : Graph) (b : Book) (v : Words) (h : Graph) (c : Book) (entry : Entry) → ((n : ℕ) → IsKnown w.word g b n → IsKnown v.word h c n) → IsKnownEntry w.word g b entry → IsKnownEntry v.word h c entry
 entry_later w g b v h c (Ref n) l q = l n q
 entry_later w g b v h c (Int x) l q = tt
 
@@ -65,7 +68,7 @@ module _ (p : Program) (lay : Layout) (w : Words) (g : Graph) (b : Book) (said :
   moved : (register : ℕ → Entry) (script : List Statement) (answers : List Answer) → IsMutator g said j register script answers → IsMutator h said' j register script answers
   moved register script answers m = record { is = l.mutator j n ∙ m.is; says = l.says j n ∙ m.says }
 
-  tested : (entry : ℕ → Entry) (s : Statement) (test : Test) → ((r : ℕ) → KnownEntry w g b (entry r)) → Tested p g entry s test → Tested p h entry s test
+  tested : (entry : ℕ → Entry) (s : Statement) (test : Test) → ((r : ℕ) → IsKnownEntry w.word g b (entry r)) → Tested p g entry s test → Tested p h entry s test
   tested entry s test q t = record {
     tests = t.tests;
     name = t.name;
@@ -75,7 +78,7 @@ module _ (p : Program) (lay : Layout) (w : Words) (g : Graph) (b : Book) (said :
         ap (λ class. has_field test.sort (kind_of p class) (h.size t.name) test.field) (l.class t.name stood) ∙ ap (λ size. has_field test.sort (kind_of p (g.class t.name)) size test.field) (l.size t.name stood) ∙ t.finds;
   }
     where
-      stands_of : (e : Entry) (name : ℕ) → e ≡ Ref name → KnownEntry w g b e → b.stands name ≡ true
+      stands_of : (e : Entry) (name : ℕ) → e ≡ Ref name → IsKnownEntry w.word g b e → b.stands name ≡ true
       stands_of (Ref m) name eq q = ap b.stands (sym (the_name eq)) ∙ q.0
         where
           the_name : Ref m ≡ Ref name → m ≡ name
@@ -99,7 +102,17 @@ module _ (p : Program) (lay : Layout) (w : Words) (g : Graph) (b : Book) (said :
     ahead = moved _ _ _ m.ahead;
   }
 
-  pub mid_later : (entry : ℕ → Entry) (answers : List Answer) (rest : List Statement) (mid : Mid) → ((r : ℕ) → KnownEntry w g b (entry r)) → AtMid p lay w g b said j entry answers rest mid → AtMid p lay v h c said' j entry answers rest mid
+  asked : (s : Statement) → IsAsked p lay b j s → IsAsked p lay c j s
+  asked (New r class) t = tight (words_of_class p class) lay.fragments t
+  asked (Put r i x) t = absurd t
+  asked (Get d r i) t = absurd t
+  asked (PutD r i x) t = absurd t
+  asked (GetD d r i) t = absurd t
+  asked (Num d x) t = absurd t
+  asked (Drop r) t = absurd t
+  asked CollectMinor t = tt
+
+  pub mid_later : (entry : ℕ → Entry) (answers : List Answer) (rest : List Statement) (mid : Mid) → ((r : ℕ) → IsKnownEntry w.word g b (entry r)) → AtMid p lay w g b said j entry answers rest mid → AtMid p lay v h c said' j entry answers rest mid
   mid_later entry answers rest Idle q m = moved _ _ _ m
   mid_later entry answers rest (TestTag s test) q m = (tested entry s test q m.0, moved _ _ _ m.1)
   mid_later entry answers rest (TestLength s test class) q m = (tested entry s test q m.0, moved _ _ _ m.1)
@@ -114,9 +127,14 @@ module _ (p : Program) (lay : Layout) (w : Words) (g : Graph) (b : Book) (said :
     (let at = m.0.address in let size = m.0.size in
         ap (λ y. v.word (y + 1)) (sym at) ∙ l.length_word m.0.name m.0.stands m.0.some (ap (λ y. w.word (y + 1)) at ∙ m.1 ∙ sym size) ∙ size),
   )
+  mid_later entry answers rest (Ask s) q m = (asked s m.0, moved _ _ _ m.1)
+  mid_later entry answers rest (Left s) q m = (asked s m.0, moved _ _ _ m.1)
 
   fits_later : HasNoMisuse (kinds_in g j) (g.mutator j).script → HasNoMisuse (kinds_in h j) (h.mutator j).script
   fits_later f = subst (λ m. HasNoMisuse (λ r. kind_of_entry (m.register r)) m.script) (sym (l.mutator j n)) f
+
+  named_later : NameClasses p (g.mutator j).script → NameClasses p (h.mutator j).script
+  named_later f = subst (λ (m : Mutator). NameClasses p m.script) (sym (l.mutator j n)) f
 
   pub stands_later : (a : Actor) → Stands p lay w g b said j a → Stands p lay v h c said' j a
   stands_later a s = record {
@@ -130,4 +148,5 @@ module _ (p : Program) (lay : Layout) (w : Words) (g : Graph) (b : Book) (said :
     to_is = s.to_is ∙ sym (l.to j n);
     at = mid_later s.entry s.answers a.script a.mid s.known s.at;
     fits = fits_later s.fits;
+    named = named_later s.named;
   }

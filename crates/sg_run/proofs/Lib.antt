@@ -1,5 +1,5 @@
 pub mod Relation
-pub mod Puts
+pub mod Events
 pub mod Frame
 pub mod Moves
 pub mod Loads
@@ -8,15 +8,13 @@ pub mod Places
 pub mod Whole
 pub mod Steps
 pub mod Law
+pub mod Epochs
 pub mod Classes
 pub mod Begins
+pub mod Serving
 mod Fronts
 mod Pieces
 mod Words
-pub mod TextLemmas
-pub mod WordLemmas
-pub mod ClassLemmas
-pub mod ItemLemmas
-pub mod KindLemmas
-pub mod HeadLemmas
-pub mod ProgramLemmas
+pub mod Stops
+pub mod Rounds
+pub mod Texts

@@ -1,5 +1,5 @@
 -- Each rule by which a mutator goes on keeps the relation: a new object gets its place, its length and its tag.
-use Rattle.std.proofs.Common.{◌≡◌, ◌≢◌, ℕ, suc, ◌+◌, ◌-◌, ◌<◌, ◌≤◌, min, max, cond, Bool, true, false, List, [], ◌∷◌, ◌++◌, ◌⊎◌, inl, inr, sym, refl, ap, ◌∙◌, subst, ap₂, le_refl, arith}
+use Rattle.std.proofs.Common.{◌≡◌, ◌≢◌, ℕ, suc, ◌+◌, ◌-◌, ◌<◌, ◌≤◌, min, max, cond, Bool, true, false, List, [], ◌∷◌, ◌++◌, length, ◌⊎◌, inl, inr, sym, refl, ap, ◌∙◌, subst, ap₂, le_refl, arith}
 use Rattle.std.proofs.lemmas.Bool.{cases_eq}
 use Rattle.sg_words.specs.Address.{byte_at}
 use Rattle.sg_words.specs.Tags.{plain_word}
@@ -10,46 +10,40 @@ use Rattle.sg_graph.specs.declared.program.Statement.TheVariants.{New}
 use Rattle.sg_graph.specs.declared.program.Program.{Program}
 use Rattle.sg_graph.specs.declared.reports.Answer.{Answer}
 use Rattle.sg_graph.specs.declared.reports.Answer.TheVariants.{At}
-use Rattle.sg_graph.specs.Shapes.{holds_reference}
+use Rattle.sg_desc.specs.Shapes.{holds_reference}
 use Rattle.sg_graph.specs.Scripts.{kind_of, fields_of}
 use Rattle.sg_graph.specs.Kinds.{IsRef}
 use Rattle.sg_graph.specs.Graph.{Entry, Ref, Int, Graph, grown, empty_field}
-use Rattle.sg_graph.specs.Book.{Book, Books, placed, words_of_class, share, nursery_base, nursery_end}
-use Rattle.sg_run.specs.Rules.{Layout, Claim, StoreLength, StoreTag, Actor, before, within, over, owning, taken}
-use Rattle.sg_run.proofs.Puts.{put-at, put-same, put-other, put-all, put-along, within_range, range-in, range-below, range-above, range-keeps}
+use Rattle.sg_graph.specs.Book.{Book, Books, placed, words_of_class, share, word_of, Young, nursery_base, nursery_end}
+use Rattle.sg_space.specs.Heap.{Owner, Of, Frag, Buf, IsHeaded, IsKnown, IsKnownEntry, IsOfSort, Objects, Fields}
+use Rattle.sg_run.specs.Rules.{Layout, Mid, Idle, Claim, StoreLength, StoreTag, Actor, before, within, over, owning, taken}
+use Rattle.sg_run.specs.Rest.{kind_of_entry}
+use Rattle.sg_words.proofs.Puts.{put-at, put-same, put-other, put-all, put-along, within_range, range-in, range-below, range-above, range-keeps}
+use Rattle.sg_run.proofs.Events.{range-was}
 use Rattle.sg_run.proofs.Frame.{answers_later, answers_push, given_later, given_push}
-use Rattle.sg_run.proofs.Relation.{Known, KnownEntry, word_of, Owner, Of, Frag, Buf, Ground, IsOfSort, IsMutator, kind_of_entry, Stands, Later, Kept}
-use Rattle.sg_run.proofs.Moves.{silent, turned, is_after, fits_after, fits_as, misuse_along}
+use Rattle.sg_run.proofs.Relation.{Ground, IsMutator, Stands, Later, IsMaking, Kept}
+use Rattle.sg_run.proofs.Moves.{silent, turned, is_after, fits_after, fits_as, named_after, named_as, misuse_along}
 use Rattle.sg_run.proofs.Accesses.{same_there, ground_stored, later_stored, length_off, tag_off, fields_off}
+use Rattle.sg_space.proofs.Placing.{of_sort_empty, empty_cond}
 
--- an empty field of a sort holds a name or a number, as the sort says
-of_sort_empty : (sort : Bool) → IsOfSort sort (cond sort (Ref 0) (Int 0))
-of_sort_empty true = tt
-of_sort_empty false = tt
-
-known_cond : (P : Entry → Type 0) (sort : Bool) → P (Ref 0) → P (Int 0) → P (cond sort (Ref 0) (Int 0))
-known_cond P true r i = r
-known_cond P false r i = i
-
--- What a place for a new object of m words at x has to be: the words are clear, nobody's, and inside. Next, from and to are
--- the other parts of the book.
-pub record Place (p : Program) (w : Words) (g : Graph) (b : Book) (k m x : ℕ) (next from to : ℕ → ℕ) (owner : ℕ → Owner) : Type 0 where
-  pub clear : (y : ℕ) → x ≤ y → y < x + m → w.word y ≡ 0
-  pub new : (y : ℕ) → x ≤ y → y < x + m → owner y ≡ Of (suc g.count)
-  pub old : (o y : ℕ) → b.stands o ≡ true → b.address o ≤ y → y < b.address o + (g.size o + 2) → owner y ≡ Of o
-  pub buffers : (j y : ℕ) → from j ≤ y → y < to j → owner y ≡ Buf j
-  pub frags : (f y : ℕ) → f < b.fragments → next f ≤ y → y < b.limit f → owner y ≡ Frag f
-  pub clear_buffers : (j y : ℕ) → from j ≤ y → y < to j → w.word y ≡ 0
-  pub clear_frags : (f y : ℕ) → f < b.fragments → next f ≤ y → y < b.limit f → w.word y ≡ 0
+-- What a place for a new object of m words at x has to be: the words are no object's, and inside. Next, from and to are the
+-- other parts of the book.
+pub record Place (p : Program) (g : Graph) (b : Book) (k m x : ℕ) (next from to : ℕ → ℕ) (owner owner' : ℕ → Owner) : Type 0 where
+  pub free : (y : ℕ) → x ≤ y → y < x + m → (o : ℕ) → owner y ≢ Of o
+  pub new : (y : ℕ) → x ≤ y → y < x + m → owner' y ≡ Of (suc g.count)
+  pub old : (o y : ℕ) → owner y ≡ Of o → owner' y ≡ Of o
+  pub only : (o y : ℕ) → owner' y ≡ Of o → ((o ≡ suc g.count) × (x ≤ y) × (y < x + m)) ⊎ (owner y ≡ Of o)
+  pub buffers : (j y : ℕ) → from j ≤ y → y < to j → owner' y ≡ Buf j
+  pub frags : (f y : ℕ) → f < b.fragments → next f ≤ y → y < b.limit f → owner' y ≡ Frag f
   pub in_object : (nursery_base ≤ x) × (x + m ≤ nursery_end p)
   pub in_buffers : (j : ℕ) → from j < to j → (nursery_base ≤ from j) × (to j ≤ nursery_end p)
-  pub in_frags : (f : ℕ) → f < b.fragments → (nursery_base ≤ next f) × (b.limit f ≤ nursery_end p)
+  pub within : (f : ℕ) → f < b.fragments → next f ≤ b.limit f
   pub rises : (f : ℕ) → b.next f ≤ next f
   pub other_from : (j : ℕ) → j ≢ k → from j ≡ b.from j
   pub other_to : (j : ℕ) → j ≢ k → to j ≡ b.to j
 
 module _ (p : Program) (lay : Layout) (w : Words) (g : Graph) (b : Book) (said : ℕ → List Answer) (k : ℕ) (owner : ℕ → Owner) (t : Ground p lay w g b owner)
-    (class x : ℕ) (next wnext from to : ℕ → ℕ) (owner' : ℕ → Owner) (pl : Place p w g b k (fields_of p class + 2) x next from to owner') (nexts : (f : ℕ) → f < b.fragments → wnext f ≡ byte_at (next f)) where
+    (class x : ℕ) (next wnext from to : ℕ → ℕ) (owner' : ℕ → Owner) (pl : Place p g b k (fields_of p class + 2) x next from to owner owner') (is_class : class < length p.classes) (nexts : (f : ℕ) → f < b.fragments → wnext f ≡ byte_at (next f)) where
   abbrev new : ℕ
   new = suc g.count
 
@@ -60,7 +54,7 @@ module _ (p : Program) (lay : Layout) (w : Words) (g : Graph) (b : Book) (said :
   new_book = record (placed b (suc g.count) x) { next = next; from = from; to = to }
 
   not_new : (m : ℕ) → b.stands m ≡ true → m ≢ suc g.count
-  not_new m q e = let l = t.objects.given m q in absurd (omega arith)
+  not_new m q e = let l = t.laid.objects.given m q in absurd (omega arith)
 
   at_old : (m : ℕ) → b.stands m ≡ true → put b.address (suc g.count) x m ≡ b.address m
   at_old m q = put-other b.address (suc g.count) x m (not_new m q)
@@ -74,7 +68,7 @@ module _ (p : Program) (lay : Layout) (w : Words) (g : Graph) (b : Book) (said :
   stands_old : (m : ℕ) → b.stands m ≡ true → put b.stands (suc g.count) true m ≡ true
   stands_old m q = put-other b.stands (suc g.count) true m (not_new m q) ∙ q
 
-  known_old : (m : ℕ) → Known w g b m → Known (record w { next = wnext }) (grown p g k class) new_book m
+  known_old : (m : ℕ) → IsKnown w.word g b m → IsKnown w.word (grown p g k class) new_book m
   known_old m q = (
     stands_old m q.0,
     elim q.1 [
@@ -83,11 +77,11 @@ module _ (p : Program) (lay : Layout) (w : Words) (g : Graph) (b : Book) (said :
     ],
   )
 
-  entry_old : (e : Entry) → KnownEntry w g b e → KnownEntry (record w { next = wnext }) (grown p g k class) new_book e
+  entry_old : (e : Entry) → IsKnownEntry w.word g b e → IsKnownEntry w.word (grown p g k class) new_book e
   entry_old (Ref m) q = known_old m q
   entry_old (Int v) q = tt
 
-  word_old : (e : Entry) → KnownEntry w g b e → word_of (put b.address (suc g.count) x) e ≡ word_of b.address e
+  word_old : (e : Entry) → IsKnownEntry w.word g b e → word_of (put b.address (suc g.count) x) e ≡ word_of b.address e
   word_old (Ref m) q = ap byte_at (at_old m q.0)
   word_old (Int v) q = refl
 
@@ -96,7 +90,7 @@ module _ (p : Program) (lay : Layout) (w : Words) (g : Graph) (b : Book) (said :
   old_or_new m q = elim (cases_eq m (suc g.count)) [ inl e ↦ inl e | inr e ↦ inr (sym (put-other b.stands (suc g.count) true m e) ∙ q) ]
 
   nil_stands : b.stands 0 ≡ true
-  nil_stands = t.nothing.stands_nil
+  nil_stands = t.laid.nothing.stands_nil
 
   field_new : (m i : ℕ) → m ≡ suc g.count → put g.field (suc g.count) (empty_field (kind_of p class) (fields_of p class)) m i ≡ cond (holds_reference (kind_of p class) i (fields_of p class)) (Ref 0) (Int 0)
   field_new m i e = ap (λ (f : ℕ → Entry). f i) (put-at g.field (suc g.count) (empty_field (kind_of p class) (fields_of p class)) m e)
@@ -105,59 +99,93 @@ module _ (p : Program) (lay : Layout) (w : Words) (g : Graph) (b : Book) (said :
   field_old m i q = ap (λ (f : ℕ → Entry). f i) (put-other g.field (suc g.count) (empty_field (kind_of p class) (fields_of p class)) m (not_new m q))
 
   word_empty : (sort : Bool) → 0 ≡ word_of (put b.address (suc g.count) x) (cond sort (Ref 0) (Int 0))
-  word_empty sort = known_cond (λ e. 0 ≡ word_of (put b.address (suc g.count) x) e) sort (let u = at_old 0 nil_stands in let v = t.nothing.at_nil in omega arith) refl
+  word_empty sort = empty_cond (λ e. 0 ≡ word_of (put b.address (suc g.count) x) e) sort (let u = at_old 0 nil_stands in let v = t.laid.nothing.at_nil in omega arith) refl
+
+  zero_there : (y : ℕ) → x ≤ y → y < x + (fields_of p class + 2) → w.word y ≡ 0
+  zero_there y i j = let u = pl.in_object in t.laid.clear.clear y (omega arith) (omega arith) (pl.free y i j)
+
+  objects_new : Objects p (suc g.count) (put g.class (suc g.count) class) (put g.size (suc g.count) (fields_of p class)) (put b.stands (suc g.count) true) (put b.address (suc g.count) x) (put b.section (suc g.count) Young) b.fill owner'
+  objects_new = record {
+    given = λ m q. elim (old_or_new m q) [ inl e ↦ omega arith | inr o ↦ (let l = t.laid.objects.given m o in omega arith) ];
+    shaped = λ m l q. elim (old_or_new m q) [
+      | inl e ↦ let u = put-at g.class (suc g.count) class m e in
+          (subst (λ c. c < length p.classes) (sym u) is_class, put-at g.size (suc g.count) (fields_of p class) m e ∙ ap (fields_of p) (sym u))
+      | inr o ↦ let s = t.laid.objects.shaped m l o in let u = class_old m o in
+          (subst (λ c. c < length p.classes) (sym u) s.0, size_old m o ∙ s.1 ∙ ap (fields_of p) (sym u))
+    ];
+    owns = λ m y q i j. elim (old_or_new m q) [
+      | inl e ↦ let u = put-at b.address (suc g.count) x m e in let v = put-at g.size (suc g.count) (fields_of p class) m e in pl.new y (omega arith) (omega arith) ∙ ap Of (sym e)
+      | inr o ↦ let u = at_old m o in let v = size_old m o in pl.old m y (t.laid.objects.owns m y o (omega arith) (omega arith))
+    ];
+    owned = λ m y q. elim (pl.only m y q) [
+      | inl here ↦ let e = here.0 in let lo = here.1 in let hi = here.2 in let u = put-at b.address (suc g.count) x m e in let v = put-at g.size (suc g.count) (fields_of p class) m e in
+          (put-at b.stands (suc g.count) true m e, omega arith, omega arith)
+      | inr e ↦ let s = t.laid.objects.owned m y e in let lo = s.1 in let hi = s.2 in let u = at_old m s.0 in let v = size_old m s.0 in (stands_old m s.0, omega arith, omega arith)
+    ];
+    inside = λ m l q. elim (old_or_new m q) [
+      | inl e ↦ let u = put-at b.address (suc g.count) x m e in let v = put-at g.size (suc g.count) (fields_of p class) m e in let i = pl.in_object in
+          inl (put-at b.section (suc g.count) Young m e, omega arith, omega arith)
+      | inr o ↦ let u = at_old m o in let v = size_old m o in let z = put-other b.section (suc g.count) Young m (not_new m o) in elim (t.laid.objects.inside m l o) [
+        | inl i ↦ let lo = i.1 in let hi = i.2 in inl (z ∙ i.0, omega arith, omega arith)
+        | inr i ↦ let lo = i.1 in let hi = i.2 in inr (z ∙ i.0, omega arith, omega arith)
+      ]
+    ];
+    filled = t.laid.objects.filled;
+    packed = λ y i j. let s = t.laid.objects.packed y i j in (s.0, pl.old s.0 y s.1);
+  }
+
+  fields_new : Fields p w.word (grown p g k class) new_book
+  fields_new = record {
+    holds = λ m i q j. elim (old_or_new m q) [
+      | inl e ↦ let u = put-at b.address (suc g.count) x m e in let v = put-at g.size (suc g.count) (fields_of p class) m e in
+          zero_there (put b.address (suc g.count) x m + 2 + i) (omega arith) (omega arith)
+          ∙ word_empty (holds_reference (kind_of p class) i (fields_of p class)) ∙ sym (ap (word_of (put b.address (suc g.count) x)) (field_new m i e))
+      | inr o ↦ let v = size_old m o in ap (λ a. w.word (a + 2 + i)) (at_old m o) ∙ t.laid.fields.holds m i o (omega arith)
+          ∙ sym (ap (word_of (put b.address (suc g.count) x)) (field_old m i o) ∙ word_old (g.field m i) (t.laid.fields.known m i o (omega arith)))
+    ];
+    known = λ m i q j. elim (old_or_new m q) [
+      | inl e ↦ subst (λ f. IsKnownEntry w.word (grown p g k class) new_book f) (sym (field_new m i e))
+          (empty_cond (λ f. IsKnownEntry w.word (grown p g k class) new_book f) (holds_reference (kind_of p class) i (fields_of p class)) (stands_old 0 nil_stands, inl refl) tt)
+      | inr o ↦ let v = size_old m o in subst (λ f. IsKnownEntry w.word (grown p g k class) new_book f) (sym (field_old m i o)) (entry_old (g.field m i) (t.laid.fields.known m i o (omega arith)))
+    ];
+    sorted = λ m i q j. elim (old_or_new m q) [
+      | inl e ↦ let u = put-at g.class (suc g.count) class m e in let v = put-at g.size (suc g.count) (fields_of p class) m e in
+          subst (λ c. IsOfSort (holds_reference (kind_of p c) i (put g.size (suc g.count) (fields_of p class) m)) (put g.field (suc g.count) (empty_field (kind_of p class) (fields_of p class)) m i)) (sym u)
+          (subst (λ l. IsOfSort (holds_reference (kind_of p class) i l) (put g.field (suc g.count) (empty_field (kind_of p class) (fields_of p class)) m i)) (sym v)
+          (subst (λ f. IsOfSort (holds_reference (kind_of p class) i (fields_of p class)) f) (sym (field_new m i e)) (of_sort_empty (holds_reference (kind_of p class) i (fields_of p class)))))
+      | inr o ↦ let u = class_old m o in let v = size_old m o in
+          subst (λ c. IsOfSort (holds_reference (kind_of p c) i (put g.size (suc g.count) (fields_of p class) m)) (put g.field (suc g.count) (empty_field (kind_of p class) (fields_of p class)) m i)) (sym u)
+          (subst (λ l. IsOfSort (holds_reference (kind_of p (g.class m)) i l) (put g.field (suc g.count) (empty_field (kind_of p class) (fields_of p class)) m i)) (sym v)
+          (subst (λ f. IsOfSort (holds_reference (kind_of p (g.class m)) i (g.size m)) f) (sym (field_old m i o)) (t.laid.fields.sorted m i o (omega arith))))
+    ];
+  }
 
   ground_new : Ground p lay (record w { next = wnext }) (grown p g k class) new_book owner'
   ground_new = record {
-    nothing = record {
-      stands_nil = stands_old 0 nil_stands;
-      at_nil = at_old 0 nil_stands ∙ t.nothing.at_nil;
-      no_size = size_old 0 nil_stands ∙ t.nothing.no_size;
+    laid = record {
+      nothing = record {
+        stands_nil = stands_old 0 nil_stands;
+        at_nil = at_old 0 nil_stands ∙ t.laid.nothing.at_nil;
+        no_size = size_old 0 nil_stands ∙ t.laid.nothing.no_size;
+      };
+      objects = objects_new;
+      fields = fields_new;
+      globals = record {
+        holds = λ y l. t.laid.globals.holds y l ∙ ap byte_at (sym (at_old (g.global y) (t.laid.globals.stand y l)));
+        stand = λ y l. stands_old (g.global y) (t.laid.globals.stand y l);
+        empty = t.laid.globals.empty;
+      };
+      clear = record { clear = λ y i j none. t.laid.clear.clear y i j (λ o e. none o (pl.old o y e)) };
+      fragments = record {
+        owns = pl.frags;
+        inside = λ f l. let i = t.laid.fragments.inside f l in let u = pl.rises f in let lo = i.0 in (omega arith, pl.within f l, i.2);
+        ordered = λ f j l r. let u = pl.rises j in let o = t.laid.fragments.ordered f j l r in omega arith;
+      };
+      buffers = record { owns = pl.buffers; inside = pl.in_buffers };
     };
-    objects = record {
-      given = λ m q. elim (old_or_new m q) [ inl e ↦ omega arith | inr o ↦ (let l = t.objects.given m o in omega arith) ];
-      owns = λ m y q i j. elim (old_or_new m q) [
-        | inl e ↦ let u = put-at b.address (suc g.count) x m e in let v = put-at g.size (suc g.count) (fields_of p class) m e in pl.new y (omega arith) (omega arith) ∙ ap Of (sym e)
-        | inr o ↦ let u = at_old m o in let v = size_old m o in pl.old m y o (omega arith) (omega arith)
-      ];
-      inside = λ m l q. elim (old_or_new m q) [
-        | inl e ↦ let u = put-at b.address (suc g.count) x m e in let v = put-at g.size (suc g.count) (fields_of p class) m e in let i = pl.in_object in (omega arith, omega arith)
-        | inr o ↦ let u = at_old m o in let v = size_old m o in let i = t.objects.inside m l o in (omega arith, omega arith)
-      ];
-    };
-    fields = record {
-      holds = λ m i q j. elim (old_or_new m q) [
-        | inl e ↦ let u = put-at b.address (suc g.count) x m e in let v = put-at g.size (suc g.count) (fields_of p class) m e in
-            pl.clear (put b.address (suc g.count) x m + 2 + i) (omega arith) (omega arith)
-            ∙ word_empty (holds_reference (kind_of p class) i (fields_of p class)) ∙ sym (ap (word_of (put b.address (suc g.count) x)) (field_new m i e))
-        | inr o ↦ let v = size_old m o in ap (λ a. w.word (a + 2 + i)) (at_old m o) ∙ t.fields.holds m i o (omega arith)
-            ∙ sym (ap (word_of (put b.address (suc g.count) x)) (field_old m i o) ∙ word_old (g.field m i) (t.fields.known m i o))
-      ];
-      known = λ m i q. elim (old_or_new m q) [
-        | inl e ↦ subst (λ f. KnownEntry (record w { next = wnext }) (grown p g k class) new_book f) (sym (field_new m i e))
-            (known_cond (λ f. KnownEntry (record w { next = wnext }) (grown p g k class) new_book f) (holds_reference (kind_of p class) i (fields_of p class)) (stands_old 0 nil_stands, inl refl) tt)
-        | inr o ↦ subst (λ f. KnownEntry (record w { next = wnext }) (grown p g k class) new_book f) (sym (field_old m i o)) (entry_old (g.field m i) (t.fields.known m i o))
-      ];
-      sorted = λ m i q j. elim (old_or_new m q) [
-        | inl e ↦ let u = put-at g.class (suc g.count) class m e in let v = put-at g.size (suc g.count) (fields_of p class) m e in
-            subst (λ c. IsOfSort (holds_reference (kind_of p c) i (put g.size (suc g.count) (fields_of p class) m)) (put g.field (suc g.count) (empty_field (kind_of p class) (fields_of p class)) m i)) (sym u)
-            (subst (λ l. IsOfSort (holds_reference (kind_of p class) i l) (put g.field (suc g.count) (empty_field (kind_of p class) (fields_of p class)) m i)) (sym v)
-            (subst (λ f. IsOfSort (holds_reference (kind_of p class) i (fields_of p class)) f) (sym (field_new m i e)) (of_sort_empty (holds_reference (kind_of p class) i (fields_of p class)))))
-        | inr o ↦ let u = class_old m o in let v = size_old m o in
-            subst (λ c. IsOfSort (holds_reference (kind_of p c) i (put g.size (suc g.count) (fields_of p class) m)) (put g.field (suc g.count) (empty_field (kind_of p class) (fields_of p class)) m i)) (sym u)
-            (subst (λ l. IsOfSort (holds_reference (kind_of p (g.class m)) i l) (put g.field (suc g.count) (empty_field (kind_of p class) (fields_of p class)) m i)) (sym v)
-            (subst (λ f. IsOfSort (holds_reference (kind_of p (g.class m)) i (g.size m)) f) (sym (field_old m i o)) (t.fields.sorted m i o (omega arith))))
-      ];
-    };
-    fragments = record {
-      number = t.fragments.number;
-      limits = t.fragments.limits;
-      words = nexts;
-      owns = pl.frags;
-      clear = pl.clear_frags;
-      inside = pl.in_frags;
-    };
-    buffers = record { owns = pl.buffers; clear = pl.clear_buffers; inside = pl.in_buffers };
+    number = t.number;
+    limits = t.limits;
+    words = nexts;
   }
 
   later_new : Later w g b said (record w { next = wnext }) (grown p g k class) new_book said k
@@ -177,11 +205,15 @@ module _ (p : Program) (lay : Layout) (w : Words) (g : Graph) (b : Book) (said :
   }
 
   -- a deciding step that gives a new object its place
-  pub places : (a : Actor) (rest : List Statement) (r : ℕ) (st : Stands p lay w g b said k a) → IsMutator g said k st.entry (New r class ∷ rest) st.answers →
+  pub places : (mid : Mid) → ((y : ℕ) → IsMaking y mid → ⊥) → (a : Actor) (rest : List Statement) (r : ℕ) (st : Stands p lay w g b said k a) → IsMutator g said k st.entry (New r class ∷ rest) st.answers →
       Books p b k (New r class) (At (suc g.count)) new_book → (ax af at : ℕ) → ax ≡ x → af ≡ from k → at ≡ to k →
-      Kept p lay w g b said k true (record w { next = wnext }) (within (owning a af at) rest (StoreLength r class ax))
-  places a rest r st m books ax af at ex ef et =
-      turned p lay w g b said k (record w { next = wnext }) (grown p g k class) new_book (record { owner = owner'; later = later_new; ground = ground_new }) (within (owning a af at) rest (StoreLength r class ax))
+      Kept p lay w g b said k mid true (record w { next = wnext }) (within (owning a af at) rest (StoreLength r class ax))
+  places mid none a rest r st m books ax af at ex ef et =
+      turned p lay w g b said k mid (record w { next = wnext }) (grown p g k class) new_book (record { owner = owner'; later = later_new; ground = ground_new }) (within (owning a af at) rest (StoreLength r class ax))
+      (record {
+        begun = λ m q. elim (old_or_new m q) [ inl e ↦ inr (put-at b.address (suc g.count) x m e ∙ sym ex) | inr o ↦ inl o ];
+        done = λ m q y. absurd (none (b.address m) y);
+      })
       (New r class) rest st.entry st.answers (put st.entry r (Ref (suc g.count))) (At (suc g.count)) m (refl, refl) books (record {
         entry = st.entry;
         answers = st.answers;
@@ -203,35 +235,35 @@ module _ (p : Program) (lay : Layout) (w : Words) (g : Graph) (b : Book) (said :
         fits = fits_after p lay w g b said k (grown p g k class) rest (put st.entry r (Ref (suc g.count))) (misuse_along _ _ rest
             (put-along kind_of_entry (λ q. kind_of_entry (st.entry q)) st.entry r IsRef (Ref (suc g.count)) (λ q. refl) refl)
             (fits_as p lay w g b said k st.entry (New r class ∷ rest) st.answers m st.fits).1);
+        named = named_after p lay w g b said k (grown p g k class) rest (put st.entry r (Ref (suc g.count))) (named_as p lay w g b said k st.entry (New r class ∷ rest) st.answers m st.named).1;
       })
 
 module _ (p : Program) (lay : Layout) (w : Words) (g : Graph) (b : Book) (said : ℕ → List Answer) (k : ℕ) (owner : ℕ → Owner) (t : Ground p lay w g b owner) where
   bump_place : (m : ℕ) → 0 < m → b.from k + m ≤ b.to k →
-      Place p w g b k m (b.from k) b.next (put b.from k (b.from k + m)) b.to (within_range owner (b.from k) (b.from k + m) (Of (suc g.count)))
+      Place p g b k m (b.from k) b.next (put b.from k (b.from k + m)) b.to owner (within_range owner (b.from k) (b.from k + m) (Of (suc g.count)))
   bump_place m some fits =
       let x = b.from k in
       let hi = b.from k + m in
-      let mine : (y : ℕ) → x ≤ y → y < hi → owner y ≡ Buf k = λ y p q. t.buffers.owns k y p (omega arith) in
+      let mine : (y : ℕ) → x ≤ y → y < hi → owner y ≡ Buf k = λ y p q. t.laid.buffers.owns k y p (omega arith) in
       record {
-        clear = λ y p q. t.buffers.clear k y p (omega arith);
+        free = λ y p q o e. let u = mine y p q in cc;
         new = λ y p q. range-in owner x hi _ y p q;
-        old = λ o y l i j. let e = t.objects.owns o y l i j in range-keeps owner x hi _ (Of o) y e (λ p q. let u = mine y p q in cc);
+        old = λ o y e. range-keeps owner x hi _ (Of o) y e (λ p q. let u = mine y p q in cc);
+        only = λ o y e. elim (range-was owner x hi _ (Of o) y e) [
+          | inl h ↦ inl ((let e : Of o ≡ Of (suc g.count) = h.0 in cc), h.1, h.2)
+          | inr e ↦ inr e
+        ];
         buffers = λ j y p q. elim (cases_eq j k) [
-          | inl e ↦ let u = put-at b.from k hi j e in let v : b.to j ≡ b.to k = ap b.to e in range-above owner x hi _ y (omega arith) ∙ t.buffers.owns k y (omega arith) (omega arith) ∙ ap Buf (sym e)
-          | inr o ↦ let u = put-other b.from k hi j o in let e = t.buffers.owns j y (omega arith) q in range-keeps owner x hi _ (Buf j) y e (λ r s. let v = mine y r s in absurd (o (let z : Buf j ≡ Buf k = sym e ∙ v in cc)))
+          | inl e ↦ let u = put-at b.from k hi j e in let v : b.to j ≡ b.to k = ap b.to e in range-above owner x hi _ y (omega arith) ∙ t.laid.buffers.owns k y (omega arith) (omega arith) ∙ ap Buf (sym e)
+          | inr o ↦ let u = put-other b.from k hi j o in let e = t.laid.buffers.owns j y (omega arith) q in range-keeps owner x hi _ (Buf j) y e (λ r s. let v = mine y r s in absurd (o (let z : Buf j ≡ Buf k = sym e ∙ v in cc)))
         ];
-        frags = λ f y l p q. let e = t.fragments.owns f y l p q in range-keeps owner x hi _ (Frag f) y e (λ r s. let v = mine y r s in cc);
-        clear_buffers = λ j y p q. elim (cases_eq j k) [
-          | inl e ↦ let u = put-at b.from k hi j e in let v : b.to j ≡ b.to k = ap b.to e in t.buffers.clear k y (omega arith) (omega arith)
-          | inr o ↦ let u = put-other b.from k hi j o in t.buffers.clear j y (omega arith) q
-        ];
-        clear_frags = t.fragments.clear;
-        in_object = let i = t.buffers.inside k (omega arith) in (i.0, omega arith);
+        frags = λ f y l p q. let e = t.laid.fragments.owns f y l p q in range-keeps owner x hi _ (Frag f) y e (λ r s. let v = mine y r s in cc);
+        in_object = let i = t.laid.buffers.inside k (omega arith) in (i.0, omega arith);
         in_buffers = λ j l. elim (cases_eq j k) [
-          | inl e ↦ let u = put-at b.from k hi j e in let v : b.to j ≡ b.to k = ap b.to e in let i = t.buffers.inside k (omega arith) in (omega arith, omega arith)
-          | inr o ↦ let u = put-other b.from k hi j o in let i = t.buffers.inside j (omega arith) in (omega arith, i.1)
+          | inl e ↦ let u = put-at b.from k hi j e in let v : b.to j ≡ b.to k = ap b.to e in let i = t.laid.buffers.inside k (omega arith) in (omega arith, omega arith)
+          | inr o ↦ let u = put-other b.from k hi j o in let i = t.laid.buffers.inside j (omega arith) in (omega arith, i.1)
         ];
-        in_frags = t.fragments.inside;
+        within = λ f l. (t.laid.fragments.inside f l).1;
         rises = λ f. le_refl _;
         other_from = λ j o. put-other b.from k hi j o;
         other_to = λ j o. refl;
@@ -239,54 +271,54 @@ module _ (p : Program) (lay : Layout) (w : Words) (g : Graph) (b : Book) (said :
 
   -- the deciding load of a statement whose object fits into the buffer
   pub bumps : (a : Actor) (rest : List Statement) (r class : ℕ) → a.from + words_of_class p class ≤ a.to → Stands p lay w g b said k (before a (New r class) rest) →
-      Kept p lay w g b said k true w (within (owning a (a.from + words_of_class p class) a.to) rest (StoreLength r class a.from))
+      Kept p lay w g b said k Idle true w (within (owning a (a.from + words_of_class p class) a.to) rest (StoreLength r class a.from))
   bumps a rest r class l st =
       let ef : a.from ≡ b.from k = st.from_is in
       let et : a.to ≡ b.to k = st.to_is in
       let fits : b.from k + words_of_class p class ≤ b.to k = omega arith in
-      places p lay w g b said k owner t class (b.from k) b.next w.next (put b.from k (b.from k + words_of_class p class)) b.to _ (bump_place (words_of_class p class) (omega arith) fits) t.fragments.words
+      places p lay w g b said k owner t class (b.from k) b.next w.next (put b.from k (b.from k + words_of_class p class)) b.to _ (bump_place (words_of_class p class) (omega arith) fits)
+      (named_as p lay w g b said k st.entry (New r class ∷ rest) st.answers st.at st.named).0 t.words Idle (λ y e. e)
       (before a (New r class) rest) rest r st st.at (inl (record { room = fits; after = refl })) a.from (a.from + words_of_class p class) a.to ef (ap (λ x. x + words_of_class p class) ef ∙ sym (put-same b.from k _)) et
 
   claim_place : (f m s : ℕ) → f < b.fragments → 0 < m → m ≤ s → b.next f + s ≤ b.limit f →
-      Place p w g b k m (b.next f) (put b.next f (b.next f + s)) (put b.from k (b.next f + m)) (put b.to k (b.next f + s))
+      Place p g b k m (b.next f) (put b.next f (b.next f + s)) (put b.from k (b.next f + m)) (put b.to k (b.next f + s)) owner
       (within_range (within_range owner (b.next f) (b.next f + m) (Of (suc g.count))) (b.next f + m) (b.next f + s) (Buf k))
   claim_place f m s lf some l1 l2 =
       let x = b.next f in
       let mid = b.next f + m in
       let hi = b.next f + s in
-      let ours : (y : ℕ) → x ≤ y → y < hi → owner y ≡ Frag f = λ y p q. t.fragments.owns f y lf p (omega arith) in
+      let ours : (y : ℕ) → x ≤ y → y < hi → owner y ≡ Frag f = λ y p q. t.laid.fragments.owns f y lf p (omega arith) in
       let one = within_range owner x mid (Of (suc g.count)) in
       let keeps : (o : Owner) (y : ℕ) → owner y ≡ o → (x ≤ y → y < hi → ⊥) → within_range one mid hi (Buf k) y ≡ o = λ o y e c.
       range-keeps one mid hi (Buf k) o y (range-keeps owner x mid (Of (suc g.count)) o y e (λ p q. absurd (c p (omega arith)))) (λ p q. absurd (c (omega arith) q)) in
       record {
-        clear = λ y p q. t.fragments.clear f y lf p (omega arith);
+        free = λ y p q o e. let u = ours y p (omega arith) in cc;
         new = λ y p q. range-below one mid hi _ y q ∙ range-in owner x mid _ y p q;
-        old = λ o y l i j. let e = t.objects.owns o y l i j in keeps (Of o) y e (λ p q. let u = ours y p q in cc);
+        old = λ o y e. keeps (Of o) y e (λ p q. let u = ours y p q in cc);
+        only = λ o y e. elim (range-was one mid hi (Buf k) (Of o) y e) [
+          | inl h ↦ absurd (let e : Of o ≡ Buf k = h.0 in cc)
+          | inr e ↦ elim (range-was owner x mid (Of (suc g.count)) (Of o) y e) [
+            | inl h ↦ inl ((let e : Of o ≡ Of (suc g.count) = h.0 in cc), h.1, h.2)
+            | inr e ↦ inr e
+          ]
+        ];
         buffers = λ j y p q. elim (cases_eq j k) [
           | inl e ↦ let u = put-at b.from k mid j e in let v = put-at b.to k hi j e in range-in one mid hi _ y (omega arith) (omega arith) ∙ ap Buf (sym e)
-          | inr o ↦ let u = put-other b.from k mid j o in let v = put-other b.to k hi j o in let e = t.buffers.owns j y (omega arith) (omega arith) in keeps (Buf j) y e (λ r s. let z = ours y r s in cc)
+          | inr o ↦ let u = put-other b.from k mid j o in let v = put-other b.to k hi j o in let e = t.laid.buffers.owns j y (omega arith) (omega arith) in keeps (Buf j) y e (λ r s. let z = ours y r s in cc)
         ];
         frags = λ i y l p q. elim (cases_eq i f) [
           | inl e ↦ let u = put-at b.next f hi i e in let v : b.limit i ≡ b.limit f = ap b.limit e in
-              range-above one mid hi _ y (omega arith) ∙ range-above owner x mid _ y (omega arith) ∙ t.fragments.owns f y lf (omega arith) (omega arith) ∙ ap Frag (sym e)
-          | inr o ↦ let u = put-other b.next f hi i o in let e = t.fragments.owns i y l (omega arith) q in keeps (Frag i) y e (λ r s. let z = ours y r s in o (let zz : Frag i ≡ Frag f = sym e ∙ z in cc))
+              range-above one mid hi _ y (omega arith) ∙ range-above owner x mid _ y (omega arith) ∙ t.laid.fragments.owns f y lf (omega arith) (omega arith) ∙ ap Frag (sym e)
+          | inr o ↦ let u = put-other b.next f hi i o in let e = t.laid.fragments.owns i y l (omega arith) q in keeps (Frag i) y e (λ r s. let z = ours y r s in o (let zz : Frag i ≡ Frag f = sym e ∙ z in cc))
         ];
-        clear_buffers = λ j y p q. elim (cases_eq j k) [
-          | inl e ↦ let u = put-at b.from k mid j e in let v = put-at b.to k hi j e in t.fragments.clear f y lf (omega arith) (omega arith)
-          | inr o ↦ let u = put-other b.from k mid j o in let v = put-other b.to k hi j o in t.buffers.clear j y (omega arith) (omega arith)
-        ];
-        clear_frags = λ i y l p q. elim (cases_eq i f) [
-          | inl e ↦ let u = put-at b.next f hi i e in let v : b.limit i ≡ b.limit f = ap b.limit e in t.fragments.clear f y lf (omega arith) (omega arith)
-          | inr o ↦ let u = put-other b.next f hi i o in t.fragments.clear i y l (omega arith) q
-        ];
-        in_object = let i = t.fragments.inside f lf in (i.0, omega arith);
+        in_object = let i = t.laid.fragments.inside f lf in let u = i.2 in (i.0, omega arith);
         in_buffers = λ j l. elim (cases_eq j k) [
-          | inl e ↦ let u = put-at b.from k mid j e in let v = put-at b.to k hi j e in let i = t.fragments.inside f lf in (omega arith, omega arith)
-          | inr o ↦ let u = put-other b.from k mid j o in let v = put-other b.to k hi j o in let i = t.buffers.inside j (omega arith) in (omega arith, omega arith)
+          | inl e ↦ let u = put-at b.from k mid j e in let v = put-at b.to k hi j e in let i = t.laid.fragments.inside f lf in let lo = i.0 in let up = i.2 in (omega arith, omega arith)
+          | inr o ↦ let u = put-other b.from k mid j o in let v = put-other b.to k hi j o in let i = t.laid.buffers.inside j (omega arith) in (omega arith, omega arith)
         ];
-        in_frags = λ i l. elim (cases_eq i f) [
-          | inl e ↦ let u = put-at b.next f hi i e in let v = t.fragments.inside i l in let z : b.next i ≡ b.next f = ap b.next e in (omega arith, v.1)
-          | inr o ↦ let u = put-other b.next f hi i o in let v = t.fragments.inside i l in (omega arith, v.1)
+        within = λ i l. elim (cases_eq i f) [
+          | inl e ↦ let u = put-at b.next f hi i e in let v : b.limit i ≡ b.limit f = ap b.limit e in omega arith
+          | inr o ↦ let u = put-other b.next f hi i o in let v = (t.laid.fragments.inside i l).1 in omega arith
         ];
         rises = λ i. elim (cases_eq i f) [
           | inl e ↦ let u = put-at b.next f hi i e in let z : b.next i ≡ b.next f = ap b.next e in omega arith
@@ -298,18 +330,20 @@ module _ (p : Program) (lay : Layout) (w : Words) (g : Graph) (b : Book) (said :
 
   -- the exchange that is won, at the word of the book
   claims_at : (a : Actor) (rest : List Statement) (r class f : ℕ) → f < b.fragments → (s : ℕ) → s ≡ share p b f (words_of_class p class) → Stands p lay w g b said k (within a rest (Claim r class f (b.next f))) →
-      Kept p lay w g b said k true (write w (Next f) (byte_at (b.next f + s))) (within (owning a (b.next f + words_of_class p class) (b.next f + s)) rest (StoreLength r class (b.next f)))
+      Kept p lay w g b said k (Claim r class f (b.next f)) true (write w (Next f) (byte_at (b.next f + s))) (within (owning a (b.next f + words_of_class p class) (b.next f + s)) rest (StoreLength r class (b.next f)))
   claims_at a rest r class f lf s es st =
       let m = words_of_class p class in
-      let lim = t.fragments.limits f lf in
+      let lim = t.limits f lf in
       let room : b.next f + m ≤ b.limit f = (let q = st.at.2 in omega arith) in
       let l1 : m ≤ s = omega arith in
       let l2 : b.next f + s ≤ b.limit f = omega arith in
       places p lay w g b said k owner t class (b.next f) (put b.next f (b.next f + s)) (put w.next f (byte_at (b.next f + s))) (put b.from k (b.next f + m)) (put b.to k (b.next f + s)) _ (claim_place f m s lf (omega arith) l1 l2)
+      (named_as p lay w g b said k st.entry (New r class ∷ rest) st.answers st.at.3 st.named).0
       (λ j q. elim (cases_eq j f) [
         | inl e ↦ put-at w.next f _ j e ∙ sym (ap byte_at (put-at b.next f (b.next f + s) j e))
-        | inr o ↦ put-other w.next f _ j o ∙ t.fragments.words j q ∙ sym (ap byte_at (put-other b.next f (b.next f + s) j o))
+        | inr o ↦ put-other w.next f _ j o ∙ t.words j q ∙ sym (ap byte_at (put-other b.next f (b.next f + s) j o))
       ])
+      (Claim r class f (b.next f)) (λ y e. e)
       (within a rest (Claim r class f (b.next f))) rest r st st.at.3
       (inr (
         f,
@@ -324,20 +358,20 @@ module _ (p : Program) (lay : Layout) (w : Words) (g : Graph) (b : Book) (said :
       (b.next f) (b.next f + m) (b.next f + s) refl (sym (put-same b.from k _)) (sym (put-same b.to k _))
 
   pub claims : (a : Actor) (rest : List Statement) (r class f next : ℕ) → w.next f ≡ byte_at next → Stands p lay w g b said k (within a rest (Claim r class f next)) →
-      Kept p lay w g b said k true (write w (Next f) (byte_at (next + taken p lay f next (words_of_class p class))))
+      Kept p lay w g b said k (Claim r class f next) true (write w (Next f) (byte_at (next + taken p lay f next (words_of_class p class))))
       (within (owning a (next + words_of_class p class) (next + taken p lay f next (words_of_class p class))) rest (StoreLength r class next))
   claims a rest r class f next e st =
-      let lf : f < b.fragments = (let x = t.fragments.number in let y = st.at.0 in omega arith) in
-      let wf = t.fragments.words f lf in
+      let lf : f < b.fragments = (let x = t.number in let y = st.at.0 in omega arith) in
+      let wf = t.words f lf in
       let en : next ≡ b.next f = omega arith in
-      let lim = t.fragments.limits f lf in
+      let lim = t.limits f lf in
       (subst (λ x. Stands p lay w g b said k (within a rest (Claim r class f x)) →
-      Kept p lay w g b said k true (write w (Next f) (byte_at (x + taken p lay f x (words_of_class p class)))) (within (owning a (x + words_of_class p class) (x + taken p lay f x (words_of_class p class))) rest (StoreLength r class x)))
+      Kept p lay w g b said k (Claim r class f x) true (write w (Next f) (byte_at (x + taken p lay f x (words_of_class p class)))) (within (owning a (x + words_of_class p class) (x + taken p lay f x (words_of_class p class))) rest (StoreLength r class x)))
       (sym en) (claims_at a rest r class f lf (taken p lay f (b.next f) (words_of_class p class)) (ap (λ l. min (l - b.next f) (max (words_of_class p class) p.config.buffer)) (sym lim)))) st
 
   -- the store of a new object's length
   pub writes_length : (a : Actor) (rest : List Statement) (r class x : ℕ) → Stands p lay w g b said k (within a rest (StoreLength r class x)) →
-      Kept p lay w g b said k false (write w (Word (x + 1)) (fields_of p class)) (within a rest (StoreTag r class x))
+      Kept p lay w g b said k (StoreLength r class x) false (write w (Word (x + 1)) (fields_of p class)) (within a rest (StoreTag r class x))
   writes_length a rest r class x st =
       let m = st.at in
       let new = m.name in
@@ -351,7 +385,7 @@ module _ (p : Program) (lay : Layout) (w : Words) (g : Graph) (b : Book) (said :
         | inl z ↦ put-at w.word (x + 1) val (b.address o + 1) z ∙ sym size ∙ ap g.size (sym (there o (b.address o + 1) q (omega arith) (omega arith) z))
         | inr z ↦ put-other w.word (x + 1) val (b.address o + 1) z ∙ e
       ] in
-      let known : (o : ℕ) → Known w g b o → Known (write w (Word (x + 1)) val) g b o = λ o q. (
+      let known : (o : ℕ) → IsKnown w.word g b o → IsKnown (put w.word (x + 1) val) g b o = λ o q. (
         q.0,
         elim q.1 [
           | inl z ↦ inl z
@@ -359,11 +393,11 @@ module _ (p : Program) (lay : Layout) (w : Words) (g : Graph) (b : Book) (said :
         ],
       ) in
       let entry = entry_by w g b (write w (Word (x + 1)) val) known in
-      silent p lay w g b said k (write w (Word (x + 1)) val) g b (record {
+      silent p lay w g b said k (StoreLength r class x) (write w (Word (x + 1)) val) g b (record {
         owner = owner;
         later = later_stored p lay w g b said k owner t new (x + 1) val m.stands from to g.field known length;
-        ground = ground_stored p lay w g b said k owner t new (x + 1) val m.stands from to g.field (fields_off p lay w g b said k owner t new (x + 1) val m.stands from to (omega arith)) (λ o i q. entry (g.field o i) (t.fields.known o i q)) t.fields.sorted;
-      }) refl refl _ (record {
+        ground = ground_stored p lay w g b said k owner t new (x + 1) val m.stands from to g.field (fields_off p lay w g b said k owner t new (x + 1) val m.stands from to (omega arith)) (λ o i q l. entry (g.field o i) (t.laid.fields.known o i q l)) t.laid.fields.sorted;
+      }) refl refl _ (record { begun = λ o q. inl q; done = λ o q e. inr e }) (record {
         entry = st.entry;
         answers = st.answers;
         regs = st.regs;
@@ -374,15 +408,16 @@ module _ (p : Program) (lay : Layout) (w : Words) (g : Graph) (b : Book) (said :
         to_is = st.to_is;
         at = (record { name = new; some = m.some; stands = m.stands; address = at; size = size; class_is = m.class_is; ahead = m.ahead }, put-same w.word (x + 1) val);
         fits = st.fits;
+        named = st.named;
       })
     where
-      entry_by : (w : Words) (g : Graph) (b : Book) (v : Words) → ((o : ℕ) → Known w g b o → Known v g b o) → (e : Entry) → KnownEntry w g b e → KnownEntry v g b e
+      entry_by : (w : Words) (g : Graph) (b : Book) (v : Words) → ((o : ℕ) → IsKnown w.word g b o → IsKnown v.word g b o) → (e : Entry) → IsKnownEntry w.word g b e → IsKnownEntry v.word g b e
       entry_by w g b v l (Ref o) q = l o q
       entry_by w g b v l (Int y) q = tt
 
   -- the store of a new object's tag, with which the statement ends
   pub writes_tag : (a : Actor) (rest : List Statement) (r class x : ℕ) → Stands p lay w g b said k (within a rest (StoreTag r class x)) →
-      Kept p lay w g b said k false (write w (Word x) (plain_word class)) (over a rest (put a.reg r (byte_at x)) (At (byte_at x)))
+      Kept p lay w g b said k (StoreTag r class x) false (write w (Word x) (plain_word class)) (over a rest (put a.reg r (byte_at x)) (At (byte_at x)))
   writes_tag a rest r class x st =
       let m = st.at.0 in
       let new = m.name in
@@ -397,38 +432,40 @@ module _ (p : Program) (lay : Layout) (w : Words) (g : Graph) (b : Book) (said :
         | inl z ↦ put-at w.word x val (b.address o) z ∙ ap plain_word (sym m.class_is) ∙ ap (λ i. plain_word (g.class i)) (sym (there o (b.address o) q (omega arith) (omega arith) z))
         | inr z ↦ put-other w.word x val (b.address o) z ∙ e
       ] in
-      let known : (o : ℕ) → Known w g b o → Known (write w (Word x) val) g b o = λ o q. (
+      let known : (o : ℕ) → IsKnown w.word g b o → IsKnown (put w.word x val) g b o = λ o q. (
         q.0,
         elim q.1 [
           | inl z ↦ inl z
           | inr h ↦ inr (tag o q.0 h.0, length_off p lay w g b said k owner t new x val m.stands from to off o q.0 ∙ h.1)
         ],
       ) in
-      let known_new : Known (write w (Word x) val) g b new = (
-        m.stands,
-        inr (
-          put-at w.word x val (b.address new) at ∙ ap plain_word (sym m.class_is),
-          length_off p lay w g b said k owner t new x val m.stands from to off new m.stands ∙ ap (λ y. w.word (y + 1)) at ∙ st.at.1 ∙ sym size,
-        ),
+      let head_new : IsHeaded (put w.word x val) g b new = (
+        put-at w.word x val (b.address new) at ∙ ap plain_word (sym m.class_is),
+        length_off p lay w g b said k owner t new x val m.stands from to off new m.stands ∙ ap (λ y. w.word (y + 1)) at ∙ st.at.1 ∙ sym size,
       ) in
+      let known_new : IsKnown (put w.word x val) g b new = (m.stands, inr head_new) in
       let entry = entry_by w g b (write w (Word x) val) known in
-      silent p lay w g b said k (write w (Word x) val) g b (record {
+      silent p lay w g b said k (StoreTag r class x) (write w (Word x) val) g b (record {
         owner = owner;
         later = later_stored p lay w g b said k owner t new x val m.stands from to g.field known (λ o q e. length_off p lay w g b said k owner t new x val m.stands from to off o q ∙ e);
-        ground = ground_stored p lay w g b said k owner t new x val m.stands from to g.field (fields_off p lay w g b said k owner t new x val m.stands from to (omega arith)) (λ o i q. entry (g.field o i) (t.fields.known o i q)) t.fields.sorted;
+        ground = ground_stored p lay w g b said k owner t new x val m.stands from to g.field (fields_off p lay w g b said k owner t new x val m.stands from to (omega arith)) (λ o i q l. entry (g.field o i) (t.laid.fields.known o i q l)) t.laid.fields.sorted;
       }) refl refl _ (record {
+        begun = λ o q. inl q;
+        done = λ o q e. inl (subst (λ i. IsHeaded (put w.word x val) g b i) (sym (there o (b.address o) q (omega arith) (omega arith) e)) head_new);
+      }) (record {
         entry = put st.entry r (Ref new);
         answers = st.answers ++ At new ∷ [];
         regs = put-along (word_of b.address) a.reg st.entry r (byte_at x) (Ref new) st.regs (ap byte_at (sym at));
-        known = put-all (λ _ e. KnownEntry (write w (Word x) val) g b e) st.entry r (Ref new) known_new (λ j _. entry (st.entry j) (st.known j));
+        known = put-all (λ _ e. IsKnownEntry (put w.word x val) g b e) st.entry r (Ref new) known_new (λ j _. entry (st.entry j) (st.known j));
         told = ap₂ (λ s y. s ++ At (byte_at y) ∷ []) st.told (sym at) ∙ sym (answers_push b st.answers (At new));
         given = given_push b.stands st.answers (At new) st.given m.stands;
         from_is = st.from_is;
         to_is = st.to_is;
         at = m.ahead;
         fits = st.fits;
+        named = st.named;
       })
     where
-      entry_by : (w : Words) (g : Graph) (b : Book) (v : Words) → ((o : ℕ) → Known w g b o → Known v g b o) → (e : Entry) → KnownEntry w g b e → KnownEntry v g b e
+      entry_by : (w : Words) (g : Graph) (b : Book) (v : Words) → ((o : ℕ) → IsKnown w.word g b o → IsKnown v.word g b o) → (e : Entry) → IsKnownEntry w.word g b e → IsKnownEntry v.word g b e
       entry_by w g b v l (Ref o) q = l o q
       entry_by w g b v l (Int y) q = tt

@@ -1,28 +1,28 @@
 -- What a piece of code did is a list of next steps of its mutator: one lemma for each way through a statement, over plain data.
 use Rattle.std.proofs.Common.{◌≡◌, ℕ, ◌+◌, ◌<◌, ◌≤◌, Bool, true, false, Option, Some, None, List, [], ◌∷◌, ◌++◌, length, set, get_or, refl, ap, ◌∙◌, sym, subst, inl, inr, arith, get_or-set_same, get_or-set_other}
 use Rattle.std.proofs.Math.Path.{fun_ext}
-use Rattle.std.proofs.lemmas.Bool.{cases_eq, true≢false}
-use Rattle.sg_words.specs.Address.{byte_at}
+use Rattle.std.proofs.lemmas.Bool.{cases_eq, cases_lt, true≢false}
+use Rattle.sg_words.specs.Address.{byte_at, word_at}
 use Rattle.sg_words.specs.Tags.{plain_word, Reads}
 use Rattle.sg_words.specs.declared.tags.Tag.{Tag}
 use Rattle.sg_words.specs.declared.tags.Tag.TheVariants.{Plain, Forwarded, Pinned, Cemented}
-use Rattle.sg_words.specs.declared.steps.Place.TheVariants.{Next, Word}
+use Rattle.sg_words.specs.declared.steps.Place.TheVariants.{Stop, Next, Word}
 use Rattle.sg_words.specs.declared.steps.Step.{Step}
-use Rattle.sg_words.specs.declared.steps.Step.TheVariants.{Begin, Load}
+use Rattle.sg_words.specs.declared.steps.Step.TheVariants.{Begin, Load, Store}
 use Rattle.sg_words.specs.declared.steps.Tick.{Tick}
 use Rattle.sg_words.specs.Words.{put, Words, write, Saw, after_step, after, Legal}
 use Rattle.sg_graph.specs.declared.program.Program.{Program}
 use Rattle.sg_graph.specs.declared.program.Statement.{Statement}
-use Rattle.sg_graph.specs.declared.program.Statement.TheVariants.{New, Put, Get, PutD, GetD, Num, Drop}
+use Rattle.sg_graph.specs.declared.program.Statement.TheVariants.{New, Put, Get, PutD, GetD, Num, Drop, CollectMinor}
 use Rattle.sg_graph.specs.declared.reports.Answer.TheVariants.{At, Null, Number, Fine, Field}
 use Rattle.sg_graph.specs.Scripts.{fields_of}
 use Rattle.sg_graph.specs.Statements.{Test, test_of}
 use Rattle.sg_graph.specs.Book.{words_of_class}
-use Rattle.sg_run.specs.declared.space.Space.{Space}
-use Rattle.sg_run.specs.Rules.{Layout, Actor, Access, Look, Claim, StoreLength, before, within, over, owning, cleared, reference_answer, taken, object_in, Comes, Follows, Went}
-use Rattle.sg_run.specs.Rules.Comes.{test_null, test_begins, test_fails, loads_tag, loads_length, fails_tag, fails_length, put_stores, putd_stores, get_loads, getd_loads, num_sets, drop_clears, new_bumps, new_looks, look_finds, look_goes_on, look_ends, claim_wins, stores_length, stores_tag}
-use Rattle.sg_run.specs.Views.{words_of, layout_of, class_at, IsMeasured, LooksFrom, Searches}
-use Rattle.sg_run.proofs.Puts.{put-at, put-other}
+use Rattle.sg_space.specs.Space.{Contents, words_of}
+use Rattle.sg_run.specs.Rules.{Layout, Actor, Access, Look, Claim, StoreLength, Ask, Left, before, within, over, owning, cleared, reference_answer, taken, object_in, Comes, Follows, Went}
+use Rattle.sg_run.specs.Rules.Comes.{test_null, test_begins, test_fails, loads_tag, loads_length, fails_tag, fails_length, put_stores, putd_stores, get_loads, getd_loads, num_sets, drop_clears, new_bumps, new_looks, new_asks, minor_asks, asks, look_finds, look_goes_on, look_ends, claim_wins, stores_length, stores_tag}
+use Rattle.sg_run.specs.Views.{layout_of, class_at, IsMeasured, LacksWords, LooksFrom, Searches}
+use Rattle.sg_words.proofs.Puts.{put-at, put-other}
 
 -- a write of a list is a change of the function that reads it
 pub put_set : (xs : List ℕ) (k v : ℕ) → k < length xs → (λ j. get_or (set xs k v) j 0) ≡ put (λ j. get_or xs j 0) k v
@@ -143,6 +143,18 @@ module _ (p : Program) (lay : Layout) (a : Actor) (rest : List Statement) (w : W
     went_looks r class n b v e l some f =
         went_first p lay _ _ b w w v (Begin 0 0 (w.word 0) (w.word 1)) false (new_looks a rest r class 0 (w.word 0) (w.word 1) (subst (λ m. a.to < a.from + m) (sym e) l) some) (going, refl, refl) refl f
 
+    pub went_asks : (r class n : ℕ) (b : Actor) (v : Words) → words_of_class p class ≡ n → a.to < a.from + n → lay.fragments ≡ 0 → Went p lay (within a rest (Ask (New r class))) w b v → Went p lay (before a (New r class) rest) w b v
+    went_asks r class n b v e l none f =
+        went_first p lay _ _ b w w v (Begin 0 0 (w.word 0) (w.word 1)) false (new_asks a rest r class 0 (w.word 0) (w.word 1) (subst (λ m. a.to < a.from + m) (sym e) l) none) (going, refl, refl) refl f
+
+    -- a collection is asked for
+    pub went_minor : (b : Actor) (v : Words) → Went p lay (within a rest (Ask CollectMinor)) w b v → Went p lay (before a CollectMinor rest) w b v
+    went_minor b v f = went_first p lay _ _ b w w v (Begin 0 0 (w.word 0) (w.word 1)) false (minor_asks a rest 0 (w.word 0) (w.word 1)) (going, refl, refl) refl f
+
+  -- the stop word is set
+  pub went_leaves : (s : Statement) (v : Words) → v ≡ write w Stop 1 → Went p lay (within a rest (Ask s)) w (within a rest (Left s)) v
+  went_leaves s v e = went_last p lay _ _ _ w v (Store Stop 1) false (asks a rest s) tt e refl
+
   pub went_put : (r i s x val : ℕ) (b : Actor) (v : Words) → x ≡ object_in a r + 2 + i → val ≡ a.reg s → v ≡ write w (Word x) val → b ≡ over a rest a.reg Fine → Went p lay (within a rest (Access (Put r i s))) w b v
   went_put r i s x val b v ex ev st e = went_last p lay _ _ b w v _ true (put_stores a rest r i s) tt (st ∙ ap (λ y. write w (Word y) val) ex ∙ ap (λ y. write w (Word (object_in a r + 2 + i)) y) ev) e
 
@@ -171,24 +183,29 @@ module _ (p : Program) (lay : Layout) (a : Actor) (rest : List Statement) (w : W
       (went_last p lay _ _ _ u v _ false (stores_tag a rest r class x) tt (g ∙ ap (λ y. write u (Word x) y) h) refl)
 
 -- the search is at its begin
-pub searches_first : (s : Space) (n : ℕ) → 0 < length s.ends.items → Searches s n 0
-searches_first s n l = record {
+pub searches_first : (s : Contents) (n : ℕ) → Searches s n 0
+searches_first s n = record {
   looks = λ q p a rest r class e. went_none p (layout_of s) _ _ _ _ refl refl;
-  ends = λ q. absurd (omega arith);
+  ends = λ some. absurd (omega arith);
+  passed = λ j l. absurd (omega arith);
 }
 
 -- fragment f has room
-pub search_finds : (s : Space) (n f next : ℕ) → Searches s n f → f < length s.ends.items → get_or s.next.items f 0 ≡ byte_at next → next + n ≤ get_or s.ends.items f 0 →
+pub search_finds : (s : Contents) (n f next : ℕ) → Searches s n f → f < length s.ends → get_or s.next f 0 ≡ byte_at next → next + n ≤ word_at (get_or s.ends f 0) →
     LooksFrom s n 0 (λ a rest r class. within a rest (Claim r class f next))
 search_finds s n f next so l q room p a rest r class e =
     went_then p (layout_of s) _ _ _ _ _ _ (so.looks l p a rest r class e)
-    (went_last p (layout_of s) _ _ _ (words_of s) (words_of s) _ false (look_finds a rest r class f next (subst (λ m. next + m ≤ get_or s.ends.items f 0) (sym e) room)) q refl refl)
+    (went_last p (layout_of s) _ _ _ (words_of s) (words_of s) _ false (look_finds a rest r class f next (subst (λ m. next + m ≤ word_at (get_or s.ends f 0)) (sym e) room)) q refl refl)
 
 -- fragment f has none
-pub search_goes_on : (s : Space) (n f next : ℕ) → Searches s n f → f < length s.ends.items → get_or s.next.items f 0 ≡ byte_at next → get_or s.ends.items f 0 < next + n → Searches s n (f + 1)
+pub search_goes_on : (s : Contents) (n f next : ℕ) → Searches s n f → f < length s.ends → get_or s.next f 0 ≡ byte_at next → word_at (get_or s.ends f 0) < next + n → Searches s n (f + 1)
 search_goes_on s n f next so l q full = record {
   looks = λ more p a rest r class e. went_then p (layout_of s) _ _ _ _ _ _ (so.looks l p a rest r class e)
-      (went_last p (layout_of s) _ _ _ (words_of s) (words_of s) _ false (look_goes_on a rest r class f next (subst (λ m. get_or s.ends.items f 0 < next + m) (sym e) full) more) q refl refl);
-  ends = λ done p a rest r class e. went_then p (layout_of s) _ _ _ _ _ _ (so.looks l p a rest r class e)
-      (went_last p (layout_of s) _ _ _ (words_of s) (words_of s) _ true (look_ends a rest r class f next (subst (λ m. get_or s.ends.items f 0 < next + m) (sym e) full) (omega arith)) q refl refl);
+      (went_last p (layout_of s) _ _ _ (words_of s) (words_of s) _ false (look_goes_on a rest r class f next (subst (λ m. word_at (get_or s.ends f 0) < next + m) (sym e) full) more) q refl refl);
+  ends = λ some done p a rest r class e. went_then p (layout_of s) _ _ _ _ _ _ (so.looks l p a rest r class e)
+      (went_last p (layout_of s) _ _ _ (words_of s) (words_of s) _ false (look_ends a rest r class f next (subst (λ m. word_at (get_or s.ends f 0) < next + m) (sym e) full) (omega arith)) q refl refl);
+  passed = λ j before. elim (cases_lt j f) [
+    | inl earlier ↦ so.passed j earlier
+    | inr late ↦ let here : j ≡ f = omega arith in subst (λ i. LacksWords s n i) (sym here) (omega (arith, q, full))
+  ];
 }

@@ -1,5 +1,5 @@
 -- The induction over the list of events: one order of whole statements explains every legal list.
-use Rattle.std.proofs.Common.{◌≡◌, ℕ, Bool, true, false, eqb, List, [], ◌∷◌, ◌++◌, map, inl, inr, sym, refl, ap, ◌∙◌, subst, append_assoc, append-nil}
+use Rattle.std.proofs.Common.{◌≡◌, ℕ, ◌≤◌, ◌⊎◌, arith, Bool, true, false, eqb, List, [], ◌∷◌, ◌++◌, map, inl, inr, sym, refl, ap, ◌∙◌, subst, append_assoc, append-nil}
 use Rattle.std.proofs.lemmas.Bool.{cases_eq, eq-eqb, ne_eqb, cond-true, cond-false}
 use Rattle.sg_words.specs.declared.steps.Step.{Step}
 use Rattle.sg_words.specs.declared.steps.Tick.{Tick}
@@ -10,18 +10,20 @@ use Rattle.sg_graph.specs.declared.reports.Answer.{Answer}
 use Rattle.sg_graph.specs.Graph.{Graph}
 use Rattle.sg_graph.specs.Book.{Book}
 use Rattle.sg_graph.specs.Epoch.{Said, Explains, answers_of}
+use Rattle.sg_space.specs.Heap.{Owner, IsHeaded}
 use Rattle.sg_run.specs.Rules.{Layout, Actor, Comes, Follows}
-use Rattle.sg_run.specs.Rules.Comes.{test_null, test_begins, test_fails, loads_tag, loads_length, fails_tag, fails_length, put_stores, putd_stores, get_loads, getd_loads, num_sets, drop_clears, new_bumps, new_looks, look_finds, look_goes_on, look_ends, claim_wins, stores_length, stores_tag}
-use Rattle.sg_run.proofs.Puts.{put-at, put-other, put-all, part-same, part-other, part-own, part-none, ticks-own}
-use Rattle.sg_run.proofs.Relation.{Owner, Ground, Stands, Moves, Kept, World}
+use Rattle.sg_run.specs.Rules.Comes.{test_null, test_begins, test_fails, loads_tag, loads_length, fails_tag, fails_length, put_stores, putd_stores, get_loads, getd_loads, num_sets, drop_clears, new_bumps, new_looks, look_finds, look_goes_on, look_ends, new_asks, minor_asks, asks, claim_wins, stores_length, stores_tag}
+use Rattle.sg_words.proofs.Puts.{put-at, put-same, put-other, put-all}
+use Rattle.sg_run.proofs.Events.{part-same, part-other, part-own, part-none, ticks-own}
+use Rattle.sg_run.proofs.Relation.{Ground, Stands, Moves, IsMaking, Kept, World}
 use Rattle.sg_run.proofs.Frame.{stands_later}
-use Rattle.sg_run.proofs.Loads.{nulls, begins, fails, sees_tag, sees_length, sees_failing_tag, tells_field, sets_number, clears, searches, finds_room, finds_small, tells_full}
+use Rattle.sg_run.proofs.Loads.{nulls, begins, fails, sees_tag, sees_length, sees_failing_tag, tells_field, sets_number, clears, searches, finds_room, finds_small, finds_none, has_none, wants, leaves}
 use Rattle.sg_run.proofs.Accesses.{puts, puts_number, gets, gets_number}
 use Rattle.sg_run.proofs.Places.{bumps, claims, writes_length, writes_tag}
 
 module _ (p : Program) (lay : Layout) (w : Words) (g : Graph) (b : Book) (said : ℕ → List Answer) (k : ℕ) (owner : ℕ → Owner) (t : Ground p lay w g b owner) where
   -- one step of a mutator: one line for each rule
-  pub kept : (a : Actor) (e : Step) (d : Bool) (a' : Actor) → Comes p lay a e d a' → Saw w e → Stands p lay w g b said k a → Kept p lay w g b said k d (after_step w e) a'
+  pub kept : (a : Actor) (e : Step) (d : Bool) (a' : Actor) → Comes p lay a e d a' → Saw w e → Stands p lay w g b said k a → Kept p lay w g b said k a.mid d (after_step w e) a'
   kept _ _ _ _ (test_null a s rest test x tag len e z) saw st = nulls p lay w g b said k owner t a rest s test e z st
   kept _ _ _ _ (test_begins a s rest test class len e z f) saw st = begins p lay w g b said k owner t a rest s test class len e z f saw.1 saw.2 st
   kept _ _ _ _ (test_fails a s rest test class len e z f) saw st = fails p lay w g b said k owner t a rest s test class len e z f saw.1 saw.2 st
@@ -39,7 +41,10 @@ module _ (p : Program) (lay : Layout) (w : Words) (g : Graph) (b : Book) (said :
   kept _ _ _ _ (new_looks a rest r class x tag len l f) saw st = searches p lay w g b said k owner t a rest r class l f st
   kept _ _ _ _ (look_finds a rest r class f next l) saw st = finds_room p lay w g b said k owner t a rest r class f next l st
   kept _ _ _ _ (look_goes_on a rest r class f next l more) saw st = finds_small p lay w g b said k owner t a rest r class f next l more saw st
-  kept _ _ _ _ (look_ends a rest r class f next l last) saw st = tells_full p lay w g b said k owner t a rest r class f next l last saw st
+  kept _ _ _ _ (look_ends a rest r class f next l last) saw st = finds_none p lay w g b said k owner t a rest r class f next l last saw st
+  kept _ _ _ _ (new_asks a rest r class x tag len l f) saw st = has_none p lay w g b said k owner t a rest r class l f st
+  kept _ _ _ _ (minor_asks a rest x tag len) saw st = wants p lay w g b said k owner t a rest st
+  kept _ _ _ _ (asks a rest s) saw st = leaves p lay w g b said k owner t a rest s st
   kept _ _ _ _ (claim_wins a rest r class f next) saw st = claims p lay w g b said k owner t a rest r class f next saw st
   kept _ _ _ _ (stores_length a rest r class x) saw st = writes_length p lay w g b said k owner t a rest r class x st
   kept _ _ _ _ (stores_tag a rest r class x) saw st = writes_tag p lay w g b said k owner t a rest r class x st
@@ -92,6 +97,26 @@ more p lay k tick es w g b said last h c said1 m x = go tick.decides m
       world = x.world;
     }
 
+-- after a step each object is headed, or a mutator is about to write its header
+headed_later : (p : Program) (lay : Layout) (w : Words) (g : Graph) (b : Book) (said : ℕ → List Answer) (actors : ℕ → Actor) (k : ℕ) (d : Bool) (v : Words) (a : Actor) →
+    ((n : ℕ) → 1 ≤ n → b.stands n ≡ true → IsHeaded w.word g b n ⊎ ((j : ℕ) × IsMaking (b.address n) (actors j).mid)) → (step : Kept p lay w g b said k (actors k).mid d v a) →
+    (n : ℕ) → 1 ≤ n → step.c.stands n ≡ true → IsHeaded v.word step.h step.c n ⊎ ((j : ℕ) × IsMaking (step.c.address n) (put actors k a j).mid)
+headed_later p lay w g b said actors k d v a before step n l q =
+    let here : IsMaking (step.c.address n) a.mid → IsMaking (step.c.address n) (put actors k a k).mid = λ m. subst (λ (x : Actor). IsMaking (step.c.address n) x.mid) (sym (put-same actors k a)) m in
+    elim (step.heads.begun n q) [
+      | inr m ↦ inr (k, here m)
+      | inl old ↦ elim (before n l old) [
+        | inl h ↦ elim (step.later.known n (old, inr h)).1 [ inl z ↦ absurd (omega arith) | inr h ↦ inl h ]
+        | inr m ↦ elim (cases_eq m.0 k) [
+          | inl e ↦ elim (step.heads.done n old (subst (λ j. IsMaking (b.address n) (actors j).mid) e m.1)) [ inl h ↦ inl h | inr m ↦ inr (k, here m) ]
+          | inr o ↦ inr (
+            m.0,
+            subst (λ (x : Actor). IsMaking (step.c.address n) x.mid) (sym (put-other actors k a m.0 o)) (subst (λ x. IsMaking x (actors m.0).mid) (sym (step.later.address n old)) m.1),
+          )
+        ]
+      ]
+    ]
+
 pub one_by_one : (p : Program) (lay : Layout) (es : List Event) (w : Words) (g : Graph) (b : Book) (said : ℕ → List Answer) (actors last : ℕ → Actor) → World p lay w g b said actors → Legal w (ticks es) →
     ((k : ℕ) → Follows p lay (actors k) (part k es) (last k)) → Explained p lay es w g b said last
 one_by_one p lay [] w g b said actors last wo legal follows = record {
@@ -102,7 +127,12 @@ one_by_one p lay [] w g b said actors last wo legal follows = record {
   explains = (refl, refl);
   said_is = λ k. sym (append-nil (said k));
   order_is = refl;
-  world = record { owner = wo.owner; ground = wo.ground; stands = λ k. subst (λ a. Stands p lay w g b said k a) (sym (follows k)) (wo.stands k) };
+  world = record {
+    owner = wo.owner;
+    ground = wo.ground;
+    stands = λ k. subst (λ a. Stands p lay w g b said k a) (sym (follows k)) (wo.stands k);
+    headed = λ n l q. elim (wo.headed n l q) [ inl h ↦ inl h | inr m ↦ inr (m.0, subst (λ (a : Actor). IsMaking (b.address n) a.mid) (sym (follows m.0)) m.1) ];
+  };
 }
 one_by_one p lay (e ∷ es) w g b said actors last wo legal follows =
     let k = e.by in
@@ -116,6 +146,7 @@ one_by_one p lay (e ∷ es) w g b said actors last wo legal follows =
       ground = step.ground;
       stands = put-all (λ j a. Stands p lay (after_step w e.tick.step) step.h step.c step.said' j a) actors k a' step.stands
           (λ j n. stands_later p lay w g b said (after_step w e.tick.step) step.h step.c step.said' k j step.later n (actors j) (wo.stands j));
+      headed = headed_later p lay w g b said actors k e.tick.decides (after_step w e.tick.step) a' wo.headed step;
     })
     legal.1
     (put-all (λ j a. Follows p lay a (part j es) (last j)) actors k a' mine.2 (λ j n. subst (λ q. Follows p lay (actors j) q (last j)) (part-other j e es n) (follows j))))

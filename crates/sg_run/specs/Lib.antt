@@ -1,7 +1,6 @@
-pub mod Text
-pub mod Accepted
 pub mod Rules
 pub mod Opening
+pub mod Rest
 pub mod OneOrder
 pub mod Views
 pub mod Command
@@ -9,4 +8,4 @@ pub mod Ends
 pub mod Input
 pub mod Status
 pub mod Top
-pub mod Reading
+pub mod Worlds

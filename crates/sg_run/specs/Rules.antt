@@ -3,17 +3,17 @@
 use Rattle.std.specs.Prelude.{◌≡◌, ◌≢◌, ℕ, ◌+◌, ◌-◌, ◌<◌, ◌≤◌, ◌==◌, if◌then◌else◌, min, max, Bool, true, false, Some, List, [], ◌∷◌, ◌++◌}
 use Rattle.sg_words.specs.Address.{byte_at, word_at}
 use Rattle.sg_words.specs.Tags.{plain_word}
-use Rattle.sg_words.specs.declared.steps.Place.TheVariants.{Next, Word}
+use Rattle.sg_words.specs.declared.steps.Place.TheVariants.{Stop, Next, Word}
 use Rattle.sg_words.specs.declared.steps.Step.{Step}
 use Rattle.sg_words.specs.declared.steps.Step.TheVariants.{Begin, Load, Store, Won}
 use Rattle.sg_words.specs.declared.steps.Tick.{Tick}
 use Rattle.sg_words.specs.Words.{put, Words, after, Legal}
 use Rattle.sg_graph.specs.declared.program.Statement.{Statement}
-use Rattle.sg_graph.specs.declared.program.Statement.TheVariants.{New, Put, Get, PutD, GetD, Num, Drop}
+use Rattle.sg_graph.specs.declared.program.Statement.TheVariants.{New, Put, Get, PutD, GetD, Num, Drop, CollectMinor}
 use Rattle.sg_graph.specs.declared.program.Program.{Program}
 use Rattle.sg_graph.specs.declared.reports.Answer.{Answer}
-use Rattle.sg_graph.specs.declared.reports.Answer.TheVariants.{At, Nil, Null, Number, Fine, Field, Full}
-use Rattle.sg_graph.specs.Shapes.{has_field}
+use Rattle.sg_graph.specs.declared.reports.Answer.TheVariants.{At, Nil, Null, Number, Fine, Field}
+use Rattle.sg_desc.specs.Shapes.{has_field}
 use Rattle.sg_graph.specs.Scripts.{kind_of, fields_of}
 use Rattle.sg_graph.specs.Statements.{Test, test_of}
 use Rattle.sg_graph.specs.Book.{words_of_class}
@@ -41,6 +41,10 @@ pub data Mid : Type 0 where
   -- the new object has the word x: next comes the store of its length, and then that of its tag
   StoreLength : (r class x : ℕ) → Mid
   StoreTag : (r class x : ℕ) → Mid
+  -- the statement needs a stop: next comes the store of the stop word
+  Ask : (s : Statement) → Mid
+  -- the mutator has left the epoch, and this statement waits for its answer
+  Left : (s : Statement) → Mid
 
 -- A mutator: its register words, its buffer as numbers of words, the statements to come and the answers so far.
 pub record Actor : Type 0 where
@@ -80,6 +84,7 @@ cleared (PutD r i s) reg = reg
 cleared (GetD d r i) reg = put reg d 0
 cleared (Num d n) reg = put reg d 0
 cleared (Drop r) reg = put reg r 0
+cleared CollectMinor reg = reg
 
 -- the answer of a loaded reference
 abbrev pub reference_answer : ℕ → Answer
@@ -134,9 +139,15 @@ pub data Comes (p : Program) (lay : Layout) : Actor → Step → Bool → Actor 
       Comes p lay (within a rest (Look r class f)) (Load (Next f) (byte_at next)) false (within a rest (Claim r class f next))
   look_goes_on : (a : Actor) (rest : List Statement) (r class f next : ℕ) → lay.limit f < next + words_of_class p class → f + 1 < lay.fragments →
       Comes p lay (within a rest (Look r class f)) (Load (Next f) (byte_at next)) false (within a rest (Look r class (f + 1)))
-  -- there is no room: the last look decides
+  -- there is no room: the mutator asks for it
   look_ends : (a : Actor) (rest : List Statement) (r class f next : ℕ) → lay.limit f < next + words_of_class p class → lay.fragments ≤ f + 1 →
-      Comes p lay (within a rest (Look r class f)) (Load (Next f) (byte_at next)) true (over a rest (put a.reg r 0) Full)
+      Comes p lay (within a rest (Look r class f)) (Load (Next f) (byte_at next)) false (within a rest (Ask (New r class)))
+  new_asks : (a : Actor) (rest : List Statement) (r class x tag len : ℕ) → a.to < a.from + words_of_class p class → lay.fragments ≡ 0 →
+      Comes p lay (before a (New r class) rest) (Begin 0 x tag len) false (within a rest (Ask (New r class)))
+  -- a collection: the mutator asks for it
+  minor_asks : (a : Actor) (rest : List Statement) (x tag len : ℕ) → Comes p lay (before a CollectMinor rest) (Begin 0 x tag len) false (within a rest (Ask CollectMinor))
+  -- who asks sets the stop word and leaves
+  asks : (a : Actor) (rest : List Statement) (s : Statement) → Comes p lay (within a rest (Ask s)) (Store Stop 1) false (within a rest (Left s))
   claim_wins : (a : Actor) (rest : List Statement) (r class f next : ℕ) →
       Comes p lay (within a rest (Claim r class f next)) (Won (Next f) (byte_at next) (byte_at (next + taken p lay f next (words_of_class p class)))) true
       (within (owning a (next + words_of_class p class) (next + taken p lay f next (words_of_class p class))) rest (StoreLength r class next))

@@ -6,7 +6,7 @@ use Rattle.sg_io.specs.Progress.{TakesSome}
 use Rattle.sg_graph.specs.declared.program.Program.{Program}
 use Rattle.sg_graph.specs.Run.{Phase, IsRun, IsWholeRun}
 use Rattle.sg_graph.specs.Trace.{text}
-use Rattle.sg_run.specs.Accepted.{IsAcceptedAs, IsAccepted}
+use Rattle.sg_parse.specs.Accepted.{IsAcceptedAs, IsAccepted}
 use Rattle.sg_run.specs.Command.{IsRunCommand, usage_line, refusal_line}
 use Rattle.sg_run.specs.Ends.{Ends, ReadFails, WriteFails, Gives}
 

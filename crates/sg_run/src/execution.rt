@@ -1,75 +1,32 @@
-ghost use Rattle.std.specs.Prelude.{◌≡◌, ◌+◌, ◌≤◌, true, IfOk, [], ◌∷◌, Some, length, slice_get, vec_len, vec_capacity};
-ghost use Rattle.sg_graph.specs.declared.program.Item.{Item};
-ghost use Rattle.sg_graph.specs.declared.reports.Leave.{Leave};
-ghost use Rattle.sg_graph.specs.Scripts.{script_of};
-ghost use Rattle.sg_graph.specs.Run.{IsWholeRun, Epoch};
-ghost use Rattle.sg_run.specs.Accepted.{IsAcceptedProgram};
-ghost use Rattle.sg_run.specs.Opening.{IsOpening};
-ghost use Rattle.sg_run.specs.Rules.{fresh, Went};
-ghost use Rattle.sg_run.specs.Views.{words_of, layout_of, actor_of, IsFirstSpace, IsFresh};
+ghost use Rattle.std.specs.Prelude.{◌≡◌, ◌++◌, IfOk, List};
+ghost use Rattle.sg_graph.specs.Run.{Phase, IsWholeRun};
+ghost use Rattle.sg_graph.specs.Trace.{text};
+ghost use Rattle.sg_parse.specs.Accepted.{IsAcceptedProgram};
 
-use crate::mutator::Mutator;
-use crate::space::Space;
-use sg_graph::{Answer, EpochReport, Item, Leave, Part, Program, Script, Statement};
-use sg_words::List;
+use crate::world::World;
+use sg_graph::Program;
+use sg_trace::{append_epoch, append_stop};
 use std::alloc::{AllocError, Global};
 
-/// Runs an accepted program to its end: the report of its one epoch. Linear in the statements, and in the nursery.
-pub fn execute(alloc: Global, program: &Program) -> Result<EpochReport, AllocError>
+/// Runs an accepted program to its end, and appends the text of its run. Linear in the statements and in the words of the
+/// space, beside the pauses.
+pub(crate) fn execute(
+    alloc: Global,
+    program: &Program,
+    trace: &mut Vec<u8>,
+) -> Result<(), AllocError>
     requires { IsAcceptedProgram program.now }
-    ensures { IfOk result (λ report. IsWholeRun program.now (Epoch report ∷ [])) }
+    ensures { IfOk result (λ _. (phases : List Phase) × IsWholeRun program.now phases × (trace.new.items ≡ trace.old.items ++ text phases)) }
 {
-    let script = &program.mutators.as_slice()[0];
-    let parts = Vec::with_capacity(alloc, 1)?;
-    let mut space = Space::new(alloc, program.config.nursery)?;
-    let mut mutator = Mutator::new(alloc, script.items.as_slice().len())?;
-    run_script(program, script, &mut space, &mut mutator);
-    Ok(report(parts, mutator.into_answers()))
-}
-
-/// Does all statements of the program's one script. It takes no memory.
-fn run_script(program: &Program, script: &Script, space: &mut Space, mutator: &mut Mutator)
-    requires accepted { IsAcceptedProgram program.now }
-    requires script { slice_get program.now.mutators 0 ≡ Some script.now }
-    requires opening { IsOpening (words_of space.old) }
-    requires first { IsFirstSpace program.now.config.nursery space.old }
-    requires fresh { IsFresh mutator.old (length script.now.items) }
-    ensures went { Went program.now (layout_of space.new) (fresh (script_of program.now 0)) (words_of space.old) (actor_of mutator.new []) (words_of space.new) }
-    ensures first { IsFirstSpace program.now.config.nursery space.new }
-{
-    let items = script.items.as_slice();
-    for item in items {
-        mutator.step(program, space, statement_of(item));
-    }
-}
-
-/// The statement of an item.
-fn statement_of(item: &Item) -> Statement
-    ensures { item.now ≡ Item.One result }
-{
-    match item {
-        Item::One(statement) => *statement,
-    }
-}
-
-/// The report of the one epoch in which the program's one mutator ended with these answers. It takes no memory.
-fn report(mut parts: Vec<Part>, answers: Vec<Answer>) -> EpochReport
-    requires none { parts.items ≡ [] }
-    requires room { vec_len parts + 1 ≤ vec_capacity parts }
-    ensures { result ≡ record { number = 0; last = true; parts = record { mutator = 0; first = 0; answers = answers.items; leave = Leave.Ended } ∷ [] } }
-{
-    let part = Part {
-        mutator: 0,
-        first: 0,
-        answers: List::from_vec(answers),
-        leave: Leave::Ended,
-    };
-    if parts.push(part).is_err() {
-        unreachable!();
-    }
-    EpochReport {
-        number: 0,
-        last: true,
-        parts: List::from_vec(parts),
+    let mut world = World::start(alloc, program)?;
+    loop {
+        let epoch = world.epoch(alloc, program)?;
+        append_epoch(alloc, trace, &epoch)?;
+        if epoch.last {
+            return Ok(());
+        }
+        let (next, stop) = world.stop(alloc, program)?;
+        append_stop(alloc, trace, &stop)?;
+        world = next;
     }
 }

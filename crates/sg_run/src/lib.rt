@@ -10,15 +10,14 @@ mod input;
 mod mutator;
 mod order;
 mod output;
-mod parse;
-mod space;
+mod shared;
+mod stop;
 mod top;
-mod trace;
+mod world;
 
 pub use gate::{Gate, OpenGate};
 pub use order::one_order;
 pub use top::run;
-pub use trace::append_epoch;
 
 #[cfg(test)]
 mod tests;

@@ -1,16 +1,18 @@
-ghost use Rattle.std.specs.Prelude.{◌≡◌, ◌+◌, ◌^◌, ◌<◌, ◌≤◌, true, false, List, ◌∷◌, [], length, slice_index, IfOk, MatchOption};
-ghost use Rattle.sg_words.specs.Address.{IsAddress};
+ghost use Rattle.std.specs.Prelude.{◌≡◌, ◌+◌, ◌^◌, ◌<◌, ◌≤◌, true, false, List, ◌∷◌, [], length, slice_index, IfOk, OnErr, MatchOption};
 ghost use Rattle.sg_words.specs.Words.{put, Words};
 ghost use Rattle.sg_graph.specs.declared.program.Program.{Program};
 ghost use Rattle.sg_graph.specs.declared.program.Statement.{Statement};
 ghost use Rattle.sg_graph.specs.Scripts.{shape_of};
-ghost use Rattle.sg_graph.specs.Shapes.{has_field as field_of_sort};
-ghost use Rattle.sg_run.specs.Rules.{Layout, reference_answer, over, Went};
-ghost use Rattle.sg_run.specs.Views.{words_of, layout_of, actor_of, IsSpace, KeepsSpace, HasByteAddresses, FindsRoom, sort_of, IsTested, HoldsObject, IsBufferIn, IsReference, IsNext, HasRoom, CanGo, IsFresh, GetsRoom, GetsNone, Claims};
+ghost use Rattle.sg_desc.specs.Shapes.{has_field as field_of_sort};
+ghost use Rattle.sg_space.specs.Space.{Contents, words_of, IsContents};
+ghost use Rattle.sg_run.specs.Rules.{Layout, reference_answer, over, owning, Went};
+ghost use Rattle.sg_run.specs.Views.{layout_of, actor_of, IsSpace, KeepsSpace, KeepsGoing, HasByteAddresses, FindsRoom, sort_of, IsTested, HoldsObject, IsBufferIn, IsReference, IsNext, HasRoom, CanGo, IsFresh, IsEmptied, IsAnswered, IsAsked, GetsRoom, GetsNone, Claims};
 
-use crate::space::{Room, Space};
-use sg_graph::{Answer, Descriptor, Program, Shape, Statement};
-use sg_words::{Addr, Tag, read_tag};
+use crate::shared::{Room, address, end, exchange_next, find, load_word, store_header, store_word};
+use sg_desc::{Descriptor, Shape};
+use sg_graph::{Answer, Program, Request, Statement};
+use sg_space::Space;
+use sg_words::{Tag, read_tag};
 use std::alloc::{AllocError, Global};
 
 /// The private state of a mutator.
@@ -49,33 +51,78 @@ impl Mutator {
         })
     }
 
-    /// The answers. Takes no memory.
-    pub(crate) fn into_answers(self) -> Vec<Answer>
-        ensures { result.items ≡ self.answers.items }
+    /// A copy of the answers, which the mutator then has no more. It keeps their room. An `Err` changes nothing.
+    pub(crate) fn take_answers(&mut self, alloc: Global) -> Result<Vec<Answer>, AllocError>
+        ensures taken { IfOk result (λ answers. answers.items ≡ self.old.answers.items) }
+        ensures emptied { IfOk result (λ _. IsEmptied self.old self.new) }
+        ensures err { OnErr result (self.new ≡ self.old) }
     {
-        self.answers
+        let answers = self.answers.as_slice().to_vec(alloc)?;
+        self.answers.clear();
+        Ok(answers)
     }
 
-    /// Does one statement. It takes no memory, and time linear in the fragments.
-    pub(crate) fn step(&mut self, program: &Program, space: &mut Space, statement: Statement)
+    /// The words in the registers.
+    pub(crate) fn registers(&self) -> &[u64]
+        ensures words { result.now ≡ self.now.registers }
+        ensures count { length result.now ≡ 16 }
+    {
+        self.registers.as_slice()
+    }
+
+    /// The mutator has no buffer any more.
+    pub(crate) fn empty_buffer(&mut self)
+        ensures emptied { (script : List Statement) → actor_of self.new script ≡ owning (actor_of self.old script) 0 0 }
+        ensures answers { self.new.answers ≡ self.old.answers }
+    {
+        self.from = 0;
+        self.to = 0;
+    }
+
+    /// Does one statement. Where the statement needs a stop, the mutator asks for it and leaves, and the statement stays
+    /// before it: then the result is the request. It takes no memory, and time linear in the fragments.
+    pub(crate) fn step(
+        &mut self,
+        program: &Program,
+        space: &mut Space,
+        statement: Statement,
+    ) -> Option<Request>
         requires space { IsSpace space.old }
         requires answers { HasRoom self.old }
         requires can { CanGo program.now space.old self.old statement }
-        ensures went { (rest : List Statement) → Went program.now (layout_of space.old) (actor_of self.old (statement ∷ rest)) (words_of space.old) (actor_of self.new rest) (words_of space.new) }
-        ensures answers { IsNext self.old self.new }
+        ensures done { MatchOption result (IsAnswered program.now space.old self.old statement space.new self.new) (IsAsked program.now space.old self.old statement space.new self.new) }
         ensures keeps { KeepsSpace space.old space.new }
     {
-        if space.load_stop() != 0 {
+        if space.stopping() {
             unreachable!();
         }
         match statement {
             Statement::New { r, class } => self.new_object(program, space, r, class),
-            Statement::Put { r, field, s } => self.put(program, space, r, field, s),
-            Statement::Get { d, r, field } => self.get(program, space, d, r, field),
-            Statement::PutD { r, field, s } => self.put_number(program, space, r, field, s),
-            Statement::GetD { d, r, field } => self.get_number(program, space, d, r, field),
-            Statement::Num { d, n } => self.number(d, n),
-            Statement::Drop { r } => self.clear(r),
+            Statement::Put { r, field, s } => {
+                self.put(program, space, r, field, s);
+                None
+            }
+            Statement::Get { d, r, field } => {
+                self.get(program, space, d, r, field);
+                None
+            }
+            Statement::PutD { r, field, s } => {
+                self.put_number(program, space, r, field, s);
+                None
+            }
+            Statement::GetD { d, r, field } => {
+                self.get_number(program, space, d, r, field);
+                None
+            }
+            Statement::Num { d, n } => {
+                self.number(d, n);
+                None
+            }
+            Statement::Drop { r } => {
+                self.clear(r);
+                None
+            }
+            Statement::CollectMinor => Some(ask(space, Request::Minor)),
         }
     }
 
@@ -106,13 +153,13 @@ impl Mutator {
         requires can { CanGo program.now space.old self.old (Statement.Put r field s) }
         ensures went { (rest : List Statement) → Went program.now (layout_of space.old) (actor_of self.old (Statement.Put r field s ∷ rest)) (words_of space.old) (actor_of self.new rest) (words_of space.new) }
         ensures answers { IsNext self.old self.new }
-        ensures keeps { KeepsSpace space.old space.new }
+        ensures keeps { KeepsGoing space.old space.new }
     {
         match self.test(program, space, r, field, true) {
             Tested::NoObject => self.say(Answer::Null),
             Tested::NoField => self.say(Answer::Field),
             Tested::At { place } => {
-                space.store_word(place, self.held(s));
+                store_word(space, place, self.held(s));
                 self.say(Answer::Fine);
             }
         }
@@ -130,7 +177,7 @@ impl Mutator {
             Tested::NoObject => self.tell(d, 0, Answer::Null),
             Tested::NoField => self.tell(d, 0, Answer::Field),
             Tested::At { place } => {
-                let word = space.load_word(place);
+                let word = load_word(space, place);
                 self.tell(d, word, reference(word));
             }
         }
@@ -143,14 +190,14 @@ impl Mutator {
         requires can { CanGo program.now space.old self.old (Statement.PutD r field s) }
         ensures went { (rest : List Statement) → Went program.now (layout_of space.old) (actor_of self.old (Statement.PutD r field s ∷ rest)) (words_of space.old) (actor_of self.new rest) (words_of space.new) }
         ensures answers { IsNext self.old self.new }
-        ensures keeps { KeepsSpace space.old space.new }
+        ensures keeps { KeepsGoing space.old space.new }
     {
         match self.test(program, space, r, field, false) {
             Tested::NoObject => self.say(Answer::Null),
             Tested::NoField => self.say(Answer::Field),
             Tested::At { place } => {
                 let number = self.held(s);
-                space.store_word(place, number);
+                store_word(space, place, number);
                 self.say(Answer::Fine);
             }
         }
@@ -168,28 +215,35 @@ impl Mutator {
             Tested::NoObject => self.tell(d, 0, Answer::Null),
             Tested::NoField => self.tell(d, 0, Answer::Field),
             Tested::At { place } => {
-                let number = space.load_word(place);
+                let number = load_word(space, place);
                 self.tell(d, number, Answer::Number(number));
             }
         }
     }
 
-    /// `new`: from the buffer or a fragment, else the answer is `full`.
-    fn new_object(&mut self, program: &Program, space: &mut Space, r: u8, class: u16)
+    /// `new`: from the buffer or a fragment, else the mutator asks for room.
+    fn new_object(
+        &mut self,
+        program: &Program,
+        space: &mut Space,
+        r: u8,
+        class: u16,
+    ) -> Option<Request>
         requires space { IsSpace space.old }
         requires answers { HasRoom self.old }
         requires can { CanGo program.now space.old self.old (Statement.New r class) }
-        ensures went { (rest : List Statement) → Went program.now (layout_of space.old) (actor_of self.old (Statement.New r class ∷ rest)) (words_of space.old) (actor_of self.new rest) (words_of space.new) }
-        ensures answers { IsNext self.old self.new }
+        ensures done { MatchOption result (IsAnswered program.now space.old self.old (Statement.New r class) space.new self.new) (IsAsked program.now space.old self.old (Statement.New r class) space.new self.new) }
         ensures keeps { KeepsSpace space.old space.new }
     {
         let fields = shape(program, class).fields;
-        match self.take(program, space, fields as u64 + 2) {
+        let words = fields + 2;
+        match self.take(program, space, words as u64) {
             Some(number) => {
-                space.store_header(number, class, fields);
+                store_header(space, number, class, fields);
                 self.tell(r, 8 * number, Answer::At(address(8 * number)));
+                None
             }
-            None => self.tell(r, 0, Answer::Full),
+            None => Some(ask(space, Request::Need { words })),
         }
     }
 
@@ -203,14 +257,14 @@ impl Mutator {
         requires bytes { HasByteAddresses space.old }
         requires buffer { IsBufferIn space.old self.old }
         ensures went { MatchOption result (GetsNone program.now space.old self.old words space.new self.new) (GetsRoom program.now space.old self.old words space.new self.new) }
-        ensures keeps { KeepsSpace space.old space.new }
+        ensures keeps { KeepsGoing space.old space.new }
     {
         if words <= self.to.saturating_sub(self.from) {
             let number = self.from;
             self.from += words;
             return Some(number);
         }
-        let Some(room) = space.find(words) else {
+        let Some(room) = find(space, words) else {
             return None;
         };
         self.claim(program, space, words, room);
@@ -224,12 +278,12 @@ impl Mutator {
         requires room { FindsRoom space.old words room.fragment room.next }
         ensures went { Claims program.now space.old self.old words room.fragment room.next space.new self.new }
         ensures answers { self.new.answers ≡ self.old.answers }
-        ensures keeps { KeepsSpace space.old space.new }
+        ensures keeps { KeepsGoing space.old space.new }
     {
-        let rest = space.end(room.fragment) - room.next;
+        let rest = end(space, room.fragment) - room.next;
         let taken = rest.min(words.max(program.config.buffer as u64));
         let end = room.next + taken;
-        match space.exchange_next(room.fragment, 8 * room.next, 8 * end) {
+        match exchange_next(space, room.fragment, 8 * room.next, 8 * end) {
             Ok(()) => {
                 self.from = room.next + words;
                 self.to = end;
@@ -249,21 +303,21 @@ impl Mutator {
     ) -> Tested
         requires space { IsSpace space.now }
         requires object { HoldsObject program.now space.now self.now r }
-        ensures { IsTested program.now (words_of space.now) (slice_index self.now.registers r) field (sort_of is_reference) (length space.now.words.items) result }
+        ensures { IsTested program.now (words_of space.now) (slice_index self.now.registers r) field (sort_of is_reference) space.now.layout result }
     {
         let held = self.held(r);
         if held == 0 {
             return Tested::NoObject;
         }
         let object = held / 8;
-        let class = match read_tag(space.load_word(object)) {
+        let class = match read_tag(load_word(space, object)) {
             Some(Tag::Plain { class }) => class,
             Some(Tag::Forwarded { .. }) => unreachable!(),
             Some(Tag::Pinned { .. }) => unreachable!(),
             Some(Tag::Cemented { .. }) => unreachable!(),
             None => unreachable!(),
         };
-        let len = space.load_word(object + 1);
+        let len = load_word(space, object + 1);
         if has_field(&shape(program, class).kind, len, field, is_reference) {
             Tested::At {
                 place: object + 2 + field,
@@ -282,7 +336,7 @@ impl Mutator {
     }
 
     /// Register `d` becomes this word.
-    fn set(&mut self, d: u8, word: u64)
+    pub(crate) fn set(&mut self, d: u8, word: u64)
         requires { d < 16 }
         ensures set { (script : List Statement) → actor_of self.new script ≡ record (actor_of self.old script) { reg = put (actor_of self.old script).reg d word } }
         ensures answers { self.new.answers ≡ self.old.answers }
@@ -314,7 +368,7 @@ impl Mutator {
 }
 
 /// The shape of the objects of this class.
-fn shape(program: &Program, class: u16) -> Shape
+pub(crate) fn shape(program: &Program, class: u16) -> Shape
     requires { class < length program.now.classes }
     ensures { result ≡ shape_of program.now class }
 {
@@ -341,13 +395,11 @@ fn reference(word: u64) -> Answer
     }
 }
 
-/// The byte address that a word is.
-fn address(word: u64) -> Addr
-    requires { IsAddress word }
-    ensures { result ≡ word }
+/// Asks the mutators to stop, and so for this.
+fn ask(space: &mut Space, request: Request) -> Request
+    ensures asked { space.new ≡ record space.old { stop = 1 } }
+    ensures request { result ≡ request }
 {
-    match Addr::of(word) {
-        Some(address) => address,
-        None => unreachable!(),
-    }
+    space.set_stopping(true);
+    request
 }

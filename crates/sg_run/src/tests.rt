@@ -1,6 +1,5 @@
-// The text of a report, and the top call over ends in memory: each kind of ending, each call that fails, each room.
-use crate::{OpenGate, append_epoch, run};
-use sg_graph::{Answer, EpochReport, Leave, Part};
+// The top call over ends in memory: each kind of ending, each call that fails, each room, and worked programs.
+use crate::{OpenGate, run};
 use sg_io::{MemorySink, MemorySource};
 use sg_words::{Addr, List};
 use std::alloc::{AllocError, Global};
@@ -113,48 +112,74 @@ fn the_longest_input(rt: HostRuntime) -> Result<(), Fail> {
     Ok(())
 }
 
-fn part(alloc: Global, mutator: u32, first: u32, answers: &[Answer]) -> Result<Part, AllocError> {
-    let answers = List::from_vec(Vec::from_slice(alloc, answers)?);
-    Ok(Part {
-        mutator,
-        first,
-        answers,
-        leave: Leave::Ended,
-    })
-}
+// What the worked programs begin with.
+const HEAD: &str =
+    "sgen 1\nnursery 256\nblocks 1\nclass Node map r.\nclass Box plain 2\nclass Odd plain 29\nclass Even plain 30\nclass Big plain 62\nclass Wide map rr..........................................................\nmutator\n";
 
 #[test]
-fn text_of_a_report(rt: HostRuntime) -> Result<(), Fail> {
-    let Some(address) = Addr::of(4_128) else {
-        return Ok(());
-    };
-    let found = [
-        Answer::At(address),
-        Answer::Nil,
-        Answer::Null,
-        Answer::Number(u64::MAX),
-        Answer::Fine,
-        Answer::Field,
-        Answer::Full,
+fn worked_programs(rt: HostRuntime) -> Result<(), Fail> {
+    let rows: [(&str, &str); 9] = [
+        // An object that only another one refers to moves, and what the register holds stays.
+        (
+            "new r0 Node\nnew r1 Node\nput r0 0 r1\ndrop r1\ncollect minor\nget r1 r0 0\nend\n",
+            "epoch 0\n0 0 4096\n0 1 4128\n0 2 ok\n0 3 ok\n0 collect minor\nstop 0\nminor\npin 4096\nmove 4128 6144\nspares 0\nfrag 4128 252\nserve 0 4 ok\nepoch 1\n0 5 6144\n0 done\nend\n",
+        ),
+        // A number pins the object whose last byte has that address.
+        (
+            "new r0 Box\nnew r1 Box\ndrop r0\ndrop r1\nnum r5 4127\ncollect minor\nend\n",
+            "epoch 0\n0 0 4096\n0 1 4128\n0 2 ok\n0 3 ok\n0 4 ok\n0 collect minor\nstop 0\nminor\npin 4096\nspares 0\nfrag 4128 252\nserve 0 5 ok\nepoch 1\n0 done\nend\n",
+        ),
+        // One more, and it pins the object behind.
+        (
+            "new r0 Box\nnew r1 Box\ndrop r0\ndrop r1\nnum r5 4128\ncollect minor\nend\n",
+            "epoch 0\n0 0 4096\n0 1 4128\n0 2 ok\n0 3 ok\n0 4 ok\n0 collect minor\nstop 0\nminor\npin 4128\nspares 0\nwaste 4096 4\nfrag 4160 248\nserve 0 5 ok\nepoch 1\n0 done\nend\n",
+        ),
+        // Behind the last object it pins nothing.
+        (
+            "new r0 Box\nnew r1 Box\ndrop r0\ndrop r1\nnum r5 4160\ncollect minor\nend\n",
+            "epoch 0\n0 0 4096\n0 1 4128\n0 2 ok\n0 3 ok\n0 4 ok\n0 collect minor\nstop 0\nminor\nspares 0\nfrag 4096 256\nserve 0 5 ok\nepoch 1\n0 done\nend\n",
+        ),
+        // A gap of 31 words is waste.
+        (
+            "new r0 Odd\nnew r1 Box\ndrop r0\ncollect minor\nend\n",
+            "epoch 0\n0 0 4096\n0 1 4344\n0 2 ok\n0 collect minor\nstop 0\nminor\npin 4344\nspares 0\nwaste 4096 31\nfrag 4376 221\nserve 0 3 ok\nepoch 1\n0 done\nend\n",
+        ),
+        // A gap of 32 is a fragment.
+        (
+            "new r0 Even\nnew r1 Box\ndrop r0\ncollect minor\nend\n",
+            "epoch 0\n0 0 4096\n0 1 4352\n0 2 ok\n0 collect minor\nstop 0\nminor\npin 4352\nspares 0\nfrag 4096 32\nfrag 4384 220\nserve 0 3 ok\nepoch 1\n0 done\nend\n",
+        ),
+        // The nursery is full of objects that stay, so the one that asks gets none.
+        (
+            "new r0 Big\nnew r1 Big\nnew r2 Big\nnew r3 Big\nnew r3 Big\nget r4 r3 0\nend\n",
+            "epoch 0\n0 0 4096\n0 1 4608\n0 2 5120\n0 3 5632\n0 need 64\nstop 0\nminor\npin 4096\npin 4608\npin 5120\npin 5632\nspares 0\nserve 0 4 full\nepoch 1\n0 5 null\n0 done\nend\n",
+        ),
+        // The room of what died serves the one that asks.
+        (
+            "new r0 Big\nnew r1 Big\nnew r2 Big\nnew r0 Big\nnew r0 Big\nend\n",
+            "epoch 0\n0 0 4096\n0 1 4608\n0 2 5120\n0 3 5632\n0 need 64\nstop 0\nminor\npin 4608\npin 5120\npin 5632\nspares 0\nfrag 4096 64\nserve 0 4 4096\nepoch 1\n0 done\nend\n",
+        ),
+        // A chain moves; at the next pause the major heap has room for one more, so the one to which that leads stays.
+        (
+            "new r0 Wide\nnew r1 Wide\nput r0 0 r1\nnew r2 Wide\nput r1 0 r2\nnew r3 Wide\nput r2 0 r3\ndrop r1\ndrop r2\ndrop r3\ncollect minor\nget r1 r0 0\nnew r2 Wide\nput r0 1 r2\nnew r3 Wide\nput r2 0 r3\ndrop r2\ndrop r3\ncollect minor\nget r2 r0 1\nget r3 r2 0\nnew r4 Wide\nend\n",
+            "epoch 0\n0 0 4096\n0 1 4608\n0 2 ok\n0 3 5120\n0 4 ok\n0 5 5632\n0 6 ok\n0 7 ok\n0 8 ok\n0 9 ok\n0 collect minor\nstop 0\nminor\npin 4096\nmove 4608 6144\nmove 5120 6640\nmove 5632 7136\nspares 0\nfrag 4592 194\nserve 0 10 ok\nepoch 1\n0 11 6144\n0 12 4592\n0 13 ok\n0 14 5104\n0 15 ok\n0 16 ok\n0 17 ok\n0 collect minor\nstop 1\nminor\npin 4096\nmove 4592 7632\nfail 5104\nspares 0\nfrag 4592 64\nfrag 5600 68\nserve 0 18 ok\nepoch 2\n0 19 7632\n0 20 5104\n0 21 4592\n0 done\nend\n",
+        ),
     ];
-    let mut parts = Vec::new(rt.alloc());
-    parts.push(part(rt.alloc(), 0, 9, &found)?)?;
-    parts.push(part(rt.alloc(), 12, u32::MAX, &[Answer::Number(0), Answer::Fine])?)?;
-    parts.push(part(rt.alloc(), 15, 3, &[])?)?;
-    let mut report = EpochReport {
-        number: 30,
-        last: false,
-        parts: List::from_vec(parts),
-    };
-    let expected =
-        "epoch 30\n0 9 4128\n0 10 nil\n0 11 null\n0 12 18446744073709551615\n0 13 ok\n0 14 field\n0 15 full\n0 done\n\
-        12 4294967295 0\n12 4294967296 ok\n12 done\n15 done\n";
-    let mut out = Vec::new(rt.alloc());
-    append_epoch(rt.alloc(), &mut out, &report)?;
-    assert_eq!(rt; out.as_slice(), expected.as_bytes());
-    report.last = true;
-    append_epoch(rt.alloc(), &mut out, &report)?;
-    let twice = format!(in rt.alloc(); "{expected}{expected}end\n")?;
-    assert_eq!(rt; out.as_slice(), twice.as_bytes());
+    let words = words_of(rt.alloc(), &["run"])?;
+    for (rest, trace) in rows {
+        let input = format!(in rt.alloc(); "{HEAD}{rest}")?;
+        let mut source = MemorySource::new(rt.alloc(), input.as_bytes(), &[])?;
+        let mut sink = MemorySink::new(rt.alloc(), 1000, &[])?;
+        let answer = run(
+            &rt,
+            rt.alloc(),
+            words.as_slice(),
+            &mut source,
+            &mut sink,
+            &OpenGate,
+        );
+        assert_eq!(rt; answer, 0, "of {rest}");
+        assert_eq!(rt; sink.taken(), trace.as_bytes(), "of {rest}");
+    }
     Ok(())
 }

@@ -3,7 +3,7 @@ ghost use Rattle.std.specs.Prelude.{◌≡◌, ◌≤◌, List, map, string_byte
 ghost use Rattle.std.specs.Io.KnownBytes.{IsAtEnd};
 ghost use Rattle.sg_graph.specs.Run.{Phase, IsWholeRun};
 ghost use Rattle.sg_graph.specs.Trace.{text};
-ghost use Rattle.sg_run.specs.Accepted.{IsAccepted, IsAcceptedAs, IsAcceptedProgram};
+ghost use Rattle.sg_parse.specs.Accepted.{IsAccepted, IsAcceptedAs, IsAcceptedProgram};
 ghost use Rattle.sg_run.specs.Ends.{ends_of};
 ghost use Rattle.sg_run.specs.Input.{StopsReading};
 ghost use Rattle.sg_run.specs.Status.{status_of};
@@ -14,10 +14,9 @@ use crate::execution::execute;
 use crate::gate::Gate;
 use crate::input::{ReadError, read_input};
 use crate::output::write_piece;
-use crate::parse::parse;
-use crate::trace::append_epoch;
 use sg_graph::Program;
 use sg_io::{Failed, Sink, Source};
+use sg_parse::parse;
 use std::alloc::{AllocError, Global};
 use std::thread::Threads;
 
@@ -58,7 +57,8 @@ impl Ending {
 /// - 5: memory ran out. This may come in place of any other status, and a front of what would have been written was
 ///   taken.
 ///
-/// The words decide first, then reading, then acceptance, then the run. Linear in the input, and in the nursery.
+/// The words decide first, then reading, then acceptance, then the run. Linear in the input and in the words
+/// of the space, beside the pauses.
 pub fn run<R: Threads + Sync, S: Source, O: Sink, G: Gate + Sync>(
     rt: &R,
     alloc: Global,
@@ -144,8 +144,7 @@ fn trace_of(alloc: Global, program: &Program) -> Result<Vec<u8>, AllocError>
     requires { IsAcceptedProgram program.now }
     ensures { IfOk result (λ trace. (phases : List Phase) × IsWholeRun program.now phases × (trace.items ≡ text phases)) }
 {
-    let report = execute(alloc, program)?;
     let mut trace = Vec::new(alloc);
-    append_epoch(alloc, &mut trace, &report)?;
+    execute(alloc, program, &mut trace)?;
     Ok(trace)
 }

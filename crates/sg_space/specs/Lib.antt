@@ -1,3 +1,4 @@
 pub mod Sections
 pub mod Space
 pub mod Standing
+pub mod Heap

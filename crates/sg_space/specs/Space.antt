@@ -1,11 +1,9 @@
 -- What a contract sees of a space.
-use Rattle.std.specs.Prelude.{◌≡◌, ℕ, ◌+◌, ◌*◌, ◌≤◌, List, [], ◌∷◌, length, replicate, slice_index}
+use Rattle.std.specs.Prelude.{◌≡◌, ℕ, ◌≤◌, List, [], ◌∷◌, length, replicate, slice_index}
 use Rattle.std.specs.List.{All}
 use Rattle.sg_words.specs.Address.{byte_at}
 use Rattle.sg_words.specs.Words.{Words}
-use Rattle.sg_words.specs.declared.pieces.Piece.{Piece}
-use Rattle.sg_words.specs.declared.pieces.Piece.TheVariants.{Frag, Waste}
-use Rattle.sg_graph.specs.declared.shapes.Shape.{Shape}
+use Rattle.sg_desc.specs.declared.shapes.Shape.{Shape}
 use Rattle.sg_space.specs.declared.layout.Layout.{Layout}
 use Rattle.sg_space.specs.Sections.{nursery_base, old_base, words_end, IsLayout}
 
@@ -46,15 +44,3 @@ clear_space layout shapes = record {
   ends = byte_at (old_base layout) ∷ [];
   stop = 0;
 }
-
--- the byte addresses of the fragments among these pieces
-abbrev pub fronts_of : List Piece → List ℕ
-fronts_of [] = []
-fronts_of (Frag at words ∷ pieces) = at ∷ fronts_of pieces
-fronts_of (Waste at words ∷ pieces) = fronts_of pieces
-
--- the byte addresses behind the fragments among these pieces, which have words of 8 bytes
-abbrev pub ends_of : List Piece → List ℕ
-ends_of [] = []
-ends_of (Frag at words ∷ pieces) = (at + 8 * words) ∷ ends_of pieces
-ends_of (Waste at words ∷ pieces) = ends_of pieces

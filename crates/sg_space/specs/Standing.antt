@@ -3,8 +3,8 @@ use Rattle.std.specs.Prelude.{◌≡◌, ◌≢◌, ℕ, ◌+◌, ◌*◌, ◌%�
 use Rattle.std.specs.List.Sorted.{IsStrictlyIncreasing}
 use Rattle.sg_words.specs.Address.{byte_at, word_at}
 use Rattle.sg_words.specs.Tags.{plain_word}
-use Rattle.sg_graph.specs.declared.shapes.Shape.{Shape}
-use Rattle.sg_graph.specs.Shapes.{holds_reference}
+use Rattle.sg_desc.specs.declared.shapes.Shape.{Shape}
+use Rattle.sg_desc.specs.Shapes.{holds_reference}
 use Rattle.sg_space.specs.declared.objects.Object.{Object}
 use Rattle.sg_space.specs.Sections.{nursery_base, old_base, large_base, globals_base, words_end, IsYoung}
 use Rattle.sg_space.specs.Space.{Contents}

@@ -1,5 +1,5 @@
 use crate::layout::{FIRST_WORD, Layout};
-use sg_graph::Shape;
+use sg_desc::Shape;
 use sg_words::{Addr, Piece};
 use std::alloc::{AllocError, Global};
 use std::marker::Model;
@@ -48,7 +48,8 @@ impl Space {
     ghost use Rattle.std.specs.Prelude.{◌≡◌, ◌≢◌, ◌+◌, ◌<◌, ◌≤◌, ◌↔◌, IfOk, if◌then◌else◌, true, length, slice_get, slice_index, slice_set, Some, ℕ};
     ghost use Rattle.sg_words.specs.Address.{word_at};
     ghost use Rattle.sg_space.specs.Sections.{words_end, IsLayout, IsInSection};
-    ghost use Rattle.sg_space.specs.Space.{Contents, AreShapes, IsContents, clear_space, fronts_of, ends_of};
+    ghost use Rattle.sg_space.specs.Space.{Contents, AreShapes, IsContents, clear_space};
+    ghost use Rattle.sg_words.specs.Pieces.{fronts_of, ends_of};
     ghost use Rattle.sg_space.specs.Standing.{IsSound, word};
 
     /// A space with no object: each word is 0, and the nursery is one fragment. Takes all the memory that the space ever
@@ -82,7 +83,7 @@ impl Space {
     }
 
     /// The sizes of the sections, and what is true of every space.
-    pub(crate) fn sections(&self) -> Layout
+    pub fn sections(&self) -> Layout
         ensures layout { result ≡ self.now.layout }
         ensures contents { IsContents self.now }
     {
@@ -179,7 +180,7 @@ impl Space {
 }
 
 ghost use Rattle.std.specs.Prelude.{◌≡◌, ◌≤◌, length, vec_capacity};
-ghost use Rattle.sg_space.specs.Space.{fronts_of, ends_of};
+ghost use Rattle.sg_words.specs.Pieces.{fronts_of, ends_of};
 
 /// The fronts and the ends of the fragments among these pieces, in place of what the two vectors hold.
 fn put_fragments(next: &mut Vec<u64>, ends: &mut Vec<u64>, pieces: &[Piece])

@@ -2,7 +2,7 @@ ghost use Rattle.sg_space.specs.Standing.{IsSound};
 
 use crate::layout::address;
 use crate::*;
-use sg_graph::{Descriptor, Shape};
+use sg_desc::{Descriptor, Shape};
 use sg_words::{Addr, List};
 use std::alloc::{AllocError, Global};
 use std::test::Fail;

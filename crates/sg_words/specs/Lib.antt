@@ -2,3 +2,4 @@ pub mod Address
 pub mod Tags
 pub mod Words
 pub mod Events
+pub mod Pieces

@@ -1,6 +1,6 @@
 use Rattle.std.proofs.Common.{◌≡◌, ◌<◌, ℕ, List, [], ◌∷◌, map, length, refl, sym, ap, ◌∙◌, subst, arith}
 use Rattle.sg_words.specs.Address.{word_at}
-use Rattle.sg_graph.specs.declared.shapes.Descriptor.TheVariants.{PtrFree}
+use Rattle.sg_desc.specs.declared.shapes.Descriptor.TheVariants.{PtrFree}
 use Rattle.sg_copy.specs.Copying.{CanCopyAll}
 use Rattle.sg_copy.proofs.One.{one_written}
 use Rattle.sg_copy.proofs.tests.one_object_moves.Goals as goal

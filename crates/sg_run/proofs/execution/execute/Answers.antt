@@ -1,18 +1,39 @@
-use Rattle.std.proofs.Common.{true, List, [], ◌∷◌, ap, refl, ◌∙◌, arith}
-use Rattle.sg_graph.specs.declared.reports.Answer.{Answer}
-use Rattle.sg_graph.specs.declared.reports.Leave.TheVariants.{Ended}
-use Rattle.sg_graph.specs.declared.reports.EpochReport.{EpochReport}
-use Rattle.sg_run.specs.Views.{words_of, layout_of, actor_of}
-use Rattle.sg_run.proofs.Law.{so_far, whole_run}
-use Rattle.sg_run.proofs.Begins.{is_first_layout, no_misuse}
+use Rattle.std.proofs.Common.{[], ◌∷◌, ◌++◌, List, ℕ, ap, ◌∙◌, arith}
+use Rattle.sg_graph.specs.Run.{Epoch}
+use Rattle.sg_graph.specs.Trace.{epoch_text, stop_text}
+use Rattle.sg_run.proofs.Rounds.{whole_of, at_stop_of, asking_there}
+use Rattle.sg_run.proofs.Texts.{text_epoch, text_stop}
 use Rattle.sg_run.proofs.execution.execute.Goals as goal
 
-pub returns : goal.returns
-returns c =
-    let p = c.args.program.now in
-    let accepted = c.requires in
-    let s = c.run_script.new.space in
-    let a = actor_of c.run_script.new.mutator [] in
-    let so = so_far p (layout_of s) (words_of c.in_ok-space.space) (words_of s) a (no_misuse accepted.0 p accepted.1) (is_first_layout p s c.run_script.ensures.first) c.in_ok-space.ensures.opening c.run_script.ensures.went in
-    let told : List Answer → EpochReport = λ answers. record { number = 0; last = true; parts = record { mutator = 0; first = 0; answers = answers; leave = Ended } ∷ [] } in
-    whole_run p (layout_of s) (words_of s) a c.report.result so refl refl (omega (arith, accepted.1.limits.mutators_least, accepted.1.reads.program.few)) (c.report.ensures ∙ ap told c.into_answers.ensures)
+pub returns-then-epoch : goal.returns-then-epoch
+returns-then-epoch c =
+    let i = c.loop-world.invariant in
+    let report = c.in_ok-epoch.epoch in (
+      i.0 ++ Epoch report ∷ [],
+      whole_of c.args.program.now i.0 report c.epoch.new.self (c.in_ok-epoch.ensures.comes i.0 i.1) c.if-epoch.true,
+      text_epoch i.0 report c.args.trace.now.items c.append_epoch.new.out.items (c.in_ok-append_epoch.ensures.appended ∙ ap (λ (ts : List ℕ). ts ++ epoch_text report) i.2),
+    )
+
+pub stop-requires-clause-at_stop : goal.stop-requires-clause-at_stop
+stop-requires-clause-at_stop c =
+    let i = c.loop-world.invariant in
+    let report = c.in_ok-epoch.epoch in
+    (i.0, report, at_stop_of c.args.program.now i.0 report c.epoch.new.self (c.in_ok-epoch.ensures.comes i.0 i.1) c.if-epoch.false)
+
+pub loop-world-smaller : goal.loop-world-smaller
+loop-world-smaller c =
+    let i = c.loop-world.invariant in
+    let report = c.in_ok-epoch.epoch in
+    let t = at_stop_of c.args.program.now i.0 report c.epoch.new.self (c.in_ok-epoch.ensures.comes i.0 i.1) c.if-epoch.false in
+    omega (arith, asking_there c.args.program.now i.0 report c.epoch.new.self t, c.in_ok-epoch.ensures.ahead, c.in_ok-next.ensures.ahead)
+
+pub loop-world-preserved : goal.loop-world-preserved
+loop-world-preserved c =
+    let i = c.loop-world.invariant in
+    let report = c.in_ok-epoch.epoch in
+    let t = at_stop_of c.args.program.now i.0 report c.epoch.new.self (c.in_ok-epoch.ensures.comes i.0 i.1) c.if-epoch.false in (
+      _,
+      c.in_ok-next.ensures.between i.0 report t,
+      text_stop i.0 report c.in_ok-next.stop c.args.trace.now.items c.append_stop.new.out.items
+          (c.in_ok-append_stop.ensures.appended ∙ ap (λ (ts : List ℕ). ts ++ stop_text c.in_ok-next.stop) (c.in_ok-append_epoch.ensures.appended ∙ ap (λ (ts : List ℕ). ts ++ epoch_text report) i.2)),
+    )

@@ -1,6 +1,6 @@
 -- What was put, and what the pieces ahead add to it, are the fragments of all pieces.
 use Rattle.std.proofs.Common.{◌≡◌, ◌≤◌, ◌++◌, length, drop, vec_capacity}
-use Rattle.sg_space.specs.Space.{fronts_of, ends_of}
+use Rattle.sg_words.specs.Pieces.{fronts_of, ends_of}
 use Rattle.sg_space.proofs.space.put_fragments.Given as goal
 
 abbrev pub invariant-loop-piece : goal.invariant-loop-piece

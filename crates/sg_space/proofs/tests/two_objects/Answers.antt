@@ -1,5 +1,5 @@
 use Rattle.std.proofs.Common.{subst, refl, arith}
-use Rattle.sg_graph.specs.declared.shapes.Descriptor.TheVariants.{PtrFree}
+use Rattle.sg_desc.specs.declared.shapes.Descriptor.TheVariants.{PtrFree}
 use Rattle.sg_space.specs.Sections.{IsLayout}
 use Rattle.sg_space.specs.Space.{Contents, AreShapes}
 use Rattle.sg_space.proofs.Pair.{pair_is_sound}

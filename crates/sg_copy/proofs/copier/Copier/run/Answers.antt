@@ -7,11 +7,13 @@ use Rattle.sg_space.specs.Space.{Contents}
 use Rattle.sg_space.specs.Standing.{word}
 use Rattle.sg_copy.specs.Round.{started, IsAfter}
 use Rattle.sg_copy.specs.Image.{IsImage}
+use Rattle.sg_copy.specs.Order.{IsInOrder}
 use Rattle.sg_copy.specs.Copying.{area_of, IsStill}
 use Rattle.sg_copy.proofs.Steps.{at_start}
 use Rattle.sg_copy.proofs.Ends.{at_end}
 use Rattle.sg_copy.proofs.Hand.{still_same, still_on, area_still}
-use Rattle.sg_copy.proofs.Running.{begins_at, no_moves, no_addresses, slot_within, target_known, next, later_todo, later_bound, later_moves, later_fails, measure_is}
+use Rattle.sg_copy.proofs.Order.{queue-start, queue-on, queue-end}
+use Rattle.sg_copy.proofs.Running.{begins_at, no_moves, no_addresses, slot_within, target_known, next_handles, next, later_todo, later_bound, later_moves, later_fails, measure_is}
 use Rattle.sg_copy.proofs.copier.Copier.run.Goals as goal
 
 pub loop-at-init : goal.loop-at-init
@@ -28,6 +30,7 @@ loop-at-init c = record {
     refl,
     no_moves c.args.self.now.moves.items c.requires.first_moves,
     no_addresses c.args.self.now.fails.items c.requires.first_fails,
+    queue-start (area_of c.args.self.now.space) (word c.args.self.now.space) (map word_at c.args.self.now.todo.items) (word_at c.args.self.now.front),
   );
 }
 
@@ -102,6 +105,9 @@ loop-at-preserved c =
         n.fills,
         later_moves area (word s) _ _ g.0 c.loop-at.self c.handle.new.self (word_at c.index-slot.result.now) c.loop-at.at h c.loop-at.invariant.front (below c) n g.5 g.6,
         later_fails area (word s) _ _ g.0 c.loop-at.self c.handle.new.self (word_at c.index-slot.result.now) c.loop-at.at h c.loop-at.invariant.front (below c) n g.7,
+        queue-on area (word s) (map word_at c.args.self.now.todo.items) (word_at c.args.self.now.front) c.requires.can.opening g.0 g.1 g.2 (word_at c.index-slot.result.now) _ (begins-2 c) g.8
+            (word c.handle.new.self.space) (word_at c.handle.new.self.front) h.added h.moved h.failed
+            (next_handles s c.args.self.now.front (map word_at c.args.self.now.todo.items) c.requires.can g.0 g.1 g.2 (word_at c.index-slot.result.now) _ (begins-2 c) c.loop-at.self c.handle.new.self c.loop-at.invariant.still g.3 g.5 h) n,
       );
     }
 
@@ -111,8 +117,8 @@ returns c =
     let s = c.args.self.now.space in
     let o = c.loop-at.self.todo.ok.0 in let t = c.loop-at-test.false in let l = c.len.ensures in
     let k = length-map c.loop-at.self.todo.items word_at in
-    let e = at_end (area_of s) (word s) (map word_at c.args.self.now.todo.items) (word_at c.args.self.now.front) c.requires.can.opening g.0 g.1
-    (g.4 ∙ drop_of_length-le (map word_at c.loop-at.self.todo.items) {i = c.loop-at.at} (omega arith)) in
+    let none = g.4 ∙ drop_of_length-le (map word_at c.loop-at.self.todo.items) {i = c.loop-at.at} (omega arith) in
+    let e = at_end (area_of s) (word s) (map word_at c.args.self.now.todo.items) (word_at c.args.self.now.front) c.requires.can.opening g.0 g.1 none in
     record {
       copied = record {
         still = c.loop-at.invariant.still;
@@ -121,6 +127,8 @@ returns c =
         stayed = (g.0).fails;
         image = subst (λ (f : ℕ → ℕ). IsImage (area_of s) (word s) (map word_at c.args.self.now.todo.items) (word_at c.args.self.now.front) (g.0).moves (g.0).fails (g.0).m f (word_at c.loop-at.self.front)) g.3
             (subst (λ (x : ℕ). IsImage (area_of s) (word s) (map word_at c.args.self.now.todo.items) (word_at c.args.self.now.front) (g.0).moves (g.0).fails (g.0).m (g.0).word x) g.5 e);
+        ordered = subst (λ (x : ℕ). IsInOrder (area_of s) (word s) (map word_at c.args.self.now.todo.items) (word_at c.args.self.now.front) (g.0).moves (g.0).fails x) g.5
+            (queue-end (area_of s) (word s) (map word_at c.args.self.now.todo.items) (word_at c.args.self.now.front) g.0 g.8 none);
         told_moves = g.6;
         told_fails = g.7;
       };

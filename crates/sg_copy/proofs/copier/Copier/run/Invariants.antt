@@ -4,6 +4,7 @@ use Rattle.sg_graph.specs.Reach.{AreDistinct}
 use Rattle.sg_space.specs.Standing.{word}
 use Rattle.sg_copy.specs.Round.{Round, IsGoing}
 use Rattle.sg_copy.specs.Copying.{area_of, IsStill, IsFront, moved_to}
+use Rattle.sg_copy.proofs.Order.{IsQueued}
 use Rattle.sg_copy.proofs.copier.Copier.run.Given as goal
 
 abbrev pub invariant-loop-at : goal.invariant-loop-at
@@ -13,7 +14,8 @@ invariant-loop-at l = record {
   bound : l.at ≤ length l.self.todo.items;
   going : (r : Round) × IsGoing (area_of l.fn.self.space) (word l.fn.self.space) (map word_at l.fn.self.todo.items) (word_at l.fn.self.front) r × AreDistinct r.fails
       × (r.word ≡ word l.self.space) × (r.todo ≡ drop l.at (map word_at l.self.todo.items)) × (r.fill ≡ word_at l.self.front)
-      × (l.self.moves.items ≡ map (λ a. moved_to (byte_at (r.m a)) a) r.moves) × (l.self.fails.items ≡ map byte_at r.fails);
+      × (l.self.moves.items ≡ map (λ a. moved_to (byte_at (r.m a)) a) r.moves) × (l.self.fails.items ≡ map byte_at r.fails)
+      × IsQueued (area_of l.fn.self.space) (word l.fn.self.space) (map word_at l.fn.self.todo.items) (word_at l.fn.self.front) r;
 }
 
 abbrev pub decreases-loop-at : goal.decreases-loop-at

@@ -1,6 +1,7 @@
 use Rattle.std.proofs.Common.{◌≡◌}
 use Rattle.sg_run.specs.Rules.{taken}
-use Rattle.sg_run.specs.Views.{words_of, layout_of, actor_of}
+use Rattle.sg_space.specs.Space.{words_of}
+use Rattle.sg_run.specs.Views.{layout_of, actor_of}
 use Rattle.sg_run.proofs.Steps.{went_claims}
 use Rattle.sg_run.proofs.mutator.Mutator.claim.Goals as goal
 

@@ -1,10 +1,11 @@
 use Rattle.std.proofs.Common.{[], refl, ap, ◌∙◌}
 use Rattle.sg_words.specs.Words.{put}
 use Rattle.sg_graph.specs.declared.program.Statement.TheVariants.{Get}
-use Rattle.sg_graph.specs.Shapes.{Reference}
+use Rattle.sg_desc.specs.Shapes.{Reference}
 use Rattle.sg_graph.specs.Statements.{Test}
 use Rattle.sg_run.specs.Rules.{over}
-use Rattle.sg_run.specs.Views.{words_of, layout_of, actor_of}
+use Rattle.sg_space.specs.Space.{words_of}
+use Rattle.sg_run.specs.Views.{layout_of, actor_of}
 use Rattle.sg_run.proofs.Steps.{went_null, went_misses, went_finds, went_get}
 use Rattle.sg_run.proofs.mutator.Mutator.get.Goals as goal
 

@@ -1,8 +1,9 @@
 use Rattle.std.proofs.Common.{[], refl}
 use Rattle.sg_graph.specs.declared.program.Statement.TheVariants.{GetD}
-use Rattle.sg_graph.specs.Shapes.{Plain}
+use Rattle.sg_desc.specs.Shapes.{Plain}
 use Rattle.sg_graph.specs.Statements.{Test}
-use Rattle.sg_run.specs.Views.{words_of, layout_of, actor_of}
+use Rattle.sg_space.specs.Space.{words_of}
+use Rattle.sg_run.specs.Views.{layout_of, actor_of}
 use Rattle.sg_run.proofs.Steps.{went_null, went_misses, went_finds, went_getd}
 use Rattle.sg_run.proofs.mutator.Mutator.get_number.Goals as goal
 

@@ -1,6 +1,8 @@
-use Rattle.std.proofs.Common.{◌≤◌, ◌+◌, refl, arith}
-use Rattle.sg_run.specs.Views.{words_of, layout_of, actor_of}
-use Rattle.sg_run.proofs.Steps.{went_bumps, went_looks, went_then}
+use Rattle.std.proofs.Common.{◌≤◌, ◌+◌, length, inl, inr, refl, arith}
+use Rattle.std.proofs.lemmas.Bool.{cases_eq}
+use Rattle.sg_space.specs.Space.{words_of}
+use Rattle.sg_run.specs.Views.{layout_of, actor_of}
+use Rattle.sg_run.proofs.Steps.{went_none, went_bumps, went_looks, went_asks, went_then}
 use Rattle.sg_run.proofs.mutator.Mutator.take.Goals as goal
 
 pub returns-then-words-saturating_sub-clause-went : goal.returns-then-words-saturating_sub-clause-went
@@ -20,9 +22,14 @@ pub returns-in_default-clause-went : goal.returns-in_default-clause-went
 returns-in_default-clause-went c =
     let s = c.args.space.now in
     let m = c.args.self.now in
+    let found = c.in_default.ensures.none in
     record {
-      went = λ rest r class e. went_looks c.args.program.now (layout_of s) (actor_of m rest) rest (words_of s) c.requires.going r class c.args.words _ _ e (omega (arith, c.saturating_sub.ensures)) c.requires.space.some
-          (c.in_default.ensures.none c.args.program.now (actor_of m rest) rest r class e);
+      went = λ rest r class e. elim (cases_eq (length s.ends) 0) [
+        | inl none ↦ went_asks c.args.program.now (layout_of s) (actor_of m rest) rest (words_of s) c.requires.going r class c.args.words _ _ e (omega (arith, c.saturating_sub.ensures)) none
+            (went_none c.args.program.now (layout_of s) _ _ _ _ refl refl)
+        | inr some ↦ went_looks c.args.program.now (layout_of s) (actor_of m rest) rest (words_of s) c.requires.going r class c.args.words _ _ e (omega (arith, c.saturating_sub.ensures)) (omega arith)
+            (found.went (omega arith) c.args.program.now (actor_of m rest) rest r class e)
+      ];
       space = refl;
       mutator = refl;
     }
@@ -34,9 +41,9 @@ returns-clause-went c =
     let room = c.in-Some.room in
     let found = c.in-Some.ensures.found in
     record {
-      went = λ rest r class e. went_looks c.args.program.now (layout_of s) (actor_of m rest) rest (words_of s) c.requires.going r class c.args.words _ _ e (omega (arith, c.saturating_sub.ensures)) c.requires.space.some
+      went = λ rest r class e. went_looks c.args.program.now (layout_of s) (actor_of m rest) rest (words_of s) c.requires.going r class c.args.words _ _ e (omega (arith, c.saturating_sub.ensures)) (omega (arith, found.there))
           (went_then c.args.program.now (layout_of s) _ _ _ _ _ _ (found.went c.args.program.now (actor_of m rest) rest r class e) (c.claim.ensures.went rest r class e));
       above = found.above;
-      inside = omega (arith, found.room, c.requires.space.limits room.fragment found.there);
+      inside = omega (arith, found.room, c.requires.space.ends room.fragment found.there);
       answers = c.claim.ensures.answers;
     }

@@ -1,0 +1,18 @@
+-- A worked row of the order: two slots lead to four objects, of which one fits.
+use Rattle.std.proofs.Common.{ℕ, get_or, true, [], ◌∷◌, inl, inr, refl, arith}
+use Rattle.sg_copy.specs.Area.{Area}
+use Rattle.sg_copy.specs.Order.{IsInOrder}
+
+-- the words 1 and 2 refer to the objects 3 and 6; 3 refers to 10, and 6 to 3 and 12
+abbrev pub row : ℕ → ℕ
+row x = get_or (0 ∷ 24 ∷ 48 ∷ 8 ∷ 1 ∷ 80 ∷ 8 ∷ 2 ∷ 24 ∷ 96 ∷ 8 ∷ 0 ∷ 8 ∷ 0 ∷ []) x 0
+
+abbrev pub row_area : Area
+row_area = record { low = 3; high = 20; limit = 22; strong = λ c i. true }
+
+pub row_order : IsInOrder row_area row (1 ∷ 2 ∷ []) 20 (10 ∷ []) (3 ∷ 6 ∷ 12 ∷ []) 22
+row_order = record {
+  found = 3 ∷ 6 ∷ 10 ∷ 12 ∷ [];
+  order = refl;
+  parts = inr (6 ∷ 12 ∷ [], refl, omega arith, inr (12 ∷ [], refl, omega arith, inl ([], refl, omega arith, inr ([], refl, omega arith, (refl, refl, refl)))));
+}

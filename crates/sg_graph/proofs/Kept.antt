@@ -1,0 +1,43 @@
+-- What an ambiguous word points into stands after a pause, where it stood.
+use Rattle.std.proofs.Common.{◌≡◌, ◌≢◌, ℕ, zero, suc, true, List, inl, inr, sym, ap, ◌∙◌, subst, arith, le_refl}
+use Rattle.std.specs.List.{Contains}
+use Rattle.sg_words.specs.Address.{byte_at}
+use Rattle.sg_words.specs.declared.pieces.Move.{Move}
+use Rattle.sg_graph.specs.declared.program.Program.{Program}
+use Rattle.sg_graph.specs.declared.reports.MinorReport.{MinorReport}
+use Rattle.sg_graph.specs.Graph.{Graph}
+use Rattle.sg_graph.specs.Reach.{Rounds}
+use Rattle.sg_graph.specs.Book.{Book, IsWordOf, IsApart}
+use Rattle.sg_graph.specs.Pause.{IsPointedInto}
+use Rattle.sg_graph.specs.Minor.{move_of, IsMinorPause}
+
+-- a root is reached by any number of rounds
+pub root_stays : (target : ℕ → ℕ → Type 0) (root : ℕ → Type 0) (k n : ℕ) → root n → Rounds target root k n
+root_stays target root zero n r = r
+root_stays target root (suc k) n r = inl (root_stays target root k n r)
+
+-- a standing object's first word is its own
+first_word : (g : Graph) (b : Book) (n : ℕ) → n ≢ 0 → b.stands n ≡ true → IsWordOf g b n (b.address n)
+first_word g b n d q = record { some = omega (arith, d); stands = q; above = le_refl _; below = omega arith }
+
+pub kept_in_place : (p : Program) (g : Graph) (b : Book) (ambiguous : List ℕ) (report : MinorReport) (h : Graph) (c : Book) → IsApart p g b → IsMinorPause p g b ambiguous report h c →
+    (n : ℕ) → n ≢ 0 → b.stands n ≡ true → IsPointedInto g b ambiguous n → (c.stands n ≡ true) × (c.address n ≡ b.address n)
+kept_in_place p g b ambiguous report h c apart pause n d q points = (
+  stands,
+  elim (pause.still n d stands) [
+    | inl s ↦ s.address
+    | inr m ↦ absurd (moved m)
+  ],
+)
+  where
+    stands : c.stands n ≡ true
+    stands = pause.stands n d ∙ (pause.pause.keeps n d).1 (root_stays _ _ g.count n (d, q, inr (inr (inl points))))
+
+    moved : Contains report.moves (move_of b c n) → ⊥
+    moved m =
+        let o = pause.lines.moves (move_of b c n) m in
+        let young = o.1.young in
+        let same : byte_at (b.address n) ≡ byte_at (b.address o.0) = ap (λ (move : Move). move.from) o.3 in
+        let at : b.address n ≡ b.address o.0 = omega arith in
+        let e : n ≡ o.0 = apart.apart n o.0 (b.address n) (first_word g b n d q) (subst (λ x. IsWordOf g b o.0 x) (sym at) (first_word g b o.0 young.0 young.1)) in
+        o.1.loose (young, subst (IsPointedInto g b ambiguous) e points)

@@ -1,0 +1,369 @@
+-- The book after a pause: what is kept, where it stands, and whose word each word is.
+use Rattle.std.proofs.Common.{◌≡◌, ◌≢◌, ℕ, ◌+◌, ◌≤◌, ◌<◌, ◌⊎◌, cond, Bool, true, false, List, length, sym, ap, ◌∙◌, subst, inl, inr, arith, le_refl}
+use Rattle.std.proofs.lemmas.Bool.{cond-true, cond-false, cases_eq, cases_lt, cases_Bool}
+use Rattle.sg_words.specs.declared.pieces.Piece.{Piece}
+use Rattle.sg_words.specs.Pieces.{fronts_of}
+use Rattle.sg_graph.specs.declared.program.Program.{Program}
+use Rattle.sg_graph.specs.Scripts.{words_for}
+use Rattle.sg_graph.specs.Graph.{Graph}
+use Rattle.sg_graph.specs.Book.{Book, Section, Young, Old, nursery_base, nursery_end, old_end}
+use Rattle.sg_space.specs.declared.objects.Object.{Object}
+use Rattle.sg_space.specs.Heap.{Owner, Of, Frag, Buf, Nobody, IsHeap, layout_of}
+use Rattle.sg_copy.specs.Area.{Area, In, has, IsYoung, size_of}
+use Rattle.sg_copy.proofs.Members.{out, placed-grows, placed-in}
+use Rattle.sg_minor.specs.Pieces.{IsTaken, ArePieces}
+use Rattle.sg_minor.specs.Joined.{IsKept, IsTraced, IsPictured, IsPicture}
+use Rattle.sg_minor.specs.Law.{HaveWords}
+use Rattle.sg_minor.proofs.Ranges.{ranged, ranged-in, ranged-out, ranged-cases}
+use Rattle.sg_minor.proofs.Owners.{settled, settled-below, settled-above, settled-in, placed-of}
+use Rattle.sg_minor.proofs.Names.{IsAreaOf, of-same, IsNamed, young-is, is-young-at, same-name, IsIn, IsOut, section, young-section, size-is, name-of, reached-young, young, young-yes, young-no, is-young, kept, keeps, kept-stands, kept-has, kept-nothing}
+use Rattle.sg_minor.proofs.Tiles.{next_of, limit_of, IsTile, tile, tiles-apart}
+
+-- A pause that has ended: the words w before it hold the graph, and the words v after it are their picture.
+pub record Ended : Type 0 where
+  pub p : Program
+  pub area : Area
+  pub w : ℕ → ℕ
+  pub v : ℕ → ℕ
+  pub g : Graph
+  pub b : Book
+  pub ambiguous : List ℕ
+  pub stays : List ℕ
+  pub moves : List ℕ
+  pub m : ℕ → ℕ
+  pub end : ℕ
+  pub owner : ℕ → Owner
+  pub standing : List Object
+  pub pieces : List Piece
+  pub tie : IsAreaOf p area
+  pub heap : IsHeap p w g b owner
+  pub traced : IsTraced p area w g b ambiguous stays moves
+  pub picture : IsPicture p area w g b stays moves m v end
+  pub words : HaveWords standing w stays
+  pub tiles : ArePieces (layout_of p) standing pieces
+
+module _ (c : Ended) where
+  -- what is known before the pause
+  abbrev pub Lies : ℕ → Type 0
+  Lies n = IsIn c.p c.area c.tie c.w c.g c.b c.ambiguous c.owner c.heap n
+
+  abbrev pub LiesOld : ℕ → Type 0
+  LiesOld n = IsOut c.p c.area c.tie c.w c.g c.b c.ambiguous c.owner c.heap n
+
+  pub lies : (n : ℕ) → c.b.stands n ≡ true → n ≢ 0 → Lies n ⊎ LiesOld n
+  lies = section c.p c.area c.tie c.w c.g c.b c.ambiguous c.owner c.heap
+
+  pub in-nursery : (x : ℕ) → IsYoung c.area x → (nursery_base ≤ x) × (x < nursery_end c.p)
+  in-nursery = young-is c.p c.area c.tie c.w c.g c.b c.ambiguous c.owner c.heap
+
+  pub young-at : (x : ℕ) → nursery_base ≤ x → x < nursery_end c.p → IsYoung c.area x
+  young-at = is-young-at c.p c.area c.tie c.w c.g c.b c.ambiguous c.owner c.heap
+
+  pub sizes : (n : ℕ) → n ≢ 0 → c.b.stands n ≡ true → size_of c.w (c.b.address n) ≡ words_for (c.g.size n)
+  sizes n d s = ap (λ (z : ℕ). z + 2) (size-is c.p c.area c.tie c.w c.g c.b c.ambiguous c.owner c.heap n d s)
+
+  pub one-name : (k n : ℕ) → c.b.stands k ≡ true → c.b.stands n ≡ true → c.b.address k ≡ c.b.address n → k ≡ n
+  one-name = same-name c.p c.area c.tie c.w c.g c.b c.ambiguous c.owner c.heap
+
+  pub names : (a : ℕ) → IsKept c.stays c.moves a → IsNamed c.p c.area c.tie c.w c.g c.b c.ambiguous c.owner c.heap a
+  names a h = name-of c.p c.area c.tie c.w c.g c.b c.ambiguous c.owner c.heap a (c.traced.reached a h)
+
+  pub kept-young : (a : ℕ) → IsKept c.stays c.moves a → IsYoung c.area a
+  kept-young a h = reached-young c.p c.area c.tie c.w c.g c.b c.ambiguous c.owner c.heap a (c.traced.reached a h)
+
+  pub young-or : (a : ℕ) → IsYoung c.area a ⊎ (IsYoung c.area a → ⊥)
+  young-or = is-young c.p c.area c.tie c.w c.g c.b c.ambiguous c.owner c.heap
+
+  pub section-young : (n : ℕ) → c.b.stands n ≡ true → IsYoung c.area (c.b.address n) → c.b.section n ≡ Young
+  section-young = young-section c.p c.area c.tie c.w c.g c.b c.ambiguous c.owner c.heap
+
+  -- what stands after it
+  abbrev pub stands_on : ℕ → Bool
+  stands_on = kept c.p c.area c.tie c.w c.g c.b c.ambiguous c.owner c.heap c.stays c.moves c.traced
+
+  pub stood : (n : ℕ) → stands_on n ≡ true → c.b.stands n ≡ true
+  stood = kept-stands c.p c.area c.tie c.w c.g c.b c.ambiguous c.owner c.heap c.stays c.moves c.traced
+
+  pub is-kept : (n : ℕ) → stands_on n ≡ true → IsYoung c.area (c.b.address n) → IsKept c.stays c.moves (c.b.address n)
+  is-kept = kept-has c.p c.area c.tie c.w c.g c.b c.ambiguous c.owner c.heap c.stays c.moves c.traced
+
+  pub stands-nothing : stands_on 0 ≡ true
+  stands-nothing = kept-nothing c.p c.area c.tie c.w c.g c.b c.ambiguous c.owner c.heap c.stays c.moves c.traced
+
+  pub stands-kept : (n : ℕ) → c.b.stands n ≡ true → (IsYoung c.area (c.b.address n) → IsKept c.stays c.moves (c.b.address n)) → stands_on n ≡ true
+  stands-kept = keeps c.p c.area c.tie c.w c.g c.b c.ambiguous c.owner c.heap c.stays c.moves c.traced
+
+  -- the new book
+  abbrev pub section_of : ℕ → Section
+  section_of n = cond (has (c.b.address n) c.moves) Old (c.b.section n)
+
+  abbrev pub count : ℕ
+  count = length (fronts_of c.pieces)
+
+  abbrev pub booked : Book
+  booked = record {
+    stands = stands_on;
+    address = λ n. c.m (c.b.address n);
+    section = section_of;
+    fill = c.end;
+    fragments = count;
+    next = next_of c.pieces;
+    limit = limit_of c.pieces;
+    from = λ _. 0;
+    to = λ _. 0;
+  }
+
+  not-moved : (a : ℕ) → (IsYoung c.area a → ⊥) → has a c.moves ≡ false
+  not-moved a n = out a c.moves (λ h. n (kept-young a (inr h)))
+
+  pub unmoved : (a : ℕ) → (IsYoung c.area a → ⊥) → c.m a ≡ a
+  unmoved a n = c.picture.others a (not-moved a n)
+
+  pub unmoved-stays : (a : ℕ) → In a c.stays → c.m a ≡ a
+  unmoved-stays a h = c.picture.others a (c.traced.apart a h)
+
+  pub fill-grows : c.b.fill ≤ c.end
+  fill-grows = placed-grows c.w c.m c.b.fill c.moves c.end c.picture.placed
+
+  pub end-within : c.end ≤ old_end c.p
+  end-within = let room = c.picture.room in let limit = c.tie.limit in omega arith
+
+  pub fill-from : nursery_end c.p ≤ c.b.fill
+  fill-from = c.heap.laid.objects.filled.0
+
+  -- where a kept object stands
+  pub data Place (n : ℕ) : Type 0 where
+    Stayed : Lies n → In (c.b.address n) c.stays → section_of n ≡ Young → c.m (c.b.address n) ≡ c.b.address n → Place n
+    Moved : Lies n → In (c.b.address n) c.moves → section_of n ≡ Old → c.b.fill ≤ c.m (c.b.address n) → c.m (c.b.address n) + words_for (c.g.size n) ≤ c.end → Place n
+    Older : LiesOld n → section_of n ≡ Old → c.m (c.b.address n) ≡ c.b.address n → Place n
+
+  pub place : (n : ℕ) → n ≢ 0 → stands_on n ≡ true → Place n
+  place n d k =
+      let s = stood n k in
+      elim (lies n s d) [
+        | inl i ↦ elim (is-kept n k i.young) [
+          | inl h ↦ Stayed i h (cond-false _ _ _ (c.traced.apart (c.b.address n) h) ∙ i.section) (unmoved-stays (c.b.address n) h)
+          | inr h ↦ (let q = placed-in c.w c.m c.b.fill c.moves c.end c.picture.placed (c.b.address n) h in
+              Moved i h (cond-true _ _ _ h) q.0 (let u = q.1 in let z = sizes n d s in omega arith))
+        ]
+        | inr o ↦ Older o (cond-false _ _ _ (not-moved (c.b.address n) o.old) ∙ o.section) (unmoved (c.b.address n) o.old)
+      ]
+
+  pub pictured : (n : ℕ) → n ≢ 0 → c.b.stands n ≡ true → Place n → IsPictured c.area c.w c.v c.m (c.b.address n)
+  pictured n d s (Stayed i h q e) = c.picture.stayed (c.b.address n) h
+  pictured n d s (Moved i h q l u) = c.picture.moved (c.b.address n) h
+  pictured n d s (Older o q e) = c.picture.old n d s o.section
+
+  pub unmoved-nil : c.m (c.b.address 0) ≡ c.b.address 0
+  unmoved-nil = unmoved (c.b.address 0) (λ y. let z = c.heap.laid.nothing.at_nil in let l = (in-nursery (c.b.address 0) y).0 in omega arith)
+
+  pub nil-at : c.m (c.b.address 0) ≡ 0
+  nil-at = unmoved-nil ∙ c.heap.laid.nothing.at_nil
+
+  -- Whose word each word is: of the nursery, what stayed keeps its own and the fragments are new; a copy has the owner of its
+  -- original.
+  abbrev pub stayed : Owner → Owner
+  stayed (Of n) = cond (has (c.b.address n) c.stays) (Of n) Nobody
+  stayed (Frag f) = Nobody
+  stayed (Buf k) = Nobody
+  stayed Nobody = Nobody
+
+  abbrev pub owner1 : ℕ → Owner
+  owner1 x = cond (young c.p c.area c.tie c.w c.g c.b c.ambiguous c.owner c.heap x) (stayed (c.owner x)) (c.owner x)
+
+  abbrev pub owner2 : ℕ → Owner
+  owner2 = ranged owner1 (next_of c.pieces) (limit_of c.pieces) Frag count
+
+  abbrev pub owner3 : ℕ → Owner
+  owner3 = settled c.w c.m c.owner c.b.fill c.moves owner2
+
+  owner1-young : (x : ℕ) → IsYoung c.area x → owner1 x ≡ stayed (c.owner x)
+  owner1-young x y = cond-true _ _ _ (young-yes c.p c.area c.tie c.w c.g c.b c.ambiguous c.owner c.heap x y)
+
+  owner1-old : (x : ℕ) → (IsYoung c.area x → ⊥) → owner1 x ≡ c.owner x
+  owner1-old x n = cond-false _ _ _ (young-no c.p c.area c.tie c.w c.g c.b c.ambiguous c.owner c.heap x n)
+
+  pub tile-of : (f : ℕ) → f < count → IsTile (layout_of c.p) c.standing c.pieces f
+  tile-of = tile (layout_of c.p) c.standing c.pieces c.tiles
+
+  -- a fragment's word is one of the nursery
+  pub tile-young : (f x : ℕ) → f < count → next_of c.pieces f ≤ x → x < limit_of c.pieces f → IsYoung c.area x
+  tile-young f x l q u =
+      let i = tile-of f l in
+      let from = i.gap.from in
+      let within = i.gap.within in
+      let behind = i.behind in
+      young-at x (omega arith) (omega arith)
+
+  pub tile-free : (f x : ℕ) → f < count → next_of c.pieces f ≤ x → x < limit_of c.pieces f → IsTaken c.standing x → ⊥
+  tile-free f x l q u = let i = tile-of f l in let behind = i.behind in i.gap.free x q (omega arith)
+
+  owner2-old : (x : ℕ) → (IsYoung c.area x → ⊥) → owner2 x ≡ c.owner x
+  owner2-old x n = ranged-out owner1 (next_of c.pieces) (limit_of c.pieces) Frag count x (λ j l q u. n (tile-young j x l q u)) ∙ owner1-old x n
+
+  owner3-below : (x : ℕ) → x < c.b.fill → owner3 x ≡ owner2 x
+  owner3-below x l = settled-below c.w c.m c.owner c.b.fill c.moves owner2 x l
+
+  owner3-old : (x : ℕ) → (IsYoung c.area x → ⊥) → x < c.b.fill → owner3 x ≡ c.owner x
+  owner3-old x n l = owner3-below x l ∙ owner2-old x n
+
+  young-below : (x : ℕ) → IsYoung c.area x → x < c.b.fill
+  young-below x y = let l = (in-nursery x y).1 in let z = fill-from in omega arith
+
+  old-out : (x : ℕ) → nursery_end c.p ≤ x → IsYoung c.area x → ⊥
+  old-out x l y = let u = (in-nursery x y).1 in omega arith
+
+  stayed-of : (o : Owner) (n : ℕ) → stayed o ≡ Of n → (o ≡ Of n) × In (c.b.address n) c.stays
+  stayed-of (Of k) n e = elim (cases_Bool (has (c.b.address k) c.stays)) [
+    | inl h ↦ (let q : Of k ≡ Of n = sym (cond-true _ _ _ h) ∙ e in (q, subst (λ j. In (c.b.address j) c.stays) (of-same k n q) h))
+    | inr h ↦ absurd (let q : Nobody ≡ Of n = sym (cond-false _ (Of k) Nobody h) ∙ e in cc)
+  ]
+  stayed-of (Frag f) n e = absurd (let q : Nobody ≡ Of n = e in cc)
+  stayed-of (Buf k) n e = absurd (let q : Nobody ≡ Of n = e in cc)
+  stayed-of Nobody n e = absurd (let q : Nobody ≡ Of n = e in cc)
+
+  -- the words of what stayed
+  pub taken : (a x : ℕ) → In a c.stays → a ≤ x → x < a + size_of c.w a → IsTaken c.standing x
+  taken a x h l u = (c.words x).1 (a, h, l, u)
+
+  -- each word of a fragment is its own
+  pub frag-owns : (f x : ℕ) → f < count → next_of c.pieces f ≤ x → x < limit_of c.pieces f → owner3 x ≡ Frag f
+  frag-owns f x l q u =
+      owner3-below x (young-below x (tile-young f x l q u))
+      ∙ ranged-in owner1 (next_of c.pieces) (limit_of c.pieces) Frag count f x l
+      (λ j more there low high. (let o = tiles-apart (layout_of c.p) c.standing c.pieces c.tiles f j more there in omega arith)) q u
+
+  -- each word of a kept object is its own
+  nothing-owns : (n x : ℕ) → n ≡ 0 → c.m (c.b.address n) ≤ x → x < c.m (c.b.address n) + words_for (c.g.size n) → owner3 x ≡ Of n
+  nothing-owns n x z l u =
+      let a : c.b.address n ≡ 0 = ap c.b.address z ∙ c.heap.laid.nothing.at_nil in
+      let e : c.m (c.b.address n) ≡ 0 = ap (λ (k : ℕ). c.m (c.b.address k)) z ∙ nil-at in
+      let i : c.g.size n ≡ 0 = ap c.g.size z ∙ c.heap.laid.nothing.no_size in
+      let f = fill-from in
+      let s : c.b.stands n ≡ true = ap c.b.stands z ∙ c.heap.laid.nothing.stands_nil in
+      owner3-old x (λ y. let k = (in-nursery x y).0 in omega arith) (omega arith)
+      ∙ c.heap.laid.objects.owns n x s (omega arith) (omega arith)
+
+  object-owns : (n x : ℕ) → n ≢ 0 → c.b.stands n ≡ true → Place n → c.m (c.b.address n) ≤ x → x < c.m (c.b.address n) + words_for (c.g.size n) → owner3 x ≡ Of n
+  object-owns n x d s (Stayed i h q e) l u =
+      let z = sizes n d s in
+      let above = i.above in
+      let below = i.below in
+      let from : c.b.address n ≤ x = omega arith in
+      let to : x < c.b.address n + words_for (c.g.size n) = omega arith in
+      let y : IsYoung c.area x = young-at x (omega arith) (omega arith) in
+      let has-it = taken (c.b.address n) x h from (omega arith) in
+      owner3-below x (young-below x y)
+      ∙ ranged-out owner1 (next_of c.pieces) (limit_of c.pieces) Frag count x (λ j k l1 u1. tile-free j x k l1 u1 has-it)
+      ∙ owner1-young x y
+      ∙ ap stayed (c.heap.laid.objects.owns n x s from to)
+      ∙ cond-true _ (Of n) Nobody h
+  object-owns n x d s (Moved i h q low high) l u =
+      let z = sizes n d s in
+      settled-in c.w c.m c.owner c.b.fill c.moves owner2 c.end c.picture.placed (c.b.address n) x h l (omega arith)
+      ∙ c.heap.laid.objects.owns n (c.b.address n) s (le_refl _) (omega arith)
+  object-owns n x d s (Older o q e) l u =
+      let above = o.above in
+      let below = o.below in
+      owner3-old x (old-out x (omega arith)) (omega arith)
+      ∙ c.heap.laid.objects.owns n x s (omega arith) (omega arith)
+
+  pub owns : (n x : ℕ) → stands_on n ≡ true → c.m (c.b.address n) ≤ x → x < c.m (c.b.address n) + words_for (c.g.size n) → owner3 x ≡ Of n
+  owns n x k l u = elim (cases_eq n 0) [
+    | inl z ↦ nothing-owns n x z l u
+    | inr d ↦ object-owns n x d (stood n k) (place n d k) l u
+  ]
+
+  -- and no other word is
+  abbrev pub HasWord : ℕ → ℕ → Type 0
+  HasWord n x = (stands_on n ≡ true) × (c.m (c.b.address n) ≤ x) × (x < c.m (c.b.address n) + words_for (c.g.size n))
+
+  stayed-owned : (n x : ℕ) → c.owner x ≡ Of n → In (c.b.address n) c.stays → HasWord n x
+  stayed-owned n x o h =
+      let q = c.heap.laid.objects.owned n x o in
+      let e = unmoved-stays (c.b.address n) h in
+      let l = q.1 in
+      let u = q.2 in
+      (stands-kept n q.0 (λ _. inl h), omega arith, omega arith)
+
+  old-owned : (n x : ℕ) → c.owner x ≡ Of n → (IsYoung c.area x → ⊥) → x < c.b.fill → HasWord n x
+  old-owned n x o out below =
+      let q = c.heap.laid.objects.owned n x o in
+      let l = q.1 in
+      let u = q.2 in
+      let old : IsYoung c.area (c.b.address n) → ⊥ = λ y. elim (cases_eq n 0) [
+        | inl z ↦ (let a : c.b.address n ≡ 0 = ap c.b.address z ∙ c.heap.laid.nothing.at_nil in let k = (in-nursery (c.b.address n) y).0 in omega arith)
+        | inr d ↦ elim (lies n q.0 d) [
+          | inl i ↦ (let above = i.above in let within = i.below in out (young-at x (omega arith) (omega arith)))
+          | inr i ↦ i.old y
+        ]
+      ] in
+      let e = unmoved (c.b.address n) old in
+      (stands-kept n q.0 (λ y. absurd (old y)), omega arith, omega arith)
+
+  abbrev pub copied-of : (x : ℕ) → c.b.fill ≤ x → x < c.end → (a : ℕ) × In a c.moves × (c.m a ≤ x) × (x < c.m a + size_of c.w a)
+  copied-of x l u = placed-of c.w c.m c.b.fill c.moves c.end c.picture.placed x l u
+
+  copied-owner : (a x n : ℕ) → In a c.moves → c.m a ≤ x → x < c.m a + size_of c.w a → c.b.stands n ≡ true → c.b.address n ≡ a → owner3 x ≡ Of n
+  copied-owner a x n h l u s e =
+      settled-in c.w c.m c.owner c.b.fill c.moves owner2 c.end c.picture.placed a x h l u
+      ∙ ap c.owner (sym e)
+      ∙ c.heap.laid.objects.owns n (c.b.address n) s (le_refl _) (omega arith)
+
+  copied-owned : (n x : ℕ) → owner3 x ≡ Of n → c.b.fill ≤ x → x < c.end → HasWord n x
+  copied-owned n x o l u =
+      let q = copied-of x l u in
+      let k = names q.0 (inr q.1) in
+      let e : k.name ≡ n = of-same k.name n (sym (copied-owner q.0 x k.name q.1 q.2 q.3 k.stands k.at) ∙ o) in
+      let at : c.b.address n ≡ q.0 = ap c.b.address (sym e) ∙ k.at in
+      let s : c.b.stands n ≡ true = ap c.b.stands (sym e) ∙ k.stands in
+      let d : n ≢ 0 = λ z. k.some (e ∙ z) in
+      let m-at = ap c.m at in
+      let size = sizes n d s in
+      let size-at : size_of c.w (c.b.address n) ≡ size_of c.w q.0 = ap (λ (z : ℕ). size_of c.w z) at in
+      let low = q.2 in
+      let high = q.3 in
+      (stands-kept n s (λ _. inr (subst (λ z. In z c.moves) (sym at) q.1)), omega arith, omega arith)
+
+  behind-owned : (n x : ℕ) → owner3 x ≡ Of n → c.end ≤ x → HasWord n x
+  behind-owned n x o l =
+      let grows = fill-grows in
+      let from = fill-from in
+      let e = sym (settled-above c.w c.m c.owner c.b.fill c.moves owner2 c.end x c.picture.placed l ∙ owner2-old x (old-out x (omega arith))) ∙ o in
+      let q = c.heap.laid.objects.owned n x e in
+      let low = q.1 in
+      let high = q.2 in
+      elim (cases_eq n 0) [
+        | inl z ↦ (let a : c.b.address n ≡ 0 = ap c.b.address z ∙ c.heap.laid.nothing.at_nil in let i : c.g.size n ≡ 0 = ap c.g.size z ∙ c.heap.laid.nothing.no_size in absurd (omega arith))
+        | inr d ↦ elim (lies n q.0 d) [
+          | inl i ↦ (let within = i.below in absurd (omega arith))
+          | inr i ↦ (let within = i.below in absurd (omega arith))
+        ]
+      ]
+
+  below-owned : (n x : ℕ) → owner3 x ≡ Of n → x < c.b.fill → HasWord n x
+  below-owned n x o below = elim (young-or x) [
+    | inr out ↦ old-owned n x (sym (owner3-old x out below) ∙ o) out below
+    | inl y ↦ elim (ranged-cases (next_of c.pieces) (limit_of c.pieces) count x) [
+      | inl f ↦ absurd (let e : Frag f.0 ≡ Of n = sym (frag-owns f.0 x f.1 f.2 f.3) ∙ o in cc)
+      | inr none ↦ (let e = sym (owner3-below x below ∙ ranged-out owner1 (next_of c.pieces) (limit_of c.pieces) Frag count x none ∙ owner1-young x y) ∙ o in
+          let q = stayed-of (c.owner x) n e in
+          stayed-owned n x q.0 q.1)
+    ]
+  ]
+
+  pub owned : (n x : ℕ) → owner3 x ≡ Of n → HasWord n x
+  owned n x o = elim (cases_lt x c.b.fill) [
+    | inl below ↦ below-owned n x o below
+    | inr above ↦ elim (cases_lt x c.end) [
+      | inl inside ↦ copied-owned n x o above inside
+      | inr behind ↦ behind-owned n x o behind
+    ]
+  ]
+
+  -- each word of the filled part of the major heap is some object's
+  pub packed : (x : ℕ) → nursery_end c.p ≤ x → x < c.end → (n : ℕ) × (owner3 x ≡ Of n)
+  packed x l u = elim (cases_lt x c.b.fill) [
+    | inl below ↦ (let q = c.heap.laid.objects.packed x l below in (q.0, owner3-old x (old-out x l) below ∙ q.1))
+    | inr above ↦ (let q = copied-of x above u in let k = names q.0 (inr q.1) in (k.name, copied-owner q.0 x k.name q.1 q.2 q.3 k.stands k.at))
+  ]

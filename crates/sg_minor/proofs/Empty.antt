@@ -1,0 +1,118 @@
+-- A space before its first object holds the graph without objects.
+use Rattle.std.proofs.Common.{◌≡◌, ℕ, zero, suc, ◌+◌, ◌<◌, ◌≤◌, ◌⊎◌, inl, inr, eqb, ltb, cond, map, true, false, refl, sym, ap, ◌∙◌, subst, arith, slice_index}
+use Rattle.std.proofs.lemmas.Bool.{cond-true, cond-false, cases_Bool, eqb-true, ltb-true, lt-ltb, le-ltb}
+use Rattle.std.proofs.lemmas.List.{get_or-replicate}
+use Rattle.sg_words.specs.Address.{byte_at}
+use Rattle.sg_graph.specs.declared.program.Class.{Class}
+use Rattle.sg_graph.specs.declared.program.Program.{Program}
+use Rattle.sg_graph.specs.Graph.{no_objects}
+use Rattle.sg_graph.specs.Book.{empty_book, nursery_base, nursery_end}
+use Rattle.sg_space.specs.Sections.{globals_base, words_end}
+use Rattle.sg_space.specs.Space.{Contents, clear_space}
+use Rattle.sg_space.specs.Standing.{word}
+use Rattle.sg_space.specs.Heap.{Owner, Of, Frag, Nobody, IsLaid, HoldsHeap, layout_of}
+use Rattle.sg_minor.specs.Parts.{HoldsSome}
+use Rattle.sg_minor.proofs.Names.{of-same}
+
+module _ (p : Program) where
+  abbrev empty_space : Contents
+  empty_space = clear_space (layout_of p) (map (λ (class : Class). class.shape) p.classes)
+
+  -- nothing has the words 0 and 1, and the one fragment has the nursery
+  abbrev owner_in : ℕ → Owner
+  owner_in x = cond (ltb x 2) (Of 0) (cond (ltb x 512) Nobody (cond (ltb x (nursery_end p)) (Frag 0) Nobody))
+
+  at_nothing : (x : ℕ) → x < 2 → owner_in x ≡ Of 0
+  at_nothing x l = cond-true _ _ _ (lt-ltb x 2 l)
+
+  in_nursery : (x : ℕ) → 512 ≤ x → x < nursery_end p → owner_in x ≡ Frag 0
+  in_nursery x from to = cond-false _ _ _ (le-ltb x 2 (omega arith)) ∙ cond-false _ _ _ (le-ltb x 512 from) ∙ cond-true _ _ _ (lt-ltb x (nursery_end p) to)
+
+  not_of : (n : ℕ) (o : Owner) → (o ≡ Nobody) ⊎ (o ≡ Frag 0) → o ≡ Of n → ⊥
+  not_of n o (inl e) f = let z : Nobody ≡ Of n = sym e ∙ f in cc
+  not_of n o (inr e) f = let z : Frag 0 ≡ Of n = sym e ∙ f in cc
+
+  other : (x : ℕ) → ltb x 2 ≡ false → (owner_in x ≡ Nobody) ⊎ (owner_in x ≡ Frag 0)
+  other x e = elim (cases_Bool (ltb x 512)) [
+    | inl low ↦ inl (cond-false _ _ _ e ∙ cond-true _ _ _ low)
+    | inr up ↦ elim (cases_Bool (ltb x (nursery_end p))) [
+      | inl young ↦ inr (cond-false _ _ _ e ∙ cond-false _ _ _ up ∙ cond-true _ _ _ young)
+      | inr old ↦ inl (cond-false _ _ _ e ∙ cond-false _ _ _ up ∙ cond-false _ _ _ old)
+    ]
+  ]
+
+  of_nothing : (n x : ℕ) → owner_in x ≡ Of n → (n ≡ 0) × (x < 2)
+  of_nothing n x e = elim (cases_Bool (ltb x 2)) [
+    | inl l ↦ (sym (of-same 0 n (sym (cond-true _ _ _ l) ∙ e)), ltb-true x 2 l)
+    | inr up ↦ absurd (not_of n (owner_in x) (other x up) e)
+  ]
+
+  nothing_stands : (n : ℕ) → eqb n 0 ≡ true → n ≡ 0
+  nothing_stands n e = eqb-true n 0 e
+
+  all_zero : (x : ℕ) → x < words_end (layout_of p) → word empty_space x ≡ 0
+  all_zero x l = get_or-replicate (words_end (layout_of p)) x 0 0 l
+
+  first_next : (f : ℕ) → f < 1 → slice_index empty_space.next f ≡ byte_at nursery_base
+  first_next zero l = refl
+  first_next (suc f) l = absurd (omega arith)
+
+  first_end : (f : ℕ) → f < 1 → slice_index empty_space.ends f ≡ byte_at (nursery_end p)
+  first_end zero l = refl
+  first_end (suc f) l = absurd (omega arith)
+
+  empty_laid : IsLaid p (word empty_space) (no_objects p) (empty_book p) owner_in
+  empty_laid = record {
+    nothing = record { stands_nil = refl; at_nil = refl; no_size = refl };
+    objects = record {
+      given = λ n stands. let e = nothing_stands n stands in omega arith;
+      shaped = λ n some stands. let e = nothing_stands n stands in absurd (omega arith);
+      owns = λ n x stands from to. at_nothing x (omega arith) ∙ ap Of (sym (nothing_stands n stands));
+      owned = λ n x e. let q = of_nothing n x e in let l = q.1 in (ap (λ z. eqb z 0) q.0, omega arith, omega arith);
+      inside = λ n some stands. let e = nothing_stands n stands in absurd (omega arith);
+      filled = (omega arith, omega arith);
+      packed = λ x from to. absurd (omega arith);
+    };
+    fields = record {
+      holds = λ n i stands l. absurd (omega arith);
+      known = λ n i stands l. absurd (omega arith);
+      sorted = λ n i stands l. absurd (omega arith);
+    };
+    globals = record {
+      holds = λ x l. all_zero (globals_base (layout_of p) + x) (omega arith);
+      stand = λ x l. refl;
+      empty = λ x from to. all_zero x to;
+    };
+    clear = record { clear = λ x from to none. all_zero x (omega arith) };
+    fragments = record {
+      owns = λ f x l from to. in_nursery x from to ∙ ap Frag (let e : 0 ≡ f = omega arith in e);
+      inside = λ f l. (omega arith, omega arith, omega arith);
+      ordered = λ f j l m. absurd (omega arith);
+    };
+    buffers = record {
+      owns = λ k x from to. absurd (omega arith);
+      inside = λ k l. absurd (omega arith);
+    };
+  }
+
+  pub empty_holds : HoldsHeap p empty_space (no_objects p) (empty_book p)
+  empty_holds = (
+    record {
+      layout = refl;
+      shapes = refl;
+      fragments = refl;
+      same = refl;
+      next = first_next;
+      limit = first_end;
+    },
+    (
+      owner_in,
+      record {
+        laid = empty_laid;
+        headed = λ n some stands. let e = nothing_stands n stands in absurd (omega arith);
+      },
+    ),
+  )
+
+  pub empty_some : (s : Contents) → s ≡ empty_space → HoldsSome s
+  empty_some s e = subst HoldsSome (sym e) (p, no_objects p, empty_book p, empty_holds)

@@ -1,0 +1,150 @@
+-- After a pause the words hold the graph by the new book.
+use Rattle.std.proofs.Common.{◌≡◌, ◌≢◌, ℕ, ◌+◌, ◌≤◌, ◌<◌, ◌⊎◌, cond, Bool, true, false, sym, refl, ap, ◌∙◌, subst, inl, inr, arith}
+use Rattle.std.proofs.lemmas.Bool.{cases_eq, cases_lt}
+use Rattle.sg_desc.specs.Shapes.{holds_reference}
+use Rattle.sg_graph.specs.Scripts.{kind_of, words_for}
+use Rattle.sg_graph.specs.Graph.{Entry, Ref, Int}
+use Rattle.sg_graph.specs.Book.{Young, Old, nursery_base, nursery_end, word_of}
+use Rattle.sg_space.specs.Sections.{ready_base}
+use Rattle.sg_space.specs.Heap.{Of, IsHeaded, IsKnown, IsKnownEntry, IsOfSort, Objects, Fields, Globals, Clear, Fragments, IsHeap, layout_of}
+use Rattle.sg_copy.specs.Area.{In, IsYoung, size_of, is_strong, sent}
+use Rattle.sg_copy.proofs.Members.{sent-at}
+use Rattle.sg_minor.proofs.Names.{some-name, name-some, size-is, strong-of, target-kept, global-kept}
+use Rattle.sg_minor.proofs.Tiles.{next_of, limit_of, tiles-apart}
+use Rattle.sg_minor.proofs.After.{Ended, sizes, names, young-or, stands_on, stood, stands-nothing, stands-kept, booked, section_of, count, fill-grows, end-within, fill-from, Place, Stayed, Moved, Older, place, pictured, nil-at, unmoved-stays, owner3, tile-of, frag-owns, owns, owned, packed}
+
+-- a field is sent where it holds a reference
+entry-word : (address m : ℕ → ℕ) (e : Entry) (strong : Bool) (x : ℕ) → IsOfSort strong e → x ≡ word_of address e → cond strong (sent m x) x ≡ word_of (λ k. m (address k)) e
+entry-word address m (Ref k) true x h e = sent-at m x (address k) e
+entry-word address m (Ref k) false x h e = absurd h
+entry-word address m (Int v) true x h e = absurd h
+entry-word address m (Int v) false x h e = e
+
+sort-of-ref : (z : Bool) (k : ℕ) → IsOfSort z (Ref k) → z ≡ true
+sort-of-ref true k h = refl
+sort-of-ref false k h = absurd h
+
+module _ (c : Ended) where
+  has-field : (n i : ℕ) → i < c.g.size n → n ≢ 0
+  has-field n i l e = let u = ap c.g.size e in let z = c.heap.laid.nothing.no_size in omega arith
+
+  fields-hold : (n i : ℕ) → stands_on c n ≡ true → i < c.g.size n → c.v (c.m (c.b.address n) + 2 + i) ≡ word_of (λ k. c.m (c.b.address k)) (c.g.field n i)
+  fields-hold n i k l =
+      let d = has-field n i l in
+      let s = stood c n k in
+      let len = size-is c.p c.area c.tie c.w c.g c.b c.ambiguous c.owner c.heap n d s in
+      let st = strong-of c.p c.area c.tie c.w c.g c.b c.ambiguous c.owner c.heap n i s d in
+      (pictured c n d s (place c n d k)).fields i (omega arith)
+      ∙ entry-word c.b.address c.m (c.g.field n i) (is_strong c.area c.w (c.b.address n) i) (c.w (c.b.address n + 2 + i))
+      (subst (λ (z : Bool). IsOfSort z (c.g.field n i)) (sym st) (c.heap.laid.fields.sorted n i s l))
+      (c.heap.laid.fields.holds n i s l)
+
+  pub heads : (n : ℕ) → n ≢ 0 → stands_on c n ≡ true → IsHeaded c.v c.g (booked c) n
+  heads n d k =
+      let s = stood c n k in
+      let q = pictured c n d s (place c n d k) in
+      let h = c.heap.headed n (some-name n d) s in
+      (q.first ∙ h.0, q.length ∙ h.1)
+
+  knows : (k : ℕ) → stands_on c k ≡ true → IsKnown c.v c.g (booked c) k
+  knows k s = (
+    s,
+    elim (cases_eq k 0) [
+      | inl z ↦ inl z
+      | inr d ↦ inr (heads k d s)
+    ],
+  )
+
+  target-stands : (n i k : ℕ) → stands_on c n ≡ true → i < c.g.size n → c.g.field n i ≡ Ref k → stands_on c k ≡ true
+  target-stands n i k h l e = elim (cases_eq k 0) [
+    | inl z ↦ subst (λ j. stands_on c j ≡ true) (sym z) (stands-nothing c)
+    | inr d ↦
+        let s = stood c n h in
+        let r = sort-of-ref (holds_reference (kind_of c.p (c.g.class n)) i (c.g.size n)) k (subst (λ z. IsOfSort (holds_reference (kind_of c.p (c.g.class n)) i (c.g.size n)) z) e (c.heap.laid.fields.sorted n i s l)) in
+        target-kept c.p c.area c.tie c.w c.g c.b c.ambiguous c.owner c.heap c.stays c.moves c.traced n k (has-field n i l) h (d, (i, l, r, e))
+  ]
+
+  entry-known : (e : Entry) → ((k : ℕ) → e ≡ Ref k → stands_on c k ≡ true) → IsKnownEntry c.v c.g (booked c) e
+  entry-known (Ref k) h = knows k (h k refl)
+  entry-known (Int v) h = tt
+
+  fields : Fields c.p c.v c.g (booked c)
+  fields = record {
+    holds = fields-hold;
+    known = λ n i k l. entry-known (c.g.field n i) (λ j e. target-stands n i j k l e);
+    sorted = λ n i k l. c.heap.laid.fields.sorted n i (stood c n k) l;
+  }
+
+  pub rows-same : (x : ℕ) → ready_base (layout_of c.p) ≤ x → c.v x ≡ c.w x
+  rows-same x l = let limit = c.tie.limit in c.picture.rows x (omega arith) (λ j u e. omega arith)
+
+  globals : Globals c.p c.v c.g.global (stands_on c) (λ n. c.m (c.b.address n))
+  globals = record {
+    holds = λ x l. c.picture.globals x l ∙ sent-at c.m _ (c.b.address (c.g.global x)) (c.heap.laid.globals.holds x l);
+    stand = global-kept c.p c.area c.tie c.w c.g c.b c.ambiguous c.owner c.heap c.stays c.moves c.traced;
+    empty = λ x l u. rows-same x l ∙ c.heap.laid.globals.empty x l u;
+  }
+
+  place-inside : (n : ℕ) → n ≢ 0 → Place c n →
+      ((section_of c n ≡ Young) × (nursery_base ≤ c.m (c.b.address n)) × (c.m (c.b.address n) + words_for (c.g.size n) ≤ nursery_end c.p))
+      ⊎ ((section_of c n ≡ Old) × (nursery_end c.p ≤ c.m (c.b.address n)) × (c.m (c.b.address n) + words_for (c.g.size n) ≤ c.end))
+  place-inside n d (Stayed i h q e) = let l = i.above in let u = i.below in inl (q, omega arith, omega arith)
+  place-inside n d (Moved i h q l u) = let z = fill-from c in inr (q, omega arith, u)
+  place-inside n d (Older o q e) = let l = o.above in let u = o.below in let z = fill-grows c in inr (q, omega arith, omega arith)
+
+  objects : Objects c.p c.g.count c.g.class c.g.size (stands_on c) (λ n. c.m (c.b.address n)) (section_of c) c.end (owner3 c)
+  objects = record {
+    given = λ n k. c.heap.laid.objects.given n (stood c n k);
+    shaped = λ n l k. c.heap.laid.objects.shaped n l (stood c n k);
+    owns = owns c;
+    owned = owned c;
+    inside = λ n l k. place-inside n (name-some n l) (place c n (name-some n l) k);
+    filled = (let z = fill-from c in let q = fill-grows c in omega arith, end-within c);
+    packed = packed c;
+  }
+
+  -- a nursery word that is no object's is no word of what stayed
+  clear-young : (x : ℕ) → IsYoung c.area x → ((n : ℕ) → owner3 c x ≢ Of n) → c.v x ≡ 0
+  clear-young x y out = c.picture.swept x y (λ a h l u.
+      (let k = names c a (inl h) in
+      let at = k.at in
+      let e : c.m (c.b.address k.name) ≡ a = ap c.m at ∙ unmoved-stays c a h in
+      let size = sizes c k.name k.some k.stands in
+      let size-at : size_of c.w (c.b.address k.name) ≡ size_of c.w a = ap (λ (z : ℕ). size_of c.w z) at in
+      let on : stands_on c k.name ≡ true = stands-kept c k.name k.stands (λ _. inl (subst (λ z. In z c.stays) (sym at) h)) in
+      out k.name (owns c k.name x on (omega arith) (omega arith))))
+
+  clear : Clear c.p c.v (owner3 c)
+  clear = record {
+    clear = λ x l u out. elim (young-or c x) [
+      | inl y ↦ clear-young x y out
+      | inr old ↦ elim (cases_lt x c.end) [
+        | inl inside ↦ elim (cases_lt x (nursery_end c.p)) [
+          | inl below ↦ absurd (old (let low = c.tie.low in let high = c.tie.high in (omega arith, omega arith)))
+          | inr above ↦ (let q = packed c x above inside in absurd (out q.0 q.1))
+        ]
+        | inr behind ↦ c.picture.rest x behind (let limit = c.tie.limit in omega arith)
+      ]
+    ];
+  }
+
+  fragments : Fragments c.p (count c) (next_of c.pieces) (limit_of c.pieces) (owner3 c)
+  fragments = record {
+    owns = frag-owns c;
+    inside = λ f l. (let i = tile-of c f l in let behind = i.behind in let within = i.gap.within in (i.gap.from, omega arith, omega arith));
+    ordered = tiles-apart (layout_of c.p) c.standing c.pieces c.tiles;
+  }
+
+  pub held : IsHeap c.p c.v c.g (booked c) (owner3 c)
+  held = record {
+    laid = record {
+      nothing = record { stands_nil = stands-nothing c; at_nil = nil-at c; no_size = c.heap.laid.nothing.no_size };
+      objects = objects;
+      fields = fields;
+      globals = globals;
+      clear = clear;
+      fragments = fragments;
+      buffers = record { owns = λ k x l u. absurd (let z = u in omega arith); inside = λ k l. absurd (let z = l in omega arith) };
+    };
+    headed = λ n l k. heads n (name-some n l) k;
+  }

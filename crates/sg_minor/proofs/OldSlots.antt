@@ -1,0 +1,272 @@
+-- The slots outside of the nursery that refer to young objects.
+use Rattle.std.proofs.Common.{◌≡◌, ◌≢◌, ℕ, ◌+◌, ◌<◌, ◌≤◌, ◌⊎◌, inl, inr, List, [], length, true, false, sym, ap, ◌∙◌, subst, arith}
+use Rattle.std.proofs.lemmas.Bool.{cases_eq, cases_lt, false≢true}
+use Rattle.sg_words.specs.Address.{byte_at}
+use Rattle.sg_words.specs.Tags.{plain_word}
+use Rattle.sg_graph.specs.declared.program.Program.{Program}
+use Rattle.sg_desc.specs.Shapes.{holds_reference}
+use Rattle.sg_graph.specs.Scripts.{kind_of}
+use Rattle.sg_graph.specs.Graph.{Graph}
+use Rattle.sg_graph.specs.Book.{Book, Old, nursery_end, old_end}
+use Rattle.sg_space.specs.Sections.{globals_base, old_base, large_base}
+use Rattle.sg_space.specs.Space.{Contents, IsContents}
+use Rattle.sg_space.specs.Standing.{word}
+use Rattle.sg_space.specs.Heap.{Owner, Of, IsHeap, IsSpaceOf, HoldsHeap}
+use Rattle.sg_copy.specs.Area.{Area, In, IsYoung, class_of}
+use Rattle.sg_copy.specs.Copying.{area_of, is_reference}
+use Rattle.sg_minor.specs.Joined.{IsSeed, Global, Field, AreSeeds}
+use Rattle.sg_minor.specs.Parts.{GrowsBy, IsGlobal, IsFieldOf, IsOldField}
+use Rattle.sg_minor.proofs.Grown.{grown_more, grown_as, grown_none}
+use Rattle.sg_minor.proofs.Sound.{length_is, class_is, shape_is, size_is, owned, owns, owns_first, one_owner, old_inside, few_fields, few_classes, known_class, nursery_is, blocks_is, inside}
+
+module _ (area : Area) (w : ℕ → ℕ) (c h i : ℕ) (xs ys : List ℕ) where
+  -- the next field is a reference, and its slot is handled
+  pub field_taken : (zs : List ℕ) (slot : ℕ) → area.strong c i ≡ true → slot ≡ h + 2 + i → GrowsBy area w (IsFieldOf area c h i) xs ys → GrowsBy area w (λ t. t ≡ slot) ys zs → GrowsBy area w (IsFieldOf area c h (i + 1)) xs zs
+  field_taken zs slot strong is f g = grown_more area w (IsFieldOf area c h i) (λ t. t ≡ slot) (IsFieldOf area c h (i + 1)) xs ys zs f g
+      (λ t q. (q.0, (let l = q.1 in omega arith), q.2, q.3))
+      (λ t e. (i, omega arith, strong, e ∙ is))
+      (λ t q. elim (cases_eq q.0 i) [
+        | inl e ↦ inr (q.3 ∙ ap (λ z. h + 2 + z) e ∙ sym is)
+        | inr n ↦ inl (q.0, (let l = q.1 in omega arith), q.2, q.3)
+      ])
+
+  -- the next field is no reference
+  pub field_passed : area.strong c i ≡ false → GrowsBy area w (IsFieldOf area c h i) xs ys → GrowsBy area w (IsFieldOf area c h (i + 1)) xs ys
+  field_passed plain f = grown_as area w (IsFieldOf area c h i) (IsFieldOf area c h (i + 1)) xs ys f
+      (λ t q. (q.0, (let l = q.1 in omega arith), q.2, q.3))
+      (λ t q. elim (cases_eq q.0 i) [
+        | inl e ↦ absurd (false≢true (sym plain ∙ ap (area.strong c) (sym e) ∙ q.2))
+        | inr n ↦ (q.0, (let l = q.1 in omega arith), q.2, q.3)
+      ])
+
+-- a slot of an old object that begins below the word x
+abbrev pub IsOldBelow : Program → Graph → Book → ℕ → ℕ → Type 0
+IsOldBelow p g b x t = (n : ℕ) × (i : ℕ) × (n ≢ 0) × (b.stands n ≡ true) × (b.section n ≡ Old) × (b.address n < x) × (i < g.size n) × (holds_reference (kind_of p (g.class n)) i (g.size n) ≡ true) × (t ≡ b.address n + 2 + i)
+
+-- the word x is the first one of an old object, or the filled part of the major heap ends there
+abbrev pub IsBorder : Program → Graph → Book → ℕ → Type 0
+IsBorder p g b x = (x ≡ b.fill) ⊎ ((n : ℕ) × (n ≢ 0) × (b.stands n ≡ true) × (b.section n ≡ Old) × (b.address n ≡ x))
+
+-- the walk has come to the word x
+pub record IsSeeded (p : Program) (s : Contents) (g : Graph) (b : Book) (x : ℕ) (old new : List ℕ) : Type 0 where
+  pub border : IsBorder p g b x
+  pub grown : GrowsBy (area_of s) (word s) (IsOldBelow p g b x) old new
+
+module _ (p : Program) (s : Contents) (g : Graph) (b : Book) (is : IsSpaceOf p s b) (owner : ℕ → Owner) (heap : IsHeap p (word s) g b owner) (contents : IsContents s) where
+  -- the strong fields by the words are the reference fields by the class
+  pub strong_is : (n i : ℕ) → n ≢ 0 → b.stands n ≡ true → (area_of s).strong (g.class n) i ≡ holds_reference (kind_of p (g.class n)) i (g.size n)
+  strong_is n i some stands =
+      ap (λ z. is_reference z i) (shape_is p s g b is owner heap contents n some stands)
+      ∙ ap (λ z. holds_reference (kind_of p (g.class n)) i z) (sym (size_is p s g b is owner heap contents n some stands))
+
+  -- where a filled part begins, there is an object or its end
+  pub border_at : (x : ℕ) → nursery_end p ≤ x → x ≤ b.fill → ((m : ℕ) → m ≢ 0 → b.stands m ≡ true → b.section m ≡ Old → b.address m < x → b.address m + (g.size m + 2) ≤ x) → IsBorder p g b x
+  border_at x from to ends = elim (cases_eq x b.fill) [
+    | inl e ↦ inl e
+    | inr n ↦
+        let q = heap.laid.objects.packed x from (omega arith) in
+        let m = q.0 in
+        let o = owned p s g b is owner heap contents m x q.1 in
+        let begins = o.1 in
+        let behind = o.2 in
+        let some : m ≢ 0 = λ z. (let at = ap b.address z ∙ heap.laid.nothing.at_nil in let none = ap g.size z ∙ heap.laid.nothing.no_size in absurd (omega arith)) in
+        let old : b.section m ≡ Old = elim (inside p s g b is owner heap contents m some o.0) [
+          | inl in_nursery ↦ let end = in_nursery.2 in absurd (omega arith)
+          | inr in_heap ↦ in_heap.0
+        ] in
+        elim (cases_lt (b.address m) x) [
+          | inl below ↦ let end = ends m some o.0 old below in absurd (omega arith)
+          | inr up ↦ inr (m, some, o.0, old, omega arith)
+        ]
+  ]
+
+  -- an old object that begins below another one ends there or below
+  apart : (m n : ℕ) → n ≢ 0 → b.stands m ≡ true → b.stands n ≡ true → b.address m < b.address n → b.address m + (g.size m + 2) ≤ b.address n
+  apart m n some standing stands below = elim (cases_lt (b.address n) (b.address m + (g.size m + 2))) [
+    | inl over ↦
+        let same = one_owner p s g b is owner heap contents m n (b.address n) (owns p s g b is owner heap contents m (b.address n) standing (omega arith) over) (owns_first p s g b is owner heap contents n stands) in
+        let at = ap b.address same in
+        absurd (omega arith)
+    | inr up ↦ up
+  ]
+
+  pub same_object : (m n : ℕ) → b.stands m ≡ true → b.stands n ≡ true → b.address m ≡ b.address n → m ≡ n
+  same_object m n standing stands e = one_owner p s g b is owner heap contents m n (b.address n)
+      (subst (λ z. owner z ≡ Of m) e (owns_first p s g b is owner heap contents m standing)) (owns_first p s g b is owner heap contents n stands)
+
+  -- behind an old object there is a border again
+  pub border_next : (n : ℕ) → n ≢ 0 → b.stands n ≡ true → b.section n ≡ Old → IsBorder p g b (b.address n + (g.size n + 2))
+  border_next n some stands old =
+      let place = old_inside p s g b is owner heap contents n some stands old in
+      let from = place.0 in
+      let to = place.1 in
+      let x = b.address n + (g.size n + 2) in
+      border_at x (omega arith) to (λ m named standing is_old less. elim (cases_lt (b.address m) (b.address n)) [
+        | inl l ↦ let end = apart m n some standing stands l in omega arith
+        | inr up ↦
+            let e = one_owner p s g b is owner heap contents m n (b.address m) (owns_first p s g b is owner heap contents m standing) (owns p s g b is owner heap contents n (b.address m) stands up less) in
+            let at = ap b.address e in
+            let size = ap g.size e in
+            omega arith
+      ])
+
+  pub first_border : IsBorder p g b (nursery_end p)
+  first_border = border_at (nursery_end p) (omega arith) heap.laid.objects.filled.0 (λ m some stands old below. let place = old_inside p s g b is owner heap contents m some stands old in let from = place.0 in absurd (omega arith))
+
+  pub seeded_first : (xs : List ℕ) → IsSeeded p s g b (nursery_end p) xs xs
+  seeded_first xs = record {
+    border = first_border;
+    grown = grown_none (area_of s) (word s) (IsOldBelow p g b (nursery_end p)) xs (λ t q. let place = old_inside p s g b is owner heap contents q.0 q.2 q.3 q.4 in let from = place.0 in let below = q.5 in absurd (omega arith));
+  }
+
+  -- the walk's step over an object
+  pub seeded_next : (n : ℕ) (xs ys zs : List ℕ) → n ≢ 0 → b.stands n ≡ true → b.section n ≡ Old → IsSeeded p s g b (b.address n) xs ys →
+      GrowsBy (area_of s) (word s) (IsFieldOf (area_of s) (g.class n) (b.address n) (g.size n)) ys zs → IsSeeded p s g b (b.address n + (g.size n + 2)) xs zs
+  seeded_next n xs ys zs some stands old before grows =
+      let place = old_inside p s g b is owner heap contents n some stands old in
+      let from = place.0 in
+      let to = place.1 in
+      let x = b.address n + (g.size n + 2) in
+      let below : (m : ℕ) → b.stands m ≡ true → b.address m < x → (b.address m < b.address n) ⊎ (m ≡ n) = λ m standing less. elim (cases_lt (b.address m) (b.address n)) [
+        | inl l ↦ inl l
+        | inr up ↦ inr (one_owner p s g b is owner heap contents m n (b.address m) (owns_first p s g b is owner heap contents m standing) (owns p s g b is owner heap contents n (b.address m) stands up less))
+      ] in
+      record {
+        border = border_next n some stands old;
+        grown = grown_more (area_of s) (word s) (IsOldBelow p g b (b.address n)) (IsFieldOf (area_of s) (g.class n) (b.address n) (g.size n)) (IsOldBelow p g b x) xs ys zs before.grown grows
+            (λ t q. (q.0, q.1, q.2, q.3, q.4, (let l = q.5 in omega arith), q.6, q.7, q.8))
+            (λ t q. (n, q.0, some, stands, old, omega arith, q.1, sym (strong_is n q.0 some stands) ∙ q.2, q.3))
+            (λ t q. elim (below q.0 q.3 q.5) [
+              | inl l ↦ inl (q.0, q.1, q.2, q.3, q.4, l, q.6, q.7, q.8)
+              | inr e ↦ inr (
+                q.1,
+                subst (λ z. q.1 < g.size z) e q.6,
+                strong_is n q.1 some stands ∙ subst (λ z. holds_reference (kind_of p (g.class z)) q.1 (g.size z) ≡ true) e q.7,
+                subst (λ z. t ≡ b.address z + 2 + q.1) e q.8,
+              )
+            ]);
+      }
+
+  -- the walk's end: all old objects begin below it
+  pub seeded_last : (xs ys : List ℕ) → IsSeeded p s g b b.fill xs ys → GrowsBy (area_of s) (word s) (IsOldField p g b) xs ys
+  seeded_last xs ys end = grown_as (area_of s) (word s) (IsOldBelow p g b b.fill) (IsOldField p g b) xs ys end.grown
+      (λ t q. (q.0, q.1, q.2, q.3, q.4, q.6, q.7, q.8))
+      (λ t q. let place = old_inside p s g b is owner heap contents q.0 q.2 q.3 q.4 in let to = place.1 in (q.0, q.1, q.2, q.3, q.4, omega arith, q.5, q.6, q.7))
+
+  -- a border is an object where a word stands there, and else the end of the filled part
+  pub object_here : (x : ℕ) → IsBorder p g b x → x < old_end p → word s x ≢ 0 → (n : ℕ) × (n ≢ 0) × (b.stands n ≡ true) × (b.section n ≡ Old) × (b.address n ≡ x)
+  object_here x border below there = elim border [
+    | inl e ↦
+        let from = heap.laid.objects.filled.0 in
+        absurd (there (heap.laid.clear.clear x (omega arith) below (λ n own.
+        let o = owned p s g b is owner heap contents n x own in
+        let behind = o.2 in
+        elim (cases_eq n 0) [
+          | inl z ↦ let at = ap b.address z ∙ heap.laid.nothing.at_nil in let none = ap g.size z ∙ heap.laid.nothing.no_size in absurd (omega arith)
+          | inr some ↦ elim (inside p s g b is owner heap contents n some o.0) [
+            | inl in_nursery ↦ let end = in_nursery.2 in absurd (omega arith)
+            | inr in_heap ↦ let end = in_heap.2 in absurd (omega arith)
+          ]
+        ])))
+    | inr n ↦ n
+  ]
+
+  pub end_at_zero : (x : ℕ) → IsBorder p g b x → word s x ≡ 0 → x ≡ b.fill
+  end_at_zero x border zero = elim border [
+    | inl e ↦ e
+    | inr n ↦ let first = ap (word s) (sym n.4) ∙ class_is p s g b is owner heap contents n.0 n.1 n.2 in absurd (omega arith)
+  ]
+
+  pub end_at_end : (x : ℕ) → IsBorder p g b x → old_end p ≤ x → x ≡ b.fill
+  end_at_end x border above = elim border [
+    | inl e ↦ e
+    | inr n ↦
+        let place = old_inside p s g b is owner heap contents n.0 n.1 n.2 n.3 in
+        let to = place.1 in
+        let at = n.4 in
+        let fill = heap.laid.objects.filled.1 in
+        absurd (omega arith)
+  ]
+
+  pub old_end_is : large_base s.layout ≡ old_end p
+  old_end_is = let nursery = nursery_is p s g b is owner heap contents in let blocks = blocks_is p s g b is owner heap contents in omega arith
+
+-- the same for a space that holds a graph
+module _ (p : Program) (s : Contents) (g : Graph) (b : Book) (heap : HoldsHeap p s g b) (contents : IsContents s) (x : ℕ) where
+  pub met : IsBorder p g b x → x < large_base s.layout → word s x ≢ 0 → (n : ℕ) × (n ≢ 0) × (b.stands n ≡ true) × (b.section n ≡ Old) × (b.address n ≡ x)
+  met border below there = object_here p s g b heap.0 heap.1.0 heap.1.1 contents x border (let end = old_end_is p s g b heap.0 heap.1.0 heap.1.1 contents in omega arith) there
+
+  pub met_class : IsBorder p g b x → x < large_base s.layout → word s x ≢ 0 → (class : ℕ) × (class < length s.shapes) × (class < 256) × (word s x ≡ plain_word class)
+  met_class border below there =
+      let n = met border below there in (
+        g.class n.0,
+        known_class p s g b heap.0 heap.1.0 heap.1.1 contents n.0 n.1 n.2,
+        few_classes p s g b heap.0 heap.1.0 heap.1.1 contents n.0 n.1 n.2,
+        ap (word s) (sym n.4) ∙ class_is p s g b heap.0 heap.1.0 heap.1.1 contents n.0 n.1 n.2,
+      )
+
+  met_length : (n : ℕ) → n ≢ 0 → b.stands n ≡ true → b.address n ≡ x → word s (x + 1) ≡ g.size n
+  met_length n some stands at = ap (λ z. word s (z + 1)) (sym at) ∙ length_is p s g b heap.0 heap.1.0 heap.1.1 contents n some stands
+
+  pub met_few : IsBorder p g b x → x < large_base s.layout → word s x ≢ 0 → word s (x + 1) ≤ 62
+  met_few border below there =
+      let n = met border below there in
+      let size = met_length n.0 n.1 n.2 n.4 in
+      let few = few_fields p s g b heap.0 heap.1.0 heap.1.1 contents n.0 n.1 n.2 in
+      omega arith
+
+  pub met_inside : IsBorder p g b x → x < large_base s.layout → word s x ≢ 0 → x + 2 + word s (x + 1) ≤ large_base s.layout
+  met_inside border below there =
+      let n = met border below there in
+      let size = met_length n.0 n.1 n.2 n.4 in
+      let place = old_inside p s g b heap.0 heap.1.0 heap.1.1 contents n.0 n.1 n.2 n.3 in
+      let to = place.1 in
+      let at = n.4 in
+      let fill = heap.1.1.laid.objects.filled.1 in
+      let end = old_end_is p s g b heap.0 heap.1.0 heap.1.1 contents in
+      omega arith
+
+  pub met_next : (xs ys zs : List ℕ) → IsSeeded p s g b x xs ys → x < large_base s.layout → word s x ≢ 0 →
+      GrowsBy (area_of s) (word s) (IsFieldOf (area_of s) (class_of (word s x)) x (word s (x + 1))) ys zs → IsSeeded p s g b (x + (word s (x + 1) + 2)) xs zs
+  met_next xs ys zs before below there grows =
+      let n = met before.border below there in
+      let size = met_length n.0 n.1 n.2 n.4 in
+      let first = ap (word s) (sym n.4) ∙ class_is p s g b heap.0 heap.1.0 heap.1.1 contents n.0 n.1 n.2 in
+      let class : class_of (word s x) ≡ g.class n.0 = omega arith in
+      let at = n.4 in
+      let end : b.address n.0 + (g.size n.0 + 2) ≡ x + (word s (x + 1) + 2) = omega arith in
+      let fields = subst (λ c. GrowsBy (area_of s) (word s) (IsFieldOf (area_of s) c x (word s (x + 1))) ys zs) class grows in
+      let sized = subst (λ z. GrowsBy (area_of s) (word s) (IsFieldOf (area_of s) (g.class n.0) x z) ys zs) size fields in
+      let placed = subst (λ z. GrowsBy (area_of s) (word s) (IsFieldOf (area_of s) (g.class n.0) z (g.size n.0)) ys zs) (sym at) sized in
+      subst (λ z. IsSeeded p s g b z xs zs) end
+      (seeded_next p s g b heap.0 heap.1.0 heap.1.1 contents n.0 xs ys zs n.1 n.2 n.3 (subst (λ z. IsSeeded p s g b z xs ys) (sym at) before) placed)
+
+  pub met_end : (xs ys : List ℕ) → IsSeeded p s g b x xs ys → x ≡ b.fill → GrowsBy (area_of s) (word s) (IsOldField p g b) xs ys
+  met_end xs ys end fill = seeded_last p s g b heap.0 heap.1.0 heap.1.1 contents xs ys (subst (λ z. IsSeeded p s g b z xs ys) fill end)
+
+  pub met_zero : IsBorder p g b x → word s x ≡ 0 → x ≡ b.fill
+  met_zero border zero = end_at_zero p s g b heap.0 heap.1.0 heap.1.1 contents x border zero
+
+  pub met_last : IsBorder p g b x → large_base s.layout ≤ x → x ≡ b.fill
+  met_last border above = end_at_end p s g b heap.0 heap.1.0 heap.1.1 contents x border (let end = old_end_is p s g b heap.0 heap.1.0 heap.1.1 contents in omega arith)
+
+  pub met_first : (xs : List ℕ) → x ≡ old_base s.layout → IsSeeded p s g b x xs xs
+  met_first xs e = subst (λ z. IsSeeded p s g b z xs xs) (let nursery = nursery_is p s g b heap.0 heap.1.0 heap.1.1 contents in omega arith) (seeded_first p s g b heap.0 heap.1.0 heap.1.1 contents xs)
+
+-- the globals and the fields of old objects are all seeds
+pub are_seeds : (p : Program) (s : Contents) (g : Graph) (b : Book) (ys zs : List ℕ) → HoldsHeap p s g b →
+    GrowsBy (area_of s) (word s) (IsGlobal s.layout 64) [] ys → GrowsBy (area_of s) (word s) (IsOldField p g b) ys zs → AreSeeds p (word s) (area_of s) g b zs
+are_seeds p s g b ys zs heap globals old = record {
+  each = λ t i. elim (old.each t i) [
+    | inl in_globals ↦ elim (globals.each t in_globals) [
+      | inl none ↦ let z = none in cc
+      | inr q ↦ Global q.0 q.1 (q.2 ∙ ap (λ l. globals_base l + q.0) heap.0.layout)
+    ]
+    | inr q ↦ Field q.0 q.1 q.2 q.3 q.4 q.5 q.6 q.7
+  ];
+  all = λ t x seed e young. go t x e young seed;
+}
+  where
+    go : (t x : ℕ) → word s t ≡ byte_at x → IsYoung (area_of s) x → IsSeed p g b t → In t zs
+    go t x e young (Global j l is) = old.kept t (globals.all t x (j, l, is ∙ ap (λ z. globals_base z + j) (sym heap.0.layout)) e young)
+    go t x e young (Field n i some stands is_old l ref is) = old.all t x (n, i, some, stands, is_old, l, ref, is) e young

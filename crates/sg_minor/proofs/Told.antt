@@ -1,0 +1,238 @@
+-- What a minor pause keeps, and what its report tells.
+use Rattle.std.proofs.Common.{◌≡◌, ◌≢◌, ℕ, ◌+◌, ◌≤◌, ◌<◌, ◌⊎◌, true, false, List, ◌++◌, Contains, sym, refl, ap, ◌∙◌, subst, inl, inr, arith}
+use Rattle.std.proofs.lemmas.Bool.{cond-true, cond-false}
+use Rattle.sg_words.specs.Address.{byte_at}
+use Rattle.sg_words.specs.declared.pieces.Move.{Move}
+use Rattle.sg_graph.specs.declared.reports.MinorReport.{MinorReport}
+use Rattle.sg_graph.specs.Scripts.{words_for}
+use Rattle.sg_graph.specs.Book.{Young, Old, nursery_base, nursery_end, old_end, IsWordOf, IsApart}
+use Rattle.sg_graph.specs.Pause.{IsPinned, StandsYoung}
+use Rattle.sg_graph.specs.Tiling.{IsCovered, IsTiled}
+use Rattle.sg_graph.specs.Tiling.{IsGap as IsGapOf}
+use Rattle.sg_graph.specs.Minor.{IsLoose, HasMoved, HasFailed, IsStill, AreLines, IsMinorPause, move_of}
+use Rattle.sg_space.specs.Heap.{layout_of}
+use Rattle.sg_copy.specs.Area.{In, has, IsYoung, size_of}
+use Rattle.sg_copy.proofs.Members.{in-left, in-right, in-cases, not-in, placed-in}
+use Rattle.sg_minor.specs.Pieces.{IsTaken, IsGap}
+use Rattle.sg_minor.specs.Joined.{ArePins, IsKept}
+use Rattle.sg_minor.specs.Law.{IsReportOf}
+use Rattle.sg_minor.proofs.Names.{of-same, some-name, name-some, exactly}
+use Rattle.sg_minor.proofs.After.{Ended, lies, sizes, one-name, names, kept-young, section-young, stands_on, stood, is-kept, stands-nothing, stands-kept, booked, section_of, fill-grows, end-within, fill-from, Place, Stayed, Moved, Older, place, unmoved-nil, nil-at, unmoved-stays, tile-of, taken, owns, owned, packed}
+
+module _ (c : Ended) where
+  young-not-old : (n : ℕ) → section_of c n ≡ Old → section_of c n ≡ Young → ⊥
+  young-not-old n o y = let e : Young ≡ Old = sym y ∙ o in cc
+
+  -- no word is of two objects
+  apart : IsApart c.p c.g (booked c)
+  apart = record {
+    apart = λ k n x a e. of-same k n (sym (owns c k x a.stands a.above a.below) ∙ owns c n x e.stands e.above e.below);
+    inside = λ n x a y. young-inside n x a y (place c n (name-some n a.some) a.stands);
+  }
+    where
+      young-inside : (n x : ℕ) → IsWordOf c.g (booked c) n x → section_of c n ≡ Young → Place c n → (nursery_base ≤ x) × (x < nursery_end c.p)
+      young-inside n x a y (Stayed i h q e) = let l = a.above in let u = a.below in let low = i.above in let high = i.below in (omega arith, omega arith)
+      young-inside n x a y (Moved i h q l u) = absurd (young-not-old n q y)
+      young-inside n x a y (Older o q e) = absurd (young-not-old n q y)
+
+  -- a word is a standing young object's where an object that stayed has it
+  covered-taken : (x : ℕ) → IsCovered c.g (booked c) x → IsTaken c.standing x
+  covered-taken x h = go (place c h.0 (name-some h.0 h.2.some) h.2.stands)
+    where
+      go : Place c h.0 → IsTaken c.standing x
+      go (Stayed i s q e) =
+          let l = h.2.above in
+          let u = h.2.below in
+          let size = sizes c h.0 (name-some h.0 h.2.some) (stood c h.0 h.2.stands) in
+          taken c (c.b.address h.0) x s (omega arith) (omega arith)
+      go (Moved i s q l u) = absurd (young-not-old h.0 q h.1)
+      go (Older o q e) = absurd (young-not-old h.0 q h.1)
+
+  taken-covered : (x : ℕ) → IsTaken c.standing x → IsCovered c.g (booked c) x
+  taken-covered x h =
+      let q = (c.words x).0 h in
+      let a = q.0 in
+      let k = names c a (inl q.1) in
+      let at = k.at in
+      let here : In (c.b.address k.name) c.stays = subst (λ z. In z c.stays) (sym at) q.1 in
+      let e = unmoved-stays c (c.b.address k.name) here in
+      let size = sizes c k.name k.some k.stands in
+      let size-at : size_of c.w (c.b.address k.name) ≡ size_of c.w a = ap (λ (z : ℕ). size_of c.w z) at in
+      let l = q.2 in
+      let u = q.3 in (
+        k.name,
+        cond-false _ _ _ (c.traced.apart (c.b.address k.name) here) ∙ section-young c k.name k.stands (kept-young c (c.b.address k.name) (inl here)),
+        record { some = some-name k.name k.some; stands = stands-kept c k.name k.stands (λ _. inl here); above = omega arith; below = omega arith },
+      )
+
+  -- the gaps between what stayed are those between the standing young objects
+  gap-of : (x n : ℕ) → IsGap (layout_of c.p) c.standing x n → IsGapOf c.p c.g (booked c) x n
+  gap-of x n gap = record {
+    some = gap.some;
+    from = gap.from;
+    within = gap.within;
+    free = λ y l u h. gap.free y l u (covered-taken y h);
+    before = elim gap.before [
+      | inl e ↦ inl e
+      | inr h ↦ inr (h.0, h.1, taken-covered h.0 h.2)
+    ];
+    behind = elim gap.behind [
+      | inl e ↦ inl e
+      | inr h ↦ inr (taken-covered (x + n) h)
+    ];
+  }
+
+  of-gap : (x n : ℕ) → IsGapOf c.p c.g (booked c) x n → IsGap (layout_of c.p) c.standing x n
+  of-gap x n gap = record {
+    some = gap.some;
+    from = gap.from;
+    within = gap.within;
+    free = λ y l u h. gap.free y l u (taken-covered y h);
+    before = elim gap.before [
+      | inl e ↦ inl e
+      | inr h ↦ inr (h.0, h.1, covered-taken h.0 h.2)
+    ];
+    behind = elim gap.behind [
+      | inl e ↦ inl e
+      | inr h ↦ inr (covered-taken (x + n) h)
+    ];
+  }
+
+  tiled : IsTiled c.p c.g (booked c) c.pieces
+  tiled = record {
+    in_order = c.tiles.in_order;
+    each = λ piece h. (let q = c.tiles.each piece h in (q.0, q.1, q.2, gap-of q.0 q.1 q.3));
+    all = λ x n gap. c.tiles.all x n (of-gap x n gap);
+    fragments = refl;
+    next = λ f l. sym (tile-of c f l).front_at;
+    limit = λ f l. sym (tile-of c f l).end_at;
+  }
+
+  -- the words that the pause has filled are those of objects of the major heap
+  filled-by : (x : ℕ) → c.b.fill ≤ x → x < c.end → (n : ℕ) × (section_of c n ≡ Old) × IsWordOf c.g (booked c) n x
+  filled-by x l u =
+      let from = fill-from c in
+      let q = packed c x (omega arith) u in
+      let h = owned c q.0 x q.1 in
+      let low = h.1 in
+      let high = h.2 in
+      let d : q.0 ≢ 0 = λ z. (let a : c.m (c.b.address q.0) ≡ 0 = ap (λ (k : ℕ). c.m (c.b.address k)) z ∙ nil-at c in let i : c.g.size q.0 ≡ 0 = ap c.g.size z ∙ c.heap.laid.nothing.no_size in omega arith) in
+      (q.0, go q.0 low high (place c q.0 d h.0), record { some = some-name q.0 d; stands = h.0; above = h.1; below = h.2 })
+    where
+      go : (n : ℕ) → c.m (c.b.address n) ≤ x → x < c.m (c.b.address n) + words_for (c.g.size n) → Place c n → section_of c n ≡ Old
+      go n low high (Stayed i h q e) = let below = i.below in let from = fill-from c in absurd (omega arith)
+      go n low high (Moved i h q a e) = q
+      go n low high (Older o q e) = q
+
+  module _ (pins fails : List ℕ) (split : c.stays ≡ pins ++ fails) (pinned : ArePins c.g c.b c.ambiguous pins) (failed : (a : ℕ) → In a fails → has a pins ≡ false)
+      (full : (a : ℕ) → In a fails → old_end c.p < c.end + size_of c.w a) (report : MinorReport) (told : IsReportOf report pins c.moves fails c.m) where
+    pin-stays : (a : ℕ) → In a pins → In a c.stays
+    pin-stays a h = subst (λ (l : List ℕ). In a l) (sym split) (in-left a pins fails h)
+
+    fail-stays : (a : ℕ) → In a fails → In a c.stays
+    fail-stays a h = subst (λ (l : List ℕ). In a l) (sym split) (in-right a pins fails h)
+
+    -- what stays is pinned or has failed
+    stays-cases : (a : ℕ) → In a c.stays → In a pins ⊎ In a fails
+    stays-cases a h = in-cases a pins fails (subst (λ (l : List ℕ). In a l) split h)
+
+    still-of : (n : ℕ) → In (c.b.address n) c.stays → IsStill c.b (booked c) n
+    still-of n h = record { address = unmoved-stays c (c.b.address n) h; section = cond-false _ _ _ (c.traced.apart (c.b.address n) h) }
+
+    pin-stands : (n : ℕ) → IsPinned c.g c.b c.ambiguous n → stands_on c n ≡ true
+    pin-stands n h = stands-kept c n h.0.1 (λ _. inl (pin-stays (c.b.address n) (pinned.all n h)))
+
+    -- the name of what is kept
+    stands-young : (a : ℕ) (h : IsKept c.stays c.moves a) → StandsYoung c.b (names c a h).name
+    stands-young a h = let k = names c a h in (k.some, k.stands, section-young c k.name k.stands (subst (IsYoung c.area) (sym k.at) (kept-young c a h)))
+
+    named-stands : (a : ℕ) (h : IsKept c.stays c.moves a) → stands_on c (names c a h).name ≡ true
+    named-stands a h = let k = names c a h in stands-kept c k.name k.stands (λ _. subst (IsKept c.stays c.moves) (sym k.at) h)
+
+    moved-loose : (n : ℕ) → In (c.b.address n) c.moves → IsPinned c.g c.b c.ambiguous n → ⊥
+    moved-loose n h q = not-in (c.b.address n) c.moves (c.traced.apart (c.b.address n) (pin-stays (c.b.address n) (pinned.all n q))) h
+
+    failed-loose : (n : ℕ) → In (c.b.address n) fails → IsPinned c.g c.b c.ambiguous n → ⊥
+    failed-loose n h q = not-in (c.b.address n) pins (failed (c.b.address n) h) (pinned.all n q)
+
+    told-move : (move : Move) → Contains report.moves move → (n : ℕ) × IsLoose c.g c.b c.ambiguous (booked c) n × HasMoved c.g c.b (booked c) n × (move ≡ move_of c.b (booked c) n)
+    told-move move h =
+        let e = (told.moves.exact move).0 h in
+        let x = e.0 in
+        let k = names c x (inr e.1) in
+        let here : In (c.b.address k.name) c.moves = subst (λ z. In z c.moves) (sym k.at) e.1 in
+        let size = sizes c k.name k.some k.stands in
+        let q = placed-in c.w c.m c.b.fill c.moves c.end c.picture.placed (c.b.address k.name) here in
+        let before = q.1 in (
+          k.name,
+          record { young = stands-young x (inr e.1); kept = named-stands x (inr e.1); loose = moved-loose k.name here },
+          record { section = cond-true _ _ _ here; behind = q.0; before = omega arith },
+          e.2 ∙ ap (moved-from c.m) (sym k.at),
+        )
+      where
+        moved-from : (ℕ → ℕ) → ℕ → Move
+        moved-from m z = record { from = byte_at z; to = byte_at (m z) }
+
+    told-fail : (a : ℕ) → Contains report.fails a → (n : ℕ) × IsLoose c.g c.b c.ambiguous (booked c) n × HasFailed c.p c.g c.b (booked c) n × (a ≡ byte_at (c.b.address n))
+    told-fail a h =
+        let e = (told.fails.exact a).0 h in
+        let x = e.0 in
+        let s = fail-stays x e.1 in
+        let k = names c x (inl s) in
+        let here : In (c.b.address k.name) fails = subst (λ z. In z fails) (sym k.at) e.1 in
+        let size = sizes c k.name k.some k.stands in
+        let q = full (c.b.address k.name) here in (
+          k.name,
+          record { young = stands-young x (inl s); kept = named-stands x (inl s); loose = failed-loose k.name here },
+          record { still = still-of k.name (fail-stays (c.b.address k.name) here); full = omega arith },
+          e.2 ∙ ap byte_at (sym k.at),
+        )
+
+    loose-told : (n : ℕ) → IsLoose c.g c.b c.ambiguous (booked c) n → Contains report.moves (move_of c.b (booked c) n) ⊎ Contains report.fails (byte_at (c.b.address n))
+    loose-told n h = elim (lies c n h.young.1 h.young.0) [
+      | inr o ↦ absurd (let e : Young ≡ Old = sym h.young.2 ∙ o.section in cc)
+      | inl i ↦ elim (is-kept c n h.kept i.young) [
+        | inr moved ↦ inl ((told.moves.exact (move_of c.b (booked c) n)).1 (c.b.address n, moved, refl))
+        | inl stays ↦ elim (stays-cases (c.b.address n) stays) [
+          | inr fell ↦ inr ((told.fails.exact (byte_at (c.b.address n))).1 (c.b.address n, fell, refl))
+          | inl pin ↦ absurd (let q = pinned.each (c.b.address n) pin in h.loose (subst (IsPinned c.g c.b c.ambiguous) (one-name c q.0 n q.1.0.1 h.young.1 q.2) q.1))
+        ]
+      ]
+    ]
+
+    lines : AreLines c.p c.g c.b c.ambiguous report (booked c)
+    lines = record {
+      pins_in_order = told.pins.in_order;
+      pins = λ a. (
+        λ h. (let e = (told.pins.exact a).0 h in let q = pinned.each e.0 e.1 in (q.0, q.1, e.2 ∙ ap byte_at (sym q.2))),
+        λ h. (told.pins.exact a).1 (c.b.address h.0, pinned.all h.0 h.1, h.2),
+      );
+      moves_in_order = told.moves.in_order;
+      moves = told-move;
+      fails_in_order = told.fails.in_order;
+      fails = told-fail;
+      loose = loose-told;
+      spares = told.spares;
+    }
+
+    still-or-told : (n : ℕ) → n ≢ 0 → Place c n → IsStill c.b (booked c) n ⊎ Contains report.moves (move_of c.b (booked c) n)
+    still-or-told n d (Stayed i h q e) = inl (still-of n h)
+    still-or-told n d (Moved i h q l u) = inr ((told.moves.exact (move_of c.b (booked c) n)).1 (c.b.address n, h, refl))
+    still-or-told n d (Older o q e) = inl (record { address = e; section = q ∙ sym o.section })
+
+    pub minor : c.pieces ≡ report.pieces → IsMinorPause c.p c.g c.b c.ambiguous report c.g (booked c)
+    minor same = record {
+      kept = stands_on c;
+      pause = record { keeps = exactly c.p c.area c.tie c.w c.g c.b c.ambiguous c.owner c.heap c.stays c.moves c.traced; after = refl };
+      nothing = (stands-nothing c, unmoved-nil c);
+      stands = λ n d. refl;
+      stood = stood c;
+      pinned = λ n h. (pin-stands n h, still-of n (pin-stays (c.b.address n) (pinned.all n h)));
+      still = λ n d k. still-or-told n d (place c n d k);
+      lines = lines;
+      filled = (fill-grows c, end-within c);
+      packed = filled-by;
+      tiled = subst (IsTiled c.p c.g (booked c)) same tiled;
+      emptied = λ k. (refl, refl);
+      apart = apart;
+    }

@@ -1,0 +1,6 @@
+-- The law is proved in `proofs/Paused.antt`.
+use Rattle.sg_minor.proofs.Paused.{pause_law}
+use Rattle.sg_minor.proofs.law.pause_law.Goals as goal
+
+pub returns : goal.returns
+returns c = pause_law

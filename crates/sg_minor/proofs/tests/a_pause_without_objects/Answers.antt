@@ -1,0 +1,10 @@
+use Rattle.std.proofs.Common.{[]}
+use Rattle.sg_minor.proofs.Empty.{empty_some}
+use Rattle.sg_minor.proofs.tests.a_pause_without_objects.Goals as goal
+
+pub minor-requires : goal.minor-requires
+minor-requires g c = empty_some (record {
+  config = record { nursery = 256; blocks = 1; pages = 0; buffer = 32; workers = 1; cement = 1 };
+  classes = [];
+  mutators = [];
+}) c.in_ok-space.space c.in_ok-space.ensures.clear

@@ -1,8 +1,0 @@
-use Rattle.std.proofs.Common.{◌≡◌, ◌+◌, ◌++◌, drop}
-use Rattle.sg_graph.specs.Trace.{answer_lines}
-use Rattle.sg_run.proofs.trace.append_answers.Given as goal
-
--- what is written and the lines to come make up the whole
-abbrev pub invariant-loop-index : goal.invariant-loop-index
-invariant-loop-index l =
-    l.out.items ++ answer_lines l.mutator (l.first + l.index) (drop l.index l.answers) ≡ l.initial.out.items ++ answer_lines l.mutator l.first l.answers

@@ -1,0 +1,9 @@
+//! The text of the reports of a run.
+#![tactic(auto)]
+
+mod trace;
+
+pub use trace::{append_epoch, append_stop};
+
+#[cfg(test)]
+mod tests;

@@ -1,0 +1,304 @@
+// The text of a report.
+ghost use Rattle.std.specs.Prelude.{◌≡◌, ◌+◌, ◌++◌, codes, IfOk, IfErr};
+ghost use Rattle.std.specs.Fmt.{decimal};
+ghost use Rattle.std.specs.List.{flat_map};
+ghost use Rattle.sg_graph.specs.Trace.{space, line_feed, answer_text, answer_line, answer_lines, request_text, leave_line, part_text, end_line, epoch_text, pin_line, move_line, fail_line, piece_line, minor_text, pause_text, service_line, stop_text};
+
+use itoa::Buffer;
+use sg_graph::{Answer, EpochReport, Leave, MinorReport, Part, Request, Service, StopReport};
+use sg_words::{Addr, Move, Piece};
+use std::alloc::{AllocError, Global};
+
+/// Appends the text of an epoch: the line `epoch E`, a line for each answer, a line for each mutator that left, and
+/// `end` behind the last epoch.
+///
+/// The only error is want of memory, and then `out` has the bytes that it had before. Linear in the text.
+pub fn append_epoch(
+    alloc: Global,
+    out: &mut Vec<u8>,
+    report: &EpochReport,
+) -> Result<(), AllocError>
+    ensures appended { IfOk result (λ _. out.new.items ≡ out.old.items ++ epoch_text report.now) }
+    ensures kept { IfErr result (λ _. out.new.items ≡ out.old.items) }
+{
+    let mut text = Vec::new(alloc);
+    write_epoch(&mut text, report)?;
+    out.extend_from_slice(text.as_slice())
+}
+
+fn write_epoch(out: &mut Vec<u8>, report: &EpochReport) -> Result<(), AllocError>
+    ensures { IfOk result (λ _. out.new.items ≡ out.old.items ++ epoch_text report.now) }
+{
+    out.extend_from_slice(b"epoch ")?;
+    append_number(out, u64::from(report.number))?;
+    out.extend_from_slice(b"\n")?;
+    append_parts(out, report.parts.as_slice())?;
+    append_end(out, report.last)
+}
+
+fn append_parts(out: &mut Vec<u8>, parts: &[Part]) -> Result<(), AllocError>
+    ensures { IfOk result (λ _. out.new.items ≡ out.old.items ++ flat_map part_text parts.now) }
+{
+    for part in parts {
+        append_part(out, part)?;
+    }
+    Ok(())
+}
+
+fn append_part(out: &mut Vec<u8>, part: &Part) -> Result<(), AllocError>
+    ensures { IfOk result (λ _. out.new.items ≡ out.old.items ++ part_text part.now) }
+{
+    append_answers(out, part.mutator, part.first, part.answers.as_slice())?;
+    append_leave(out, part.mutator, part.leave)
+}
+
+fn append_answers(
+    out: &mut Vec<u8>,
+    mutator: u32,
+    first: u32,
+    answers: &[Answer],
+) -> Result<(), AllocError>
+    ensures { IfOk result (λ _. out.new.items ≡ out.old.items ++ answer_lines mutator first answers.now) }
+{
+    for (index, answer) in answers.iter().enumerate() {
+        append_answer_line(out, mutator, u64::from(first) + index as u64, *answer)?;
+    }
+    Ok(())
+}
+
+fn append_answer_line(
+    out: &mut Vec<u8>,
+    mutator: u32,
+    statement: u64,
+    answer: Answer,
+) -> Result<(), AllocError>
+    ensures { IfOk result (λ _. out.new.items ≡ out.old.items ++ answer_line mutator statement answer) }
+{
+    append_number(out, u64::from(mutator))?;
+    out.extend_from_slice(b" ")?;
+    append_number(out, statement)?;
+    out.extend_from_slice(b" ")?;
+    append_answer(out, answer)?;
+    out.extend_from_slice(b"\n")
+}
+
+fn append_answer(out: &mut Vec<u8>, answer: Answer) -> Result<(), AllocError>
+    ensures { IfOk result (λ _. out.new.items ≡ out.old.items ++ answer_text answer) }
+{
+    match answer {
+        Answer::At(address) => append_number(out, address.get()),
+        Answer::Nil => out.extend_from_slice(b"nil"),
+        Answer::Null => out.extend_from_slice(b"null"),
+        Answer::Number(number) => append_number(out, number),
+        Answer::Fine => out.extend_from_slice(b"ok"),
+        Answer::Field => out.extend_from_slice(b"field"),
+        Answer::Full => out.extend_from_slice(b"full"),
+    }
+}
+
+fn append_leave(out: &mut Vec<u8>, mutator: u32, leave: Leave) -> Result<(), AllocError>
+    ensures { IfOk result (λ _. out.new.items ≡ out.old.items ++ leave_line mutator leave) }
+{
+    append_number(out, u64::from(mutator))?;
+    match leave {
+        Leave::Ended => out.extend_from_slice(b" done\n"),
+        Leave::Wants(request) => {
+            out.extend_from_slice(b" ")?;
+            append_request(out, request)?;
+            out.extend_from_slice(b"\n")
+        }
+    }
+}
+
+fn append_request(out: &mut Vec<u8>, request: Request) -> Result<(), AllocError>
+    ensures { IfOk result (λ _. out.new.items ≡ out.old.items ++ request_text request) }
+{
+    match request {
+        Request::Need { words } => {
+            out.extend_from_slice(b"need ")?;
+            append_number(out, u64::from(words))
+        }
+        Request::Minor => out.extend_from_slice(b"collect minor"),
+    }
+}
+
+fn append_end(out: &mut Vec<u8>, is_last: bool) -> Result<(), AllocError>
+    ensures { IfOk result (λ _. out.new.items ≡ out.old.items ++ end_line is_last) }
+{
+    if is_last {
+        out.extend_from_slice(b"end\n")?;
+    }
+    Ok(())
+}
+
+/// Appends the text of a stop: the line `stop E`, the lines of its pause, and a line for each answer to a request.
+///
+/// The only error is want of memory, and then `out` has the bytes that it had before. Linear in the text.
+pub fn append_stop(alloc: Global, out: &mut Vec<u8>, report: &StopReport) -> Result<(), AllocError>
+    ensures appended { IfOk result (λ _. out.new.items ≡ out.old.items ++ stop_text report.now) }
+    ensures kept { IfErr result (λ _. out.new.items ≡ out.old.items) }
+{
+    let mut text = Vec::new(alloc);
+    write_stop(&mut text, report)?;
+    out.extend_from_slice(text.as_slice())
+}
+
+fn write_stop(out: &mut Vec<u8>, report: &StopReport) -> Result<(), AllocError>
+    ensures { IfOk result (λ _. out.new.items ≡ out.old.items ++ stop_text report.now) }
+{
+    out.extend_from_slice(b"stop ")?;
+    append_number(out, u64::from(report.number))?;
+    out.extend_from_slice(b"\n")?;
+    append_pause(out, &report.minor)?;
+    append_services(out, report.served.as_slice())
+}
+
+fn append_pause(out: &mut Vec<u8>, pause: &Option<MinorReport>) -> Result<(), AllocError>
+    ensures { IfOk result (λ _. out.new.items ≡ out.old.items ++ pause_text pause.now) }
+{
+    match pause {
+        Some(report) => append_minor(out, report),
+        None => Ok(()),
+    }
+}
+
+fn append_minor(out: &mut Vec<u8>, report: &MinorReport) -> Result<(), AllocError>
+    ensures { IfOk result (λ _. out.new.items ≡ out.old.items ++ minor_text report.now) }
+{
+    out.extend_from_slice(b"minor\n")?;
+    append_objects(out, report)?;
+    append_gaps(out, report)
+}
+
+// What became of the objects of the nursery.
+fn append_objects(out: &mut Vec<u8>, report: &MinorReport) -> Result<(), AllocError>
+    ensures { IfOk result (λ _. out.new.items ≡ out.old.items ++ flat_map pin_line report.now.pins ++ flat_map move_line report.now.moves ++ flat_map fail_line report.now.fails) }
+{
+    append_pins(out, report.pins.as_slice())?;
+    append_moves(out, report.moves.as_slice())?;
+    append_fails(out, report.fails.as_slice())
+}
+
+// The spares, and what the nursery's gaps are.
+fn append_gaps(out: &mut Vec<u8>, report: &MinorReport) -> Result<(), AllocError>
+    ensures { IfOk result (λ _. out.new.items ≡ out.old.items ++ codes "spares " ++ decimal report.now.spares ++ line_feed ++ flat_map piece_line report.now.pieces) }
+{
+    out.extend_from_slice(b"spares ")?;
+    append_number(out, u64::from(report.spares))?;
+    out.extend_from_slice(b"\n")?;
+    append_pieces(out, report.pieces.as_slice())
+}
+
+fn append_pins(out: &mut Vec<u8>, pins: &[Addr]) -> Result<(), AllocError>
+    ensures { IfOk result (λ _. out.new.items ≡ out.old.items ++ flat_map pin_line pins.now) }
+{
+    for pin in pins {
+        append_pin(out, *pin)?;
+    }
+    Ok(())
+}
+
+fn append_pin(out: &mut Vec<u8>, pin: Addr) -> Result<(), AllocError>
+    ensures { IfOk result (λ _. out.new.items ≡ out.old.items ++ pin_line pin) }
+{
+    out.extend_from_slice(b"pin ")?;
+    append_number(out, pin.get())?;
+    out.extend_from_slice(b"\n")
+}
+
+fn append_moves(out: &mut Vec<u8>, moves: &[Move]) -> Result<(), AllocError>
+    ensures { IfOk result (λ _. out.new.items ≡ out.old.items ++ flat_map move_line moves.now) }
+{
+    for moved in moves {
+        append_move(out, *moved)?;
+    }
+    Ok(())
+}
+
+fn append_move(out: &mut Vec<u8>, moved: Move) -> Result<(), AllocError>
+    ensures { IfOk result (λ _. out.new.items ≡ out.old.items ++ move_line moved) }
+{
+    out.extend_from_slice(b"move ")?;
+    append_number(out, moved.from.get())?;
+    out.extend_from_slice(b" ")?;
+    append_number(out, moved.to.get())?;
+    out.extend_from_slice(b"\n")
+}
+
+fn append_fails(out: &mut Vec<u8>, fails: &[Addr]) -> Result<(), AllocError>
+    ensures { IfOk result (λ _. out.new.items ≡ out.old.items ++ flat_map fail_line fails.now) }
+{
+    for failed in fails {
+        append_fail(out, *failed)?;
+    }
+    Ok(())
+}
+
+fn append_fail(out: &mut Vec<u8>, failed: Addr) -> Result<(), AllocError>
+    ensures { IfOk result (λ _. out.new.items ≡ out.old.items ++ fail_line failed) }
+{
+    out.extend_from_slice(b"fail ")?;
+    append_number(out, failed.get())?;
+    out.extend_from_slice(b"\n")
+}
+
+fn append_pieces(out: &mut Vec<u8>, pieces: &[Piece]) -> Result<(), AllocError>
+    ensures { IfOk result (λ _. out.new.items ≡ out.old.items ++ flat_map piece_line pieces.now) }
+{
+    for piece in pieces {
+        append_piece(out, *piece)?;
+    }
+    Ok(())
+}
+
+fn append_piece(out: &mut Vec<u8>, piece: Piece) -> Result<(), AllocError>
+    ensures { IfOk result (λ _. out.new.items ≡ out.old.items ++ piece_line piece) }
+{
+    match piece {
+        Piece::Frag { at, words } => {
+            out.extend_from_slice(b"frag ")?;
+            append_place(out, at, words)
+        }
+        Piece::Waste { at, words } => {
+            out.extend_from_slice(b"waste ")?;
+            append_place(out, at, words)
+        }
+    }
+}
+
+fn append_place(out: &mut Vec<u8>, at: Addr, words: u32) -> Result<(), AllocError>
+    ensures { IfOk result (λ _. out.new.items ≡ out.old.items ++ decimal at ++ space ++ decimal words ++ line_feed) }
+{
+    append_number(out, at.get())?;
+    out.extend_from_slice(b" ")?;
+    append_number(out, u64::from(words))?;
+    out.extend_from_slice(b"\n")
+}
+
+fn append_services(out: &mut Vec<u8>, served: &[Service]) -> Result<(), AllocError>
+    ensures { IfOk result (λ _. out.new.items ≡ out.old.items ++ flat_map service_line served.now) }
+{
+    for service in served {
+        append_service(out, *service)?;
+    }
+    Ok(())
+}
+
+fn append_service(out: &mut Vec<u8>, service: Service) -> Result<(), AllocError>
+    ensures { IfOk result (λ _. out.new.items ≡ out.old.items ++ service_line service) }
+{
+    out.extend_from_slice(b"serve ")?;
+    append_number(out, u64::from(service.mutator))?;
+    out.extend_from_slice(b" ")?;
+    append_number(out, u64::from(service.statement))?;
+    out.extend_from_slice(b" ")?;
+    append_answer(out, service.answer)?;
+    out.extend_from_slice(b"\n")
+}
+
+fn append_number(out: &mut Vec<u8>, number: u64) -> Result<(), AllocError>
+    ensures { IfOk result (λ _. out.new.items ≡ out.old.items ++ decimal number) }
+{
+    let mut buffer = Buffer::new();
+    out.extend_from_slice(buffer.format(number).as_bytes())
+}
