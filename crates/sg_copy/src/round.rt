@@ -24,7 +24,8 @@ pub struct Round {
 
 /// Copies the young objects that these slots, and the reference fields of these pinned objects, lead to over strong
 /// fields, to the front of the major heap's rest; and sends each slot that refers to one of them. It goes through the slots
-/// first, then through the pinned objects, and then through what it copied, in that order.
+/// first, then through the pinned objects, and then through what it found there, be it copied
+/// or failed, in the order in which it found it.
 ///
 /// Takes memory for the slots, the moves and the failed objects, and time linear in the slots, the words of what is copied
 /// and the objects of the major heap. Where memory runs out the space is lost.
