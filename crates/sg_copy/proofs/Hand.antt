@@ -7,13 +7,13 @@ use Rattle.sg_words.specs.Tags.{plain_word, IsTag, tag_word}
 use Rattle.sg_words.specs.declared.tags.Tag.{Tag}
 use Rattle.sg_words.specs.declared.tags.Tag.TheVariants.{Plain, Forwarded, Pinned}
 use Rattle.sg_desc.specs.declared.shapes.Shape.{Shape}
-use Rattle.sg_desc.specs.Shapes.{holds_reference}
+use Rattle.sg_desc.specs.Shapes.{is_strong}
 use Rattle.sg_space.specs.Sections.{old_base}
 use Rattle.sg_space.specs.Space.{Contents}
 use Rattle.sg_space.specs.Standing.{word}
 use Rattle.sg_copy.specs.Area.{Area, IsYoung, size_of}
 use Rattle.sg_copy.specs.Round.{slots_by, Handles, Copies, Fails}
-use Rattle.sg_copy.specs.Copying.{is_reference, area_of, IsStill, Stores, HasCopied, IsTarget, Went, Stays, IsPlain}
+use Rattle.sg_copy.specs.Copying.{is_strong_in, area_of, IsStill, Stores, HasCopied, IsTarget, Went, Stays, IsPlain}
 
 -- a write changes one word
 pub stores : (s t : Contents) (a v : ℕ) → a < length s.words → t ≡ record s { words = slice_set s.words a v } → Stores (word s) a v (word t)
@@ -47,10 +47,10 @@ slots_step area c at i n l =
     let k : suc i ≡ i + 1 = omega arith in
     ap (λ (z : ℕ). slots_by area c at i z) e ∙ ap (λ (z : ℕ). cond (area.strong c i) ((at + 2 + i) ∷ slots_by area c at z (n - (i + 1))) (slots_by area c at z (n - (i + 1)))) k
 
-strong_is : (s : Contents) (c i : ℕ) (shape : Shape) (b : Bool) → slice_get s.shapes c ≡ Some shape → b ≡ holds_reference shape.kind i shape.fields → (area_of s).strong c i ≡ b
-strong_is s c i shape b e h = ap (λ o. is_reference o i) e ∙ sym h
+strong_is : (s : Contents) (c i : ℕ) (shape : Shape) (b : Bool) → slice_get s.shapes c ≡ Some shape → b ≡ is_strong shape.kind i shape.fields → (area_of s).strong c i ≡ b
+strong_is s c i shape b e h = ap (λ o. is_strong_in o i) e ∙ sym h
 
-pub pushes : (s : Contents) (c at i n a : ℕ) (shape : Shape) (todo new rest : List ℕ) → i < n → slice_get s.shapes c ≡ Some shape → true ≡ holds_reference shape.kind i shape.fields → a ≡ at + 8 * (2 + i) → new ≡ todo ++ a ∷ [] →
+pub pushes : (s : Contents) (c at i n a : ℕ) (shape : Shape) (todo new rest : List ℕ) → i < n → slice_get s.shapes c ≡ Some shape → true ≡ is_strong shape.kind i shape.fields → a ≡ at + 8 * (2 + i) → new ≡ todo ++ a ∷ [] →
     map word_at todo ++ slots_by (area_of s) c (word_at at) i (n - i) ≡ rest → map word_at new ++ slots_by (area_of s) c (word_at at) (i + 1) (n - (i + 1)) ≡ rest
 pushes s c at i n a shape todo new rest l e b ea en h =
     let more = slots_by (area_of s) c (word_at at) (i + 1) (n - (i + 1)) in
@@ -64,7 +64,7 @@ pushes s c at i n a shape todo new rest l e b ea en h =
     place : (at i : ℕ) → word_at (at + 8 * (2 + i)) ≡ word_at at + 2 + i
     place at i = omega arith
 
-pub passes : (s : Contents) (c at i n : ℕ) (shape : Shape) (b : Bool) (todo rest : List ℕ) → i < n → slice_get s.shapes c ≡ Some shape → b ≡ holds_reference shape.kind i shape.fields → b ≡ false →
+pub passes : (s : Contents) (c at i n : ℕ) (shape : Shape) (b : Bool) (todo rest : List ℕ) → i < n → slice_get s.shapes c ≡ Some shape → b ≡ is_strong shape.kind i shape.fields → b ≡ false →
     todo ++ slots_by (area_of s) c at i (n - i) ≡ rest → todo ++ slots_by (area_of s) c at (i + 1) (n - (i + 1)) ≡ rest
 passes s c at i n shape b todo rest l e h not_so inv =
     ap (λ (z : List ℕ). todo ++ z) (sym (slots_step (area_of s) c at i n l ∙ cond-false _ _ _ (strong_is s c i shape b e h ∙ not_so))) ∙ inv

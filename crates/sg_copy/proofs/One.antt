@@ -11,16 +11,16 @@ use Rattle.sg_space.specs.Space.{Contents, IsContents, clear_space}
 use Rattle.sg_space.specs.Standing.{word}
 use Rattle.sg_copy.specs.Area.{class_of, is_strong, Traces}
 use Rattle.sg_copy.specs.Round.{IsOpening}
-use Rattle.sg_copy.specs.Copying.{is_reference, area_of, Ends, CanCopyAll}
+use Rattle.sg_copy.specs.Copying.{is_strong_in, area_of, Ends, CanCopyAll}
 use Rattle.sg_copy.proofs.Members.{word_at-byte_at, in-one}
 use Rattle.sg_copy.proofs.Hand.{stores}
 
 module _ (s : Contents) (contents : IsContents s) (shape : Shape) (first : slice_get s.shapes 0 ≡ Some shape) (some : 0 < length s.shapes) (plain : shape.kind ≡ PtrFree)
     (tag : word s 512 ≡ 8) (len : word s 513 ≡ 1) (refers : word s (globals_base s.layout) ≡ 4096) (clear : word s (old_base s.layout) ≡ 0) where
   not_strong : (i : ℕ) → is_strong (area_of s) (word s) 512 i ≡ false
-  not_strong i = ap (λ (v : ℕ). (area_of s).strong (class_of v) i) tag ∙ ap (λ o. is_reference o i) first ∙ by_kind
+  not_strong i = ap (λ (v : ℕ). (area_of s).strong (class_of v) i) tag ∙ ap (λ o. is_strong_in o i) first ∙ by_kind
     where
-      by_kind : is_reference (Some shape) i ≡ false
+      by_kind : is_strong_in (Some shape) i ≡ false
       by_kind = rw plain refl
 
   only : (a : ℕ) → Traces (area_of s) (word s) (globals_base s.layout ∷ []) a → a ≡ 512

@@ -4,7 +4,7 @@ use Rattle.sg_words.specs.Address.{IsAddress, byte_at, word_at}
 use Rattle.sg_words.specs.Tags.{plain_word}
 use Rattle.sg_words.specs.declared.pieces.Move.{Move}
 use Rattle.sg_desc.specs.declared.shapes.Shape.{Shape}
-use Rattle.sg_desc.specs.Shapes.{holds_reference}
+use Rattle.sg_desc.specs.Shapes.{is_strong}
 use Rattle.sg_space.specs.Sections.{nursery_base, old_base, large_base, IsInSection}
 use Rattle.sg_space.specs.Space.{Contents, IsContents}
 use Rattle.sg_space.specs.Standing.{word}
@@ -14,14 +14,14 @@ use Rattle.sg_copy.specs.Image.{IsImage}
 use Rattle.sg_copy.specs.Order.{IsInOrder}
 use Rattle.sg_copy.specs.Round.{IsOpening, Handles, slots_by}
 
--- whether field i of an object of this shape holds a reference
-abbrev pub is_reference : Option Shape → ℕ → Bool
-is_reference (Some shape) i = holds_reference shape.kind i shape.fields
-is_reference None i = false
+-- whether field i of an object of this shape holds a reference that keeps its object
+abbrev pub is_strong_in : Option Shape → ℕ → Bool
+is_strong_in (Some shape) i = is_strong shape.kind i shape.fields
+is_strong_in None i = false
 
 -- the area of a round is the nursery and the major heap of the space
 abbrev pub area_of : Contents → Area
-area_of s = record { low = nursery_base; high = old_base s.layout; limit = large_base s.layout; strong = λ c i. is_reference (slice_get s.shapes c) i }
+area_of s = record { low = nursery_base; high = old_base s.layout; limit = large_base s.layout; strong = λ c i. is_strong_in (slice_get s.shapes c) i }
 
 -- nothing but words differs
 abbrev pub IsStill : Contents → Contents → Type 0
@@ -88,7 +88,7 @@ pub record HasCopiedTo (old : Contents) (front : ℕ) (slots : List ℕ) (new : 
   pub told_moves : moves ≡ map (λ a. moved_to (byte_at (m a)) a) went
   pub told_fails : fails ≡ map byte_at stayed
 
--- the reference fields of an object that is taken whole, and those of several, in order
+-- the strong fields of an object that is taken whole, and those of several, in order
 abbrev pub fields_of : Contents → ℕ → List ℕ
 fields_of s h = slots_by (area_of s) (class_of (word s h)) h 0 (word s (h + 1))
 

@@ -142,7 +142,7 @@ fn copy_words(space: &mut Space, from: Addr, to: Addr, words: u32)
     }
 }
 
-/// Adds the reference fields of an object of this class at `at`, in order.
+/// Adds the strong fields of an object of this class at `at`, in order.
 pub(crate) fn push_slots(
     space: &Space,
     todo: &mut Vec<Addr>,
@@ -157,7 +157,7 @@ pub(crate) fn push_slots(
 {
     let shape = space.shape(class);
     for i in 0..fields {
-        if shape.kind.is_ref(i, shape.fields) {
+        if shape.kind.is_strong(i, shape.fields) {
             todo.push(at.plus(2 + i))?;
         }
     }

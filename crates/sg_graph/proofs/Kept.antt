@@ -6,15 +6,14 @@ use Rattle.sg_words.specs.declared.pieces.Move.{Move}
 use Rattle.sg_graph.specs.declared.program.Program.{Program}
 use Rattle.sg_graph.specs.declared.reports.MinorReport.{MinorReport}
 use Rattle.sg_graph.specs.Graph.{Graph}
-use Rattle.sg_graph.specs.Reach.{Rounds}
 use Rattle.sg_graph.specs.Book.{Book, IsWordOf, IsApart}
-use Rattle.sg_graph.specs.Pause.{IsPointedInto}
+use Rattle.sg_graph.specs.Pause.{IsPointedInto, Reach}
 use Rattle.sg_graph.specs.Minor.{move_of, IsMinorPause}
 
 -- a root is reached by any number of rounds
-pub root_stays : (target : ℕ → ℕ → Type 0) (root : ℕ → Type 0) (k n : ℕ) → root n → Rounds target root k n
-root_stays target root zero n r = r
-root_stays target root (suc k) n r = inl (root_stays target root k n r)
+pub root_stays : (p : Program) (g : Graph) (root : ℕ → Type 0) (k n : ℕ) → root n → Reach p g root k n
+root_stays p g root zero n r = r
+root_stays p g root (suc k) n r = inl (root_stays p g root k n r)
 
 -- a standing object's first word is its own
 first_word : (g : Graph) (b : Book) (n : ℕ) → n ≢ 0 → b.stands n ≡ true → IsWordOf g b n (b.address n)
@@ -31,7 +30,7 @@ kept_in_place p g b ambiguous report h c apart pause n d q points = (
 )
   where
     stands : c.stands n ≡ true
-    stands = pause.stands n d ∙ (pause.pause.keeps n d).1 (root_stays _ _ g.count n (d, q, inr (inr (inl points))))
+    stands = pause.stands n d ∙ (pause.pause.keeps n d).1 (root_stays p g _ g.count n (inl (d, q, inr (inr (inl points)))))
 
     moved : Contains report.moves (move_of b c n) → ⊥
     moved m =

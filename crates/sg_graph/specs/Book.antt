@@ -2,13 +2,13 @@
 use Rattle.std.specs.Prelude.{◌≡◌, ℕ, ◌+◌, ◌-◌, ◌*◌, ◌<◌, ◌≤◌, ◌⊎◌, ◌==◌, min, max, Bool, true}
 use Rattle.sg_words.specs.Words.{put}
 use Rattle.sg_graph.specs.declared.program.Statement.{Statement}
-use Rattle.sg_graph.specs.declared.program.Statement.TheVariants.{New, CollectMinor}
+use Rattle.sg_graph.specs.declared.program.Statement.TheVariants.{New, NewV, Mature, Collect, Sections}
 use Rattle.sg_graph.specs.declared.program.Program.{Program}
 use Rattle.sg_graph.specs.declared.reports.Answer.{Answer}
-use Rattle.sg_graph.specs.declared.reports.Answer.TheVariants.{At, Full}
+use Rattle.sg_graph.specs.declared.reports.Answer.TheVariants.{At}
 use Rattle.sg_graph.specs.Scripts.{fields_of, words_for}
 use Rattle.sg_words.specs.Address.{byte_at}
-use Rattle.sg_graph.specs.Graph.{Graph, Entry, Ref, Int}
+use Rattle.sg_graph.specs.Graph.{Graph, Entry, Ref, Int, Inner}
 
 -- where an object stands: in the nursery, in a block of the major heap, or in pages of its own
 pub data Section : Type 0 where
@@ -97,22 +97,32 @@ pub record HasNoPlace (b : Book) (k n : ℕ) : Type 0 where
   pub short : IsShort b k n
   pub none : (f : ℕ) → f < b.fragments → LacksRoom b n f
 
--- the words of a new object of class c
+-- the words of a new object of class c, where all objects of the class have the same number
 abbrev pub words_of_class : Program → ℕ → ℕ
 words_of_class p c = words_for (fields_of p c)
 
--- where the object of a statement of mutator k with this answer stands; no other statement changes the book
+-- a small object of n words stands at the front of its mutator's buffer, or in the lowest fragment with room
+abbrev pub IsPlaced : Program → Book → ℕ → ℕ → ℕ → Book → Type 0
+IsPlaced p b k n name c = Bumps b k n name c ⊎ ((f : ℕ) × Claims p b k n name f c)
+
+-- Where the object of a statement of mutator k with this answer stands; no other statement changes the book. A new object's
+-- want of room is told at a stop alone, and a pause is made there.
 abbrev pub Books : Program → Book → ℕ → Statement → Answer → Book → Type 0
-Books p b k (New r class) (At name) c = Bumps b k (words_of_class p class) name c ⊎ ((f : ℕ) × Claims p b k (words_of_class p class) name f c)
--- no room is told at a stop alone, and a pause is made there
-Books p b k (New r class) Full c = ⊥
-Books p b k CollectMinor answer c = ⊥
+Books p b k (New r class) (At name) c = IsPlaced p b k (words_of_class p class) name c
+Books p b k (New r class) answer c = ⊥
+Books p b k (NewV r class count) (At name) c = IsPlaced p b k (words_for count) name c
+Books p b k (NewV r class count) answer c = ⊥
+Books p b k (Mature r class) answer c = ⊥
+Books p b k (Collect major) answer c = ⊥
+Books p b k Sections answer c = ⊥
 Books p b k s answer c = c ≡ b
 
--- the word of what a register or a field holds: an object's byte address, 0 for none, or the number
+-- the word of what a register, a place of a stack or a field holds: an object's byte address, or that of a byte of it, 0 for
+-- none, or the number
 abbrev pub word_of : (ℕ → ℕ) → Entry → ℕ
 word_of address (Ref name) = byte_at (address name)
 word_of address (Int number) = number
+word_of address (Inner name offset) = byte_at (address name) + offset
 
 -- the word x is one of the standing object with this name
 pub record IsWordOf (g : Graph) (b : Book) (name x : ℕ) : Type 0 where

@@ -2,17 +2,17 @@
 use Rattle.std.specs.Prelude.{◌≡◌, ℕ, zero, suc, ◌+◌, ◌<◌, ◌==◌, ◌↔◌, ◌&&◌, nat_lt, Bool, true, false, not, IsTrue, if◌then◌else◌, List, [], ◌∷◌, ◌++◌, length, map, filter}
 use Rattle.sg_words.specs.Address.{byte_at}
 use Rattle.sg_graph.specs.declared.program.Statement.{Statement}
-use Rattle.sg_graph.specs.declared.program.Statement.TheVariants.{New, CollectMinor}
+use Rattle.sg_graph.specs.declared.program.Statement.TheVariants.{New, NewV, Collect}
 use Rattle.sg_graph.specs.declared.program.Program.{Program}
 use Rattle.sg_graph.specs.declared.reports.Answer.{Answer}
-use Rattle.sg_graph.specs.declared.reports.Answer.TheVariants.{At, Nil, Null, Number, Fine, Field, Full}
+use Rattle.sg_graph.specs.declared.reports.Answer.TheVariants.{At, Nil, Null, Number, Fine, Yes, No, Field, Full}
 use Rattle.sg_graph.specs.declared.reports.Leave.{Leave}
 use Rattle.sg_graph.specs.declared.reports.Leave.TheVariants.{Ended, Wants}
 use Rattle.sg_graph.specs.declared.reports.Request.{Request}
 use Rattle.sg_graph.specs.declared.reports.Request.TheVariants.{Need, Minor}
 use Rattle.sg_graph.specs.declared.reports.Part.{Part}
 use Rattle.sg_graph.specs.declared.reports.EpochReport.{EpochReport}
-use Rattle.sg_graph.specs.Scripts.{script_of}
+use Rattle.sg_graph.specs.Scripts.{script_of, words_for}
 use Rattle.sg_graph.specs.Graph.{Graph}
 use Rattle.sg_graph.specs.Statements.{Does}
 use Rattle.sg_graph.specs.Book.{Book, Books, HasNoPlace, words_of_class, IsApart}
@@ -47,6 +47,8 @@ by_address b Nil = Nil
 by_address b Null = Null
 by_address b (Number n) = Number n
 by_address b Fine = Fine
+by_address b Yes = Yes
+by_address b No = No
 by_address b Field = Field
 by_address b Full = Full
 
@@ -54,7 +56,8 @@ by_address b Full = Full
 -- fragment has them.
 abbrev pub Asks : Program → Book → ℕ → Statement → Request → Type 0
 Asks p b k (New r class) (Need words) = (words ≡ words_of_class p class) × HasNoPlace b k words
-Asks p b k CollectMinor Minor = Unit {0}
+Asks p b k (NewV r class count) (Need words) = (words ≡ words_for count) × HasNoPlace b k words
+Asks p b k (Collect false) Minor = Unit {0}
 Asks p b k s request = ⊥
 
 -- how mutator k leaves: it has ended exactly where no statement is left, and else its next statement asks for something

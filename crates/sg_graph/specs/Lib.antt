@@ -1,4 +1,5 @@
 pub mod Scripts
+pub mod Limits
 pub mod Kinds
 pub mod Graph
 pub mod Reach
@@ -12,3 +13,4 @@ pub mod Minor
 pub mod Stop
 pub mod Run
 pub mod Trace
+pub mod Counts

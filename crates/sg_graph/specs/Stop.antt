@@ -3,7 +3,7 @@ use Rattle.std.specs.Prelude.{◌≡◌, ℕ, ◌+◌, ◌<◌, ◌||◌, Bool, 
 use Rattle.std.specs.List.{flat_map}
 use Rattle.sg_words.specs.Words.{put}
 use Rattle.sg_graph.specs.declared.program.Statement.{Statement}
-use Rattle.sg_graph.specs.declared.program.Statement.TheVariants.{New, CollectMinor}
+use Rattle.sg_graph.specs.declared.program.Statement.TheVariants.{New, NewV, Collect}
 use Rattle.sg_graph.specs.declared.program.Program.{Program}
 use Rattle.sg_graph.specs.declared.reports.Answer.{Answer}
 use Rattle.sg_graph.specs.declared.reports.Answer.TheVariants.{At, Fine, Full}
@@ -15,6 +15,7 @@ use Rattle.sg_graph.specs.declared.reports.Part.{Part}
 use Rattle.sg_graph.specs.declared.reports.MinorReport.{MinorReport}
 use Rattle.sg_graph.specs.declared.reports.Service.{Service}
 use Rattle.sg_graph.specs.declared.reports.StopReport.{StopReport}
+use Rattle.sg_graph.specs.Scripts.{words_for}
 use Rattle.sg_graph.specs.Graph.{Graph}
 use Rattle.sg_graph.specs.Statements.{Does}
 use Rattle.sg_graph.specs.Book.{Book, placed, HasRoom, LacksRoom, words_of_class, IsApart}
@@ -68,7 +69,9 @@ pub record HasNoFragment (b : Book) (n : ℕ) : Type 0 where
 abbrev pub Places : Program → Book → Statement → Answer → Book → Type 0
 Places p b (New r class) (At name) c = (f : ℕ) × Takes b (words_of_class p class) name f c
 Places p b (New r class) Full c = HasNoFragment b (words_of_class p class) × (c ≡ b)
-Places p b CollectMinor Fine c = c ≡ b
+Places p b (NewV r class count) (At name) c = (f : ℕ) × Takes b (words_for count) name f c
+Places p b (NewV r class count) Full c = HasNoFragment b (words_for count) × (c ≡ b)
+Places p b (Collect false) Fine c = c ≡ b
 Places p b statement answer c = ⊥
 
 -- the statement that asked is answered, and its mutator goes on behind it

@@ -3,7 +3,7 @@ use Rattle.std.specs.Prelude.{ℕ, suc, Bool, true, false, Option, Some, None, L
 use Rattle.std.specs.List.{flat_map}
 use Rattle.std.specs.Fmt.{decimal}
 use Rattle.sg_graph.specs.declared.reports.Answer.{Answer}
-use Rattle.sg_graph.specs.declared.reports.Answer.TheVariants.{At, Nil, Null, Number, Fine, Field, Full}
+use Rattle.sg_graph.specs.declared.reports.Answer.TheVariants.{At, Nil, Null, Number, Fine, Yes, No, Field, Full}
 use Rattle.sg_graph.specs.declared.reports.Leave.{Leave}
 use Rattle.sg_graph.specs.declared.reports.Leave.TheVariants.{Ended, Wants}
 use Rattle.sg_graph.specs.declared.reports.Request.{Request}
@@ -30,6 +30,8 @@ answer_text Nil = codes "nil"
 answer_text Null = codes "null"
 answer_text (Number n) = decimal n
 answer_text Fine = codes "ok"
+answer_text Yes = codes "yes"
+answer_text No = codes "no"
 answer_text Field = codes "field"
 answer_text Full = codes "full"
 

@@ -13,6 +13,10 @@ pub enum Answer {
     Number(u64),
     /// It is done.
     Fine,
+    /// Both are the same object, or none.
+    Yes,
+    /// They aren't.
+    No,
     /// The object has no such field, or it is of another sort.
     Field,
     /// There is no room for the object.

@@ -7,6 +7,7 @@ use Rattle.sg_graph.specs.declared.program.Program.{Program}
 use Rattle.sg_graph.specs.Scripts.{words_for}
 use Rattle.sg_graph.specs.Graph.{Graph}
 use Rattle.sg_graph.specs.Book.{Book, Section, Young, Old, nursery_base, nursery_end, old_end}
+use Rattle.sg_graph.specs.Pause.{IsPlain}
 use Rattle.sg_space.specs.declared.objects.Object.{Object}
 use Rattle.sg_space.specs.Heap.{Owner, Of, Frag, Buf, Nobody, IsHeap, layout_of}
 use Rattle.sg_copy.specs.Area.{Area, In, has, IsYoung, size_of}
@@ -35,6 +36,7 @@ pub record Ended : Type 0 where
   pub owner : ℕ → Owner
   pub standing : List Object
   pub pieces : List Piece
+  pub plain : IsPlain p g
   pub tie : IsAreaOf p area
   pub heap : IsHeap p w g b owner
   pub traced : IsTraced p area w g b ambiguous stays moves

@@ -1,4 +1,4 @@
--- The area of a space that a program has: its bounds, and which fields hold references, in the program's words.
+-- The area of a space that a program has: its bounds, and which fields are strong, in the program's words.
 use Rattle.std.proofs.Common.{◌≡◌, ℕ, Bool, Option, Some, None, map, length, slice_get, refl, ap, ◌∙◌}
 use Rattle.std.proofs.Math.Path.{fun_ext}
 use Rattle.std.specs.Option.{option_map}
@@ -6,7 +6,7 @@ use Rattle.std.proofs.lemmas.Option.{slice_get-map}
 use Rattle.std.proofs.lemmas.List.{length-map}
 use Rattle.sg_graph.specs.declared.program.Class.{Class}
 use Rattle.sg_graph.specs.declared.program.Program.{Program}
-use Rattle.sg_desc.specs.Shapes.{holds_reference}
+use Rattle.sg_desc.specs.Shapes.{is_strong as is_strong_by}
 use Rattle.sg_graph.specs.Scripts.{shape_at, kind_of, fields_of}
 use Rattle.sg_graph.specs.Book.{Book, nursery_base, nursery_end, old_end}
 use Rattle.sg_space.specs.declared.layout.Layout.{Layout}
@@ -14,28 +14,28 @@ use Rattle.sg_space.specs.Sections.{old_base, large_base}
 use Rattle.sg_space.specs.Space.{Contents}
 use Rattle.sg_space.specs.Heap.{IsSpaceOf}
 use Rattle.sg_copy.specs.Area.{Area}
-use Rattle.sg_copy.specs.Copying.{is_reference, area_of}
+use Rattle.sg_copy.specs.Copying.{is_strong_in, area_of}
 
--- whether field i of an object of class c holds a reference
+-- whether field i of an object of class c is strong
 abbrev pub refers : Program → ℕ → ℕ → Bool
-refers p c i = holds_reference (kind_of p c) i (fields_of p c)
+refers p c i = is_strong_by (kind_of p c) i (fields_of p c)
 
 -- the nursery and the major heap of a program
 abbrev pub area_for : Program → Area
 area_for p = record { low = nursery_base; high = nursery_end p; limit = old_end p; strong = refers p }
 
-by_class : (o : Option Class) (i : ℕ) → is_reference (option_map (λ (class : Class). class.shape) o) i ≡ holds_reference (shape_at o).kind i (shape_at o).fields
+by_class : (o : Option Class) (i : ℕ) → is_strong_in (option_map (λ (class : Class). class.shape) o) i ≡ is_strong_by (shape_at o).kind i (shape_at o).fields
 by_class None i = refl
 by_class (Some class) i = refl
 
-pub reference_is : (p : Program) (c i : ℕ) → is_reference (slice_get (map (λ (class : Class). class.shape) p.classes) c) i ≡ refers p c i
-reference_is p c i = ap (λ o. is_reference o i) (slice_get-map (λ (class : Class). class.shape) p.classes c) ∙ by_class (slice_get p.classes c) i
+pub reference_is : (p : Program) (c i : ℕ) → is_strong_in (slice_get (map (λ (class : Class). class.shape) p.classes) c) i ≡ refers p c i
+reference_is p c i = ap (λ o. is_strong_in o i) (slice_get-map (λ (class : Class). class.shape) p.classes c) ∙ by_class (slice_get p.classes c) i
 
 pub area_is : (p : Program) (s : Contents) (b : Book) → IsSpaceOf p s b → area_of s ≡ area_for p
 area_is p s b h =
-    ap (λ (l : Layout). record { low = nursery_base; high = old_base l; limit = large_base l; strong = λ c i. is_reference (slice_get s.shapes c) i }) h.layout
+    ap (λ (l : Layout). record { low = nursery_base; high = old_base l; limit = large_base l; strong = λ c i. is_strong_in (slice_get s.shapes c) i }) h.layout
     ∙ ap (λ (f : ℕ → ℕ → Bool). record { low = nursery_base; high = nursery_end p; limit = old_end p; strong = f })
-    (fun_ext (λ c. fun_ext (λ i. ap (λ shapes. is_reference (slice_get shapes c) i) h.shapes ∙ reference_is p c i)))
+    (fun_ext (λ c. fun_ext (λ i. ap (λ shapes. is_strong_in (slice_get shapes c) i) h.shapes ∙ reference_is p c i)))
 
 -- the space has as many classes as the program
 pub classes_are : (p : Program) (s : Contents) (b : Book) → IsSpaceOf p s b → length s.shapes ≡ length p.classes

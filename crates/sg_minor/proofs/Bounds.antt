@@ -2,11 +2,13 @@
 use Rattle.std.proofs.Common.{List, slice_get, refl, ap, ◌∙◌, arith}
 use Rattle.sg_graph.specs.declared.program.Program.{Program}
 use Rattle.sg_desc.specs.declared.shapes.Shape.{Shape}
+use Rattle.sg_graph.specs.Scripts.{kind_of, fields_of}
 use Rattle.sg_graph.specs.Book.{Book}
+use Rattle.sg_graph.proofs.Quiet.{strong_any}
 use Rattle.sg_space.specs.declared.layout.Layout.{Layout}
 use Rattle.sg_space.specs.Space.{Contents}
 use Rattle.sg_space.specs.Heap.{IsSpaceOf}
-use Rattle.sg_copy.specs.Copying.{area_of, is_reference}
+use Rattle.sg_copy.specs.Copying.{area_of, is_strong_in}
 use Rattle.sg_minor.proofs.Names.{IsAreaOf}
 use Rattle.sg_minor.proofs.Areas.{reference_is}
 
@@ -18,5 +20,5 @@ area-of-space p s b is =
       low = refl;
       high = omega arith;
       limit = omega arith;
-      strong = λ c i. ap (λ (shapes : List Shape). is_reference (slice_get shapes c) i) is.shapes ∙ reference_is p c i;
+      strong = λ c i n. ap (λ (shapes : List Shape). is_strong_in (slice_get shapes c) i) is.shapes ∙ reference_is p c i ∙ strong_any (kind_of p c) i (fields_of p c) n;
     }

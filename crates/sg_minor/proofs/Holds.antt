@@ -3,8 +3,9 @@ use Rattle.std.proofs.Common.{◌≡◌, ◌≢◌, ℕ, ◌+◌, ◌≤◌, ◌
 use Rattle.std.proofs.lemmas.Bool.{cases_eq, cases_lt}
 use Rattle.sg_desc.specs.Shapes.{holds_reference}
 use Rattle.sg_graph.specs.Scripts.{kind_of, words_for}
-use Rattle.sg_graph.specs.Graph.{Entry, Ref, Int}
+use Rattle.sg_graph.specs.Graph.{Entry, Ref, Int, Inner}
 use Rattle.sg_graph.specs.Book.{Young, Old, nursery_base, nursery_end, word_of}
+use Rattle.sg_graph.proofs.Quiet.{strong_here}
 use Rattle.sg_space.specs.Sections.{ready_base}
 use Rattle.sg_space.specs.Heap.{Of, IsHeaded, IsKnown, IsKnownEntry, IsOfSort, Objects, Fields, Globals, Clear, Fragments, IsHeap, layout_of}
 use Rattle.sg_copy.specs.Area.{In, IsYoung, size_of, is_strong, sent}
@@ -19,6 +20,8 @@ entry-word address m (Ref k) true x h e = sent-at m x (address k) e
 entry-word address m (Ref k) false x h e = absurd h
 entry-word address m (Int v) true x h e = absurd h
 entry-word address m (Int v) false x h e = e
+entry-word address m (Inner k o) true x h e = absurd h
+entry-word address m (Inner k o) false x h e = absurd h
 
 sort-of-ref : (z : Bool) (k : ℕ) → IsOfSort z (Ref k) → z ≡ true
 sort-of-ref true k h = refl
@@ -33,7 +36,7 @@ module _ (c : Ended) where
       let d = has-field n i l in
       let s = stood c n k in
       let len = size-is c.p c.area c.tie c.w c.g c.b c.ambiguous c.owner c.heap n d s in
-      let st = strong-of c.p c.area c.tie c.w c.g c.b c.ambiguous c.owner c.heap n i s d in
+      let st = strong-of c.p c.area c.tie c.w c.g c.b c.ambiguous c.owner c.heap n i s d ∙ strong_here c.p c.g c.plain n i (some-name n d) (c.heap.laid.objects.given n s) in
       (pictured c n d s (place c n d k)).fields i (omega arith)
       ∙ entry-word c.b.address c.m (c.g.field n i) (is_strong c.area c.w (c.b.address n) i) (c.w (c.b.address n + 2 + i))
       (subst (λ (z : Bool). IsOfSort z (c.g.field n i)) (sym st) (c.heap.laid.fields.sorted n i s l))
@@ -61,17 +64,20 @@ module _ (c : Ended) where
     | inr d ↦
         let s = stood c n h in
         let r = sort-of-ref (holds_reference (kind_of c.p (c.g.class n)) i (c.g.size n)) k (subst (λ z. IsOfSort (holds_reference (kind_of c.p (c.g.class n)) i (c.g.size n)) z) e (c.heap.laid.fields.sorted n i s l)) in
-        target-kept c.p c.area c.tie c.w c.g c.b c.ambiguous c.owner c.heap c.stays c.moves c.traced n k (has-field n i l) h (d, (i, l, r, e))
+        let here = strong_here c.p c.g c.plain n i (some-name n (has-field n i l)) (c.heap.laid.objects.given n s) ∙ r in
+        target-kept c.p c.area c.tie c.w c.g c.b c.ambiguous c.owner c.heap c.stays c.moves c.traced n k (has-field n i l) h (d, (i, l, here, e))
   ]
 
-  entry-known : (e : Entry) → ((k : ℕ) → e ≡ Ref k → stands_on c k ≡ true) → IsKnownEntry c.v c.g (booked c) e
-  entry-known (Ref k) h = knows k (h k refl)
-  entry-known (Int v) h = tt
+  entry-known : (z : Bool) (e : Entry) → IsOfSort z e → ((k : ℕ) → e ≡ Ref k → stands_on c k ≡ true) → IsKnownEntry c.v c.g (booked c) e
+  entry-known z (Ref k) q h = knows k (h k refl)
+  entry-known z (Int v) q h = tt
+  entry-known true (Inner k o) q h = absurd q
+  entry-known false (Inner k o) q h = absurd q
 
   fields : Fields c.p c.v c.g (booked c)
   fields = record {
     holds = fields-hold;
-    known = λ n i k l. entry-known (c.g.field n i) (λ j e. target-stands n i j k l e);
+    known = λ n i k l. entry-known (holds_reference (kind_of c.p (c.g.class n)) i (c.g.size n)) (c.g.field n i) (c.heap.laid.fields.sorted n i (stood c n k) l) (λ j e. target-stands n i j k l e);
     sorted = λ n i k l. c.heap.laid.fields.sorted n i (stood c n k) l;
   }
 

@@ -1,4 +1,4 @@
--- What stays and what moves is what the pause begins from, closed under reference fields, and nothing else.
+-- What stays and what moves is what the pause begins from, closed under strong fields, and nothing else.
 use Rattle.std.proofs.Common.{◌≡◌, ◌≢◌, ℕ, ◌+◌, ◌<◌, true, false, List, ◌++◌, sym, refl, ap, ◌∙◌, subst, inl, inr, arith}
 use Rattle.sg_words.specs.Address.{byte_at}
 use Rattle.sg_words.specs.Tags.{plain_word}

@@ -4,10 +4,11 @@ use Rattle.std.proofs.lemmas.Bool.{cases_Bool}
 use Rattle.sg_words.specs.Address.{byte_at}
 use Rattle.sg_words.specs.Tags.{plain_word}
 use Rattle.sg_graph.specs.declared.program.Program.{Program}
-use Rattle.sg_desc.specs.Shapes.{holds_reference}
-use Rattle.sg_graph.specs.Scripts.{kind_of}
+use Rattle.sg_desc.specs.Shapes.{is_strong as is_strong_by}
+use Rattle.sg_graph.specs.Scripts.{kind_of, fields_of}
 use Rattle.sg_graph.specs.Graph.{Entry, Graph}
 use Rattle.sg_graph.specs.Book.{Book, Young, Old, nursery_base, nursery_end, word_of}
+use Rattle.sg_graph.proofs.Quiet.{strong_any, strong_holds}
 use Rattle.sg_space.specs.Heap.{Owner, IsKnownEntry, IsOfSort, IsHeap}
 use Rattle.sg_copy.specs.Area.{has, In, IsYoung, class_of, is_strong, Points}
 use Rattle.sg_copy.proofs.Members.{out}
@@ -15,9 +16,9 @@ use Rattle.sg_minor.specs.Joined.{ArePins, HasTagged}
 use Rattle.sg_minor.proofs.Areas.{refers, area_for}
 use Rattle.sg_minor.proofs.Names.{of-same, class-of-plain, ref-of}
 
--- whether field i of the object n holds a reference
+-- whether field i of the object n is strong
 abbrev pub field_refers : Program → Graph → ℕ → ℕ → Bool
-field_refers p g n i = holds_reference (kind_of p (g.class n)) i (g.size n)
+field_refers p g n i = is_strong_by (kind_of p (g.class n)) i (g.size n)
 
 -- the object's words lie in the nursery, or in the filled part of the major heap
 abbrev pub IsInNursery : Program → ℕ → ℕ → Type 0
@@ -68,15 +69,15 @@ module _ (p : Program) (w : ℕ → ℕ) (g : Graph) (b : Book) (owner : ℕ →
   nursery n s y = in-nursery n s (young-named n y) (young-section n s y)
 
   pub refers-as : (n i : ℕ) → b.stands n ≡ true → n ≢ 0 → refers p (g.class n) i ≡ field_refers p g n i
-  refers-as n i s d = ap (λ (z : ℕ). holds_reference (kind_of p (g.class n)) i z) (sym (t.laid.objects.shaped n (omega arith) s).1)
+  refers-as n i s d = strong_any (kind_of p (g.class n)) i (fields_of p (g.class n)) (g.size n)
 
   pub strong-of : (n i : ℕ) → b.stands n ≡ true → n ≢ 0 → is_strong (area_for p) w (b.address n) i ≡ field_refers p g n i
   strong-of n i s d = ap (λ (c : ℕ). refers p (class_of c) i) (first n s d) ∙ ap (λ (c : ℕ). refers p c i) (class-of-plain (g.class n)) ∙ refers-as n i s d
 
-  -- a reference field of the graph is one of the words
+  -- a strong field of the graph is one of the words
   pub field-name : (n i : ℕ) → b.stands n ≡ true → i < g.size n → field_refers p g n i ≡ true → (k : ℕ) × (b.stands k ≡ true) × (w (b.address n + 2 + i) ≡ byte_at (b.address k))
   field-name n i s l e =
-      let k = ref-of (g.field n i) (subst (λ (z : Bool). IsOfSort z (g.field n i)) e (t.laid.fields.sorted n i s l)) in
+      let k = ref-of (g.field n i) (subst (λ (z : Bool). IsOfSort z (g.field n i)) (strong_holds (kind_of p (g.class n)) i (g.size n) e) (t.laid.fields.sorted n i s l)) in
       (k.0, (subst (λ (z : Entry). IsKnownEntry w g b z) k.1 (t.laid.fields.known n i s l)).0, t.laid.fields.holds n i s l ∙ ap (λ (z : Entry). word_of b.address z) k.1)
 
   module _ (ambiguous pins : List ℕ) (ps : ArePins g b ambiguous pins) where

@@ -4,13 +4,14 @@ use Rattle.std.proofs.lemmas.Bool.{cond-true, cond-false, cases_lt, cases_Bool, 
 use Rattle.sg_words.specs.Address.{byte_at}
 use Rattle.sg_words.specs.Tags.{plain_word}
 use Rattle.sg_graph.specs.declared.program.Program.{Program}
-use Rattle.sg_desc.specs.Shapes.{holds_reference}
-use Rattle.sg_graph.specs.Scripts.{kind_of, fields_of, words_for}
-use Rattle.sg_graph.specs.Graph.{Graph, Entry, Ref, Int}
+use Rattle.sg_desc.specs.Shapes.{is_strong as is_strong_by}
+use Rattle.sg_graph.specs.Scripts.{kind_of, words_for}
+use Rattle.sg_graph.specs.Graph.{Graph, Entry, Ref, Int, Inner}
 use Rattle.sg_graph.specs.Book.{Book, Young, Old, Large, nursery_base, nursery_end, old_end, word_of}
-use Rattle.sg_graph.specs.Pause.{IsTarget, IsReached, IsRoot}
+use Rattle.sg_graph.specs.Pause.{IsTarget, IsReached, IsRoot, IsPlain}
 use Rattle.sg_graph.specs.Reach.{Reached, Root, Next}
 use Rattle.sg_graph.proofs.Closure.{from_rounds, within_closed, to_rounds}
+use Rattle.sg_graph.proofs.Quiet.{strong_holds, none_ready, as_rounds}
 use Rattle.sg_space.specs.Heap.{Owner, Of, IsOfSort, IsKnownEntry, IsHeap, layout_of}
 use Rattle.sg_space.specs.Sections.{globals_base}
 use Rattle.sg_copy.specs.Area.{Area, has, IsYoung, class_of, is_strong, Points}
@@ -32,13 +33,14 @@ name-some n l e = omega arith
 pub ref-of : (e : Entry) → IsOfSort true e → (k : ℕ) × (e ≡ Ref k)
 ref-of (Ref k) h = (k, refl)
 ref-of (Int v) h = absurd h
+ref-of (Inner v o) h = absurd h
 
 -- an area is the nursery and the major heap of the program's settings, and has its classes
 pub record IsAreaOf (p : Program) (area : Area) : Type 0 where
   pub low : area.low ≡ nursery_base
   pub high : area.high ≡ nursery_end p
   pub limit : area.limit ≡ old_end p
-  pub strong : (c i : ℕ) → area.strong c i ≡ holds_reference (kind_of p c) i (fields_of p c)
+  pub strong : (c i n : ℕ) → area.strong c i ≡ is_strong_by (kind_of p c) i n
 
 module _ (p : Program) (area : Area) (tie : IsAreaOf p area) (w : ℕ → ℕ) (g : Graph) (b : Book) (ambiguous : List ℕ) (owner : ℕ → Owner) (t : IsHeap p w g b owner) where
   pub young-is : (x : ℕ) → IsYoung area x → (nursery_base ≤ x) × (x < nursery_end p)
@@ -82,16 +84,15 @@ module _ (p : Program) (area : Area) (tie : IsAreaOf p area) (w : ℕ → ℕ) (
   pub size-is : (n : ℕ) → n ≢ 0 → b.stands n ≡ true → w (b.address n + 1) ≡ g.size n
   size-is n d s = (t.headed n (some-name n d) s).1
 
-  pub strong-of : (n i : ℕ) → b.stands n ≡ true → n ≢ 0 → is_strong area w (b.address n) i ≡ holds_reference (kind_of p (g.class n)) i (g.size n)
+  pub strong-of : (n i : ℕ) → b.stands n ≡ true → n ≢ 0 → is_strong area w (b.address n) i ≡ is_strong_by (kind_of p (g.class n)) i (g.size n)
   strong-of n i s d =
       ap (λ (c : ℕ). area.strong (class_of c) i) (t.headed n (some-name n d) s).0
       ∙ ap (λ (c : ℕ). area.strong c i) (class-of-plain (g.class n))
-      ∙ tie.strong (g.class n) i
-      ∙ ap (λ (z : ℕ). holds_reference (kind_of p (g.class n)) i z) (sym (t.laid.objects.shaped n (some-name n d) s).1)
+      ∙ tie.strong (g.class n) i (g.size n)
 
-  -- a reference field
-  pub field-ref : (n i : ℕ) → b.stands n ≡ true → i < g.size n → holds_reference (kind_of p (g.class n)) i (g.size n) ≡ true → (k : ℕ) × (g.field n i ≡ Ref k)
-  field-ref n i s l e = ref-of (g.field n i) (subst (λ z. IsOfSort z (g.field n i)) e (t.laid.fields.sorted n i s l))
+  -- a strong field
+  pub field-ref : (n i : ℕ) → b.stands n ≡ true → i < g.size n → is_strong_by (kind_of p (g.class n)) i (g.size n) ≡ true → (k : ℕ) × (g.field n i ≡ Ref k)
+  field-ref n i s l e = ref-of (g.field n i) (subst (λ z. IsOfSort z (g.field n i)) (strong_holds (kind_of p (g.class n)) i (g.size n) e) (t.laid.fields.sorted n i s l))
 
   pub ref-word : (n i k : ℕ) → b.stands n ≡ true → i < g.size n → g.field n i ≡ Ref k → w (b.address n + 2 + i) ≡ byte_at (b.address k)
   ref-word n i k s l e = t.laid.fields.holds n i s l ∙ ap (word_of b.address) e
@@ -105,7 +106,7 @@ module _ (p : Program) (area : Area) (tie : IsAreaOf p area) (w : ℕ → ℕ) (
   field-name n c d s h =
       let i = h.1.0 in
       let l : i < g.size n = let u = h.1.1 in let z = size-is n d s in omega arith in
-      let e : holds_reference (kind_of p (g.class n)) i (g.size n) ≡ true = sym (strong-of n i s d) ∙ h.1.2 in
+      let e : is_strong_by (kind_of p (g.class n)) i (g.size n) ≡ true = sym (strong-of n i s d) ∙ h.1.2 in
       let r = field-ref n i s l e in
       let same : b.address r.0 ≡ c = let u = ref-word n i r.0 s l r.1 in let q = h.1.3 in omega arith in
       let k : r.0 ≢ 0 = young-named r.0 (subst (IsYoung area) (sym same) h.0) in
@@ -135,7 +136,7 @@ module _ (p : Program) (area : Area) (tie : IsAreaOf p area) (w : ℕ → ℕ) (
       | inl h ↦ (let e : b.address (g.global h.0) ≡ a = global-name h.0 a h.1 h.2 in
           let d = young-named (g.global h.0) (subst (IsYoung area) (sym e) y) in
           let s = t.laid.globals.stand h.0 h.1 in
-          record { name = g.global h.0; some = d; stands = s; at = e; reached = Root (g.global h.0) (d, s, inr (inr (inr (h.0, h.1, refl)))) })
+          record { name = g.global h.0; some = d; stands = s; at = e; reached = Root (g.global h.0) (d, s, inr (inr (inr (inl (h.0, h.1, refl))))) })
       | inr h ↦ (let f = field-name h.0 a h.1 h.2 h.4 in record { name = f.0; some = f.1; stands = f.2; at = f.3; reached = Next h.0 f.0 (Root h.0 (h.1, h.2, inl h.3)) f.4 })
     ]
   ]
@@ -232,14 +233,17 @@ module _ (p : Program) (area : Area) (tie : IsAreaOf p area) (w : ℕ → ℕ) (
     not-large : (n : ℕ) → b.stands n ≡ true → IsYoung area (b.address n) → b.section n ≡ Large → ⊥
     not-large n s y o = let e = sym (young-section n s y) ∙ o in cc
 
-    pub root-kept : (n : ℕ) → IsRoot p g b ambiguous n → kept n ≡ true
-    root-kept n r = keeps n r.1 (λ y. elim r.2 [
+    pub root-kept : IsPlain p g → (n : ℕ) → IsRoot p g b ambiguous n → kept n ≡ true
+    root-kept plain n r = keeps n r.1 (λ y. elim r.2 [
       | inl o ↦ absurd (not-old n r.1 y o)
       | inr h ↦ elim h [
         | inl o ↦ absurd (not-large n r.1 y o)
         | inr h ↦ elim h [
           | inl q ↦ tr.items (b.address n) (y, inl (n, ((r.0, r.1, young-section n r.1 y), q), refl))
-          | inr x ↦ tr.items (b.address n) (y, inr (inl (x.0, x.1, t.laid.globals.holds x.0 x.1 ∙ ap (λ z. byte_at (b.address z)) x.2)))
+          | inr h ↦ elim h [
+            | inl x ↦ tr.items (b.address n) (y, inr (inl (x.0, x.1, t.laid.globals.holds x.0 x.1 ∙ ap (λ z. byte_at (b.address z)) x.2)))
+            | inr x ↦ absurd (none_ready p g plain n x)
+          ]
         ]
       ]
     ])
@@ -253,8 +257,8 @@ module _ (p : Program) (area : Area) (tie : IsAreaOf p area) (w : ℕ → ℕ) (
           | inr v ↦ tr.items (b.address k) (y, inr (inr (n, d, s, v.section, name-field n k d s x y)))
         ])
 
-    reached-kept : (n : ℕ) → Reached (IsTarget p g) (IsRoot p g b ambiguous) n → (n ≢ 0) × (kept n ≡ true)
-    reached-kept = within_closed (IsTarget p g) (IsRoot p g b ambiguous) (λ n. (n ≢ 0) × (kept n ≡ true)) (λ n r. (r.0, root-kept n r)) (λ n k h x. (x.0, target-kept n k h.0 h.1 x))
+    reached-kept : IsPlain p g → (n : ℕ) → Reached (IsTarget p g) (IsRoot p g b ambiguous) n → (n ≢ 0) × (kept n ≡ true)
+    reached-kept plain = within_closed (IsTarget p g) (IsRoot p g b ambiguous) (λ n. (n ≢ 0) × (kept n ≡ true)) (λ n r. (r.0, root-kept plain n r)) (λ n k h x. (x.0, target-kept n k h.0 h.1 x))
 
     kept-reached : (n : ℕ) → n ≢ 0 → kept n ≡ true → Reached (IsTarget p g) (IsRoot p g b ambiguous) n
     kept-reached n d k =
@@ -266,9 +270,11 @@ module _ (p : Program) (area : Area) (tie : IsAreaOf p area) (w : ℕ → ℕ) (
         ]
 
     -- exactly what the roots reach is kept
-    pub exactly : (n : ℕ) → n ≢ 0 → kept n ≡ true ↔ IsReached p g (IsRoot p g b ambiguous) n
-    exactly n d = (
-      λ k. to_rounds (IsTarget p g) (IsRoot p g b ambiguous) g.count
-          (λ m r. (let h = reached-kept m r in (some-name m h.0, t.laid.objects.given m (kept-stands m h.1)))) n (kept-reached n d k),
-      λ r. (reached-kept n (from_rounds (IsTarget p g) (IsRoot p g b ambiguous) g.count n r)).1,
+    pub exactly : IsPlain p g → (n : ℕ) → n ≢ 0 → kept n ≡ true ↔ IsReached p g (IsRoot p g b ambiguous) n
+    exactly plain n d = (
+      λ k. (as_rounds p g plain (IsRoot p g b ambiguous) bound n).1 (to_rounds (IsTarget p g) (IsRoot p g b ambiguous) g.count bound n (kept-reached n d k)),
+      λ r. (reached-kept plain n (from_rounds (IsTarget p g) (IsRoot p g b ambiguous) g.count n ((as_rounds p g plain (IsRoot p g b ambiguous) bound n).0 r))).1,
     )
+      where
+        bound : (m : ℕ) → Reached (IsTarget p g) (IsRoot p g b ambiguous) m → (1 ≤ m) × (m ≤ g.count)
+        bound m r = let h = reached-kept plain m r in (some-name m h.0, t.laid.objects.given m (kept-stands m h.1))

@@ -4,20 +4,21 @@ use Rattle.std.proofs.lemmas.Bool.{cases_eq, cases_lt, false≢true}
 use Rattle.sg_words.specs.Address.{byte_at}
 use Rattle.sg_words.specs.Tags.{plain_word}
 use Rattle.sg_graph.specs.declared.program.Program.{Program}
-use Rattle.sg_desc.specs.Shapes.{holds_reference}
-use Rattle.sg_graph.specs.Scripts.{kind_of}
+use Rattle.sg_desc.specs.Shapes.{is_strong as is_strong_by}
+use Rattle.sg_graph.specs.Scripts.{kind_of, fields_of}
 use Rattle.sg_graph.specs.Graph.{Graph}
 use Rattle.sg_graph.specs.Book.{Book, Old, nursery_end, old_end}
+use Rattle.sg_graph.proofs.Quiet.{strong_any}
 use Rattle.sg_space.specs.Sections.{globals_base, old_base, large_base}
 use Rattle.sg_space.specs.Space.{Contents, IsContents}
 use Rattle.sg_space.specs.Standing.{word}
 use Rattle.sg_space.specs.Heap.{Owner, Of, IsHeap, IsSpaceOf, HoldsHeap}
 use Rattle.sg_copy.specs.Area.{Area, In, IsYoung, class_of}
-use Rattle.sg_copy.specs.Copying.{area_of, is_reference}
+use Rattle.sg_copy.specs.Copying.{area_of, is_strong_in}
 use Rattle.sg_minor.specs.Joined.{IsSeed, Global, Field, AreSeeds}
 use Rattle.sg_minor.specs.Parts.{GrowsBy, IsGlobal, IsFieldOf, IsOldField}
 use Rattle.sg_minor.proofs.Grown.{grown_more, grown_as, grown_none}
-use Rattle.sg_minor.proofs.Sound.{length_is, class_is, shape_is, size_is, owned, owns, owns_first, one_owner, old_inside, few_fields, few_classes, known_class, nursery_is, blocks_is, inside}
+use Rattle.sg_minor.proofs.Sound.{length_is, class_is, shape_is, owned, owns, owns_first, one_owner, old_inside, few_fields, few_classes, known_class, nursery_is, blocks_is, inside}
 
 module _ (area : Area) (w : ℕ → ℕ) (c h i : ℕ) (xs ys : List ℕ) where
   -- the next field is a reference, and its slot is handled
@@ -41,7 +42,7 @@ module _ (area : Area) (w : ℕ → ℕ) (c h i : ℕ) (xs ys : List ℕ) where
 
 -- a slot of an old object that begins below the word x
 abbrev pub IsOldBelow : Program → Graph → Book → ℕ → ℕ → Type 0
-IsOldBelow p g b x t = (n : ℕ) × (i : ℕ) × (n ≢ 0) × (b.stands n ≡ true) × (b.section n ≡ Old) × (b.address n < x) × (i < g.size n) × (holds_reference (kind_of p (g.class n)) i (g.size n) ≡ true) × (t ≡ b.address n + 2 + i)
+IsOldBelow p g b x t = (n : ℕ) × (i : ℕ) × (n ≢ 0) × (b.stands n ≡ true) × (b.section n ≡ Old) × (b.address n < x) × (i < g.size n) × (is_strong_by (kind_of p (g.class n)) i (g.size n) ≡ true) × (t ≡ b.address n + 2 + i)
 
 -- the word x is the first one of an old object, or the filled part of the major heap ends there
 abbrev pub IsBorder : Program → Graph → Book → ℕ → Type 0
@@ -53,11 +54,11 @@ pub record IsSeeded (p : Program) (s : Contents) (g : Graph) (b : Book) (x : ℕ
   pub grown : GrowsBy (area_of s) (word s) (IsOldBelow p g b x) old new
 
 module _ (p : Program) (s : Contents) (g : Graph) (b : Book) (is : IsSpaceOf p s b) (owner : ℕ → Owner) (heap : IsHeap p (word s) g b owner) (contents : IsContents s) where
-  -- the strong fields by the words are the reference fields by the class
-  pub strong_is : (n i : ℕ) → n ≢ 0 → b.stands n ≡ true → (area_of s).strong (g.class n) i ≡ holds_reference (kind_of p (g.class n)) i (g.size n)
+  -- the strong fields by the words are those by the class
+  pub strong_is : (n i : ℕ) → n ≢ 0 → b.stands n ≡ true → (area_of s).strong (g.class n) i ≡ is_strong_by (kind_of p (g.class n)) i (g.size n)
   strong_is n i some stands =
-      ap (λ z. is_reference z i) (shape_is p s g b is owner heap contents n some stands)
-      ∙ ap (λ z. holds_reference (kind_of p (g.class n)) i z) (sym (size_is p s g b is owner heap contents n some stands))
+      ap (λ z. is_strong_in z i) (shape_is p s g b is owner heap contents n some stands)
+      ∙ strong_any (kind_of p (g.class n)) i (fields_of p (g.class n)) (g.size n)
 
   -- where a filled part begins, there is an object or its end
   pub border_at : (x : ℕ) → nursery_end p ≤ x → x ≤ b.fill → ((m : ℕ) → m ≢ 0 → b.stands m ≡ true → b.section m ≡ Old → b.address m < x → b.address m + (g.size m + 2) ≤ x) → IsBorder p g b x
@@ -141,7 +142,7 @@ module _ (p : Program) (s : Contents) (g : Graph) (b : Book) (is : IsSpaceOf p s
               | inr e ↦ inr (
                 q.1,
                 subst (λ z. q.1 < g.size z) e q.6,
-                strong_is n q.1 some stands ∙ subst (λ z. holds_reference (kind_of p (g.class z)) q.1 (g.size z) ≡ true) e q.7,
+                strong_is n q.1 some stands ∙ subst (λ z. is_strong_by (kind_of p (g.class z)) q.1 (g.size z) ≡ true) e q.7,
                 subst (λ z. t ≡ b.address z + 2 + q.1) e q.8,
               )
             ]);

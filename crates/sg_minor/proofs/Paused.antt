@@ -4,6 +4,7 @@ use Rattle.sg_graph.specs.declared.program.Program.{Program}
 use Rattle.sg_graph.specs.declared.reports.MinorReport.{MinorReport}
 use Rattle.sg_graph.specs.Graph.{Graph}
 use Rattle.sg_graph.specs.Book.{Book}
+use Rattle.sg_graph.specs.Pause.{IsPlain}
 use Rattle.sg_space.specs.declared.layout.Layout.{Layout}
 use Rattle.sg_space.specs.declared.objects.Object.{Object}
 use Rattle.sg_space.specs.Space.{Contents}
@@ -20,7 +21,7 @@ use Rattle.sg_minor.proofs.Holds.{held}
 use Rattle.sg_minor.proofs.Told.{minor}
 
 module _ (p : Program) (s : Contents) (g : Graph) (b : Book) (ambiguous pins moves fails : List ℕ) (m : ℕ → ℕ) (v : Contents) (end : ℕ) (standing : List Object) (report : MinorReport)
-    (heap : HoldsHeap p s g b) (pinned : ArePins g b ambiguous pins) (ended : IsEnded p s g b ambiguous pins moves fails m (word v) end)
+    (heap : HoldsHeap p s g b) (plain : IsPlain p g) (pinned : ArePins g b ambiguous pins) (ended : IsEnded p s g b ambiguous pins moves fails m (word v) end)
     (words : HaveWords standing (word s) (pins ++ fails)) (tiles : ArePieces s.layout standing report.pieces) (fitted : IsRefitted s v report.pieces) where
   abbrev the_pause : Ended
   the_pause = record {
@@ -38,6 +39,7 @@ module _ (p : Program) (s : Contents) (g : Graph) (b : Book) (ambiguous pins mov
     owner = heap.1.0;
     standing = standing;
     pieces = report.pieces;
+    plain = plain;
     tie = area-of-space p s b heap.0;
     heap = heap.1.1;
     traced = ended.traced;
@@ -67,5 +69,5 @@ module _ (p : Program) (s : Contents) (g : Graph) (b : Book) (ambiguous pins mov
   }
 
 pub pause_law : PauseLaw
-pause_law p s g b ambiguous pins moves fails m v end standing report heap contents pinned ended told words tiles fitted =
-    paused p s g b ambiguous pins moves fails m v end standing report heap pinned ended words tiles fitted told
+pause_law p s g b ambiguous pins moves fails m v end standing report heap plain contents pinned ended told words tiles fitted =
+    paused p s g b ambiguous pins moves fails m v end standing report heap plain pinned ended words tiles fitted told

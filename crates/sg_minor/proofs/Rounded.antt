@@ -14,14 +14,15 @@ use Rattle.sg_minor.specs.Parts.{IsStaying, AreRounded, AreStaying, AreKept, Are
 use Rattle.sg_words.specs.Address.{IsAddress, byte_at, word_at}
 use Rattle.sg_words.specs.Tags.{plain_word}
 use Rattle.sg_graph.specs.declared.program.Program.{Program}
-use Rattle.sg_desc.specs.Shapes.{holds_reference}
+use Rattle.sg_desc.specs.Shapes.{holds_reference, is_strong as is_strong_by}
 use Rattle.sg_graph.specs.Scripts.{kind_of}
 use Rattle.sg_graph.specs.Reach.{Root, Next}
-use Rattle.sg_graph.specs.Graph.{Graph, Entry, Ref, Int}
+use Rattle.sg_graph.specs.Graph.{Graph, Entry, Ref, Int, Inner}
 use Rattle.sg_graph.specs.Book.{Book, Young, old_end, word_of}
 use Rattle.sg_space.specs.Sections.{globals_base}
 use Rattle.sg_space.specs.Space.{Contents, IsContents}
 use Rattle.sg_space.specs.Standing.{word, TellsYoung}
+use Rattle.sg_graph.proofs.Quiet.{strong_holds}
 use Rattle.sg_space.specs.Heap.{Owner, Of, Frag, Buf, Nobody, IsHeap, IsSpaceOf, layout_of, IsOfSort, IsKnownEntry}
 use Rattle.sg_copy.specs.Area.{Area, In, has, IsYoung, class_of, size_of, Traces}
 use Rattle.sg_copy.specs.Image.{IsImage}
@@ -78,11 +79,13 @@ module _ (p : Program) (s : Contents) (g : Graph) (b : Book) (is : IsSpaceOf p s
   target_of a (Ref k) false r sort known w young = absurd (false≢true r)
   target_of a (Int v) true r sort known w young = absurd sort
   target_of a (Int v) false r sort known w young = absurd (false≢true r)
+  target_of a (Inner v o) true r sort known w young = absurd sort
+  target_of a (Inner v o) false r sort known w young = absurd sort
 
-  -- the young object to which a reference field refers
-  target : (n i a : ℕ) → b.stands n ≡ true → i < g.size n → holds_reference (kind_of p (g.class n)) i (g.size n) ≡ true → word s (b.address n + 2 + i) ≡ byte_at a → IsYoung (area_of s) a → IsYoungAt a
+  -- the young object to which a strong field refers
+  target : (n i a : ℕ) → b.stands n ≡ true → i < g.size n → is_strong_by (kind_of p (g.class n)) i (g.size n) ≡ true → word s (b.address n + 2 + i) ≡ byte_at a → IsYoung (area_of s) a → IsYoungAt a
   target n i a stands l ref w young =
-      target_of a (g.field n i) (holds_reference (kind_of p (g.class n)) i (g.size n)) ref (heap.laid.fields.sorted n i stands l) (heap.laid.fields.known n i stands l)
+      target_of a (g.field n i) (holds_reference (kind_of p (g.class n)) i (g.size n)) (strong_holds (kind_of p (g.class n)) i (g.size n) ref) (heap.laid.fields.sorted n i stands l) (heap.laid.fields.known n i stands l)
       (sym (heap.laid.fields.holds n i stands l) ∙ w) young
 
   global_target : (x a : ℕ) → x < 64 → word s (globals_base (layout_of p) + x) ≡ byte_at a → IsYoung (area_of s) a → IsYoungAt a
@@ -138,7 +141,7 @@ module _ (p : Program) (s : Contents) (g : Graph) (b : Book) (is : IsSpaceOf p s
     -- a slot of the round
     abbrev IsItem : ℕ → Type 0
     IsItem t = ((x : ℕ) × (x < 64) × (t ≡ globals_base (layout_of p) + x))
-        ⊎ ((n : ℕ) × (i : ℕ) × (n ≢ 0) × (b.stands n ≡ true) × (i < g.size n) × (holds_reference (kind_of p (g.class n)) i (g.size n) ≡ true) × (t ≡ b.address n + 2 + i))
+        ⊎ ((n : ℕ) × (i : ℕ) × (n ≢ 0) × (b.stands n ≡ true) × (i < g.size n) × (is_strong_by (kind_of p (g.class n)) i (g.size n) ≡ true) × (t ≡ b.address n + 2 + i))
 
     seed_item : (t : ℕ) → IsSeed p g b t → IsItem t
     seed_item t (Global x l e) = inl (x, l, e)

@@ -1,14 +1,14 @@
 -- A space that holds a graph by a book is sound: the owners by names give the owners by first words.
-use Rattle.std.proofs.Common.{◌≡◌, ◌≢◌, ℕ, zero, suc, ◌+◌, ◌-◌, ◌<◌, ◌≤◌, ◌⊎◌, inl, inr, List, [], ◌∷◌, map, length, Option, Some, None, true, refl, sym, ap, ◌∙◌, subst, arith, slice_get}
+use Rattle.std.proofs.Common.{◌≡◌, ◌≢◌, ℕ, zero, suc, ◌+◌, ◌-◌, ◌<◌, ◌≤◌, ◌⊎◌, inl, inr, List, [], ◌∷◌, map, length, Option, Some, None, true, false, refl, sym, ap, ◌∙◌, subst, arith, slice_get}
 use Rattle.std.proofs.lemmas.Bool.{cases_eq, cases_lt}
 use Rattle.std.proofs.lemmas.List.{length-map}
-use Rattle.std.proofs.lemmas.List.Elements.{All-contains}
-use Rattle.std.proofs.lemmas.Option.{none-some, same_Some, slice_get_within, get_or_from_slice_get}
+use Rattle.std.proofs.lemmas.Option.{none-some, same_Some}
 use Rattle.sg_words.specs.Tags.{plain_word}
 use Rattle.sg_graph.specs.declared.program.Class.{Class}
 use Rattle.sg_graph.specs.declared.program.Program.{Program}
 use Rattle.sg_desc.specs.declared.shapes.Shape.{Shape}
-use Rattle.sg_graph.specs.Scripts.{shape_at, shape_of, fields_of}
+use Rattle.sg_desc.specs.Shapes.{is_vector}
+use Rattle.sg_graph.specs.Scripts.{shape_at, shape_of, kind_of, fields_of}
 use Rattle.sg_graph.specs.Graph.{Graph}
 use Rattle.sg_graph.specs.Book.{Book, Young, Old, nursery_end}
 use Rattle.sg_space.specs.Space.{Contents, IsContents}
@@ -95,17 +95,11 @@ module _ (p : Program) (s : Contents) (g : Graph) (b : Book) (is : IsSpaceOf p s
   pub shape_is : (n : ℕ) → n ≢ 0 → b.stands n ≡ true → slice_get s.shapes (g.class n) ≡ Some (shape_of p (g.class n))
   shape_is n some stands = ap (λ (l : List Shape). slice_get l (g.class n)) is.shapes ∙ shape_there p.classes (g.class n) (heap.laid.objects.shaped n (omega (arith, some)) stands).0
 
-  pub size_is : (n : ℕ) → n ≢ 0 → b.stands n ≡ true → g.size n ≡ fields_of p (g.class n)
-  size_is n some stands = (heap.laid.objects.shaped n (omega (arith, some)) stands).1
+  pub size_is : (n : ℕ) → n ≢ 0 → b.stands n ≡ true → is_vector (kind_of p (g.class n)) ≡ false → g.size n ≡ fields_of p (g.class n)
+  size_is n some stands = (heap.laid.objects.shaped n (omega (arith, some)) stands).1.1
 
   pub few_fields : (n : ℕ) → n ≢ 0 → b.stands n ≡ true → g.size n ≤ 62
-  few_fields n some stands =
-      let c = g.class n in
-      let shape = shape_of p c in
-      let at = shape_is n some stands in
-      let few : shape.fields ≤ 62 = All-contains (λ (z : Shape). z.fields ≤ 62) s.shapes shape contents.shapes.fields (c, slice_get_within s.shapes c shape at, get_or_from_slice_get s.shapes c shape shape at) in
-      let size = size_is n some stands in
-      omega arith
+  few_fields n some stands = (heap.laid.objects.shaped n (omega (arith, some)) stands).1.0
 
   pub few_classes : (n : ℕ) → n ≢ 0 → b.stands n ≡ true → g.class n < 256
   few_classes n some stands = let known = known_class n some stands in let few = contents.shapes.classes in omega arith
@@ -162,7 +156,7 @@ module _ (p : Program) (s : Contents) (g : Graph) (b : Book) (is : IsSpaceOf p s
         shape = shape_of p (g.class n);
         shape_is = shape_is n some stands;
         tag = class_is n some stands;
-        size = length_is n some stands ∙ size_is n some stands;
+        size = λ v. length_is n some stands ∙ size_is n some stands v;
         small = omega arith;
         inside = elim (inside n some stands) [
           | inl in_nursery ↦ let to = in_nursery.2 in inl (in_nursery.1, omega arith)

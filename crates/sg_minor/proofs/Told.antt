@@ -1,12 +1,13 @@
 -- What a minor pause keeps, and what its report tells.
-use Rattle.std.proofs.Common.{◌≡◌, ◌≢◌, ℕ, ◌+◌, ◌≤◌, ◌<◌, ◌⊎◌, true, false, List, ◌++◌, Contains, sym, refl, ap, ◌∙◌, subst, inl, inr, arith}
-use Rattle.std.proofs.lemmas.Bool.{cond-true, cond-false}
+use Rattle.std.proofs.Common.{◌≡◌, ◌≢◌, ℕ, ◌+◌, ◌≤◌, ◌<◌, ◌⊎◌, eqb, cond, Bool, true, false, List, ◌++◌, Contains, sym, refl, ap, ◌∙◌, subst, inl, inr, arith}
+use Rattle.std.proofs.lemmas.Bool.{cond-true, cond-false, cases_eq, eq-eqb, ne_eqb}
 use Rattle.sg_words.specs.Address.{byte_at}
 use Rattle.sg_words.specs.declared.pieces.Move.{Move}
 use Rattle.sg_graph.specs.declared.reports.MinorReport.{MinorReport}
 use Rattle.sg_graph.specs.Scripts.{words_for}
 use Rattle.sg_graph.specs.Book.{Young, Old, nursery_base, nursery_end, old_end, IsWordOf, IsApart}
-use Rattle.sg_graph.specs.Pause.{IsPinned, StandsYoung}
+use Rattle.sg_graph.specs.Pause.{IsPinned, StandsYoung, IsRoot}
+use Rattle.sg_graph.proofs.Quiet.{quiet}
 use Rattle.sg_graph.specs.Tiling.{IsCovered, IsTiled}
 use Rattle.sg_graph.specs.Tiling.{IsGap as IsGapOf}
 use Rattle.sg_graph.specs.Minor.{IsLoose, HasMoved, HasFailed, IsStill, AreLines, IsMinorPause, move_of}
@@ -220,12 +221,28 @@ module _ (c : Ended) where
     still-or-told n d (Moved i h q l u) = inr ((told.moves.exact (move_of c.b (booked c) n)).1 (c.b.address n, h, refl))
     still-or-told n d (Older o q e) = inl (record { address = e; section = q ∙ sym o.section })
 
+    -- what stands after the pause, but for nothing
+    stays_on : ℕ → Bool
+    stays_on n = cond (eqb n 0) false (stands_on c n)
+
+    stays_as : (n : ℕ) → n ≢ 0 → stays_on n ≡ stands_on c n
+    unfolding stays_on
+    stays_as n d = cond-false _ _ _ (ne_eqb n 0 d)
+
+    among : (n : ℕ) → stays_on n ≡ true → (1 ≤ n) × (n ≤ c.g.count)
+    unfolding stays_on
+    among n k = elim (cases_eq n 0) [
+      | inl e ↦ absurd (let z : false ≡ true = sym (cond-true _ _ _ (eq-eqb n 0 e)) ∙ k in cc)
+      | inr d ↦ (some-name n d, c.heap.laid.objects.given n (stood c n (sym (stays_as n d) ∙ k)))
+    ]
+
     pub minor : c.pieces ≡ report.pieces → IsMinorPause c.p c.g c.b c.ambiguous report c.g (booked c)
     minor same = record {
-      kept = stands_on c;
-      pause = record { keeps = exactly c.p c.area c.tie c.w c.g c.b c.ambiguous c.owner c.heap c.stays c.moves c.traced; after = refl };
+      kept = stays_on;
+      pause = quiet c.p c.g c.plain (IsRoot c.p c.g c.b c.ambiguous) stays_on among (λ n d. (let e = exactly c.p c.area c.tie c.w c.g c.b c.ambiguous c.owner c.heap c.stays c.moves c.traced c.plain n d in
+          ((λ k. e.0 (sym (stays_as n d) ∙ k)), (λ r. stays_as n d ∙ e.1 r))));
       nothing = (stands-nothing c, unmoved-nil c);
-      stands = λ n d. refl;
+      stands = λ n d. sym (stays_as n d);
       stood = stood c;
       pinned = λ n h. (pin-stands n h, still-of n (pin-stays (c.b.address n) (pinned.all n h)));
       still = λ n d k. still-or-told n d (place c n d k);

@@ -9,6 +9,7 @@ use Rattle.sg_words.specs.declared.pieces.Piece.{Piece}
 use Rattle.sg_graph.specs.declared.program.Program.{Program}
 use Rattle.sg_graph.specs.Graph.{Graph}
 use Rattle.sg_graph.specs.Book.{Book, nursery_end, old_end}
+use Rattle.sg_graph.specs.Pause.{IsPlain}
 use Rattle.sg_space.specs.declared.objects.Object.{Object}
 use Rattle.sg_space.specs.Sections.{old_base, large_base}
 use Rattle.sg_space.specs.Space.{Contents, IsContents}
@@ -149,12 +150,12 @@ module _ (p : Program) (s : Contents) (g : Graph) (b : Book) (heap : HoldsHeap p
             (has_swept p s g b heap.0 heap.1.0 heap.1.1 contents ambiguous (map word_at bytes) slots named_pins seeds tagged still tags copied.went copied.stayed copied.m (word round) (word_at end) image told told_of_heap
             (word swept) cleaned)
 
-        pub is_paused : JoinLaw → PauseLaw → (pieces : List Piece) → ArePieces swept.layout standing pieces →
+        pub is_paused : JoinLaw → PauseLaw → IsPlain p g → (pieces : List Piece) → ArePieces swept.layout standing pieces →
             (final : Contents) → final ≡ record swept { next = fronts_of pieces; ends = ends_of pieces } →
             HasPaused p g b ambiguous final (record { pins = bytes; moves = told_moves_are; fails = told_fails_are; spares = 0; pieces = pieces })
-        is_paused join law pieces are final e =
+        is_paused join law plain pieces are final e =
             law p s g b ambiguous (map word_at bytes) copied.went copied.stayed copied.m final (word_at end) standing (record { pins = bytes; moves = told_moves_are; fails = told_fails_are; spares = 0; pieces = pieces })
-            heap contents named_pins
+            heap plain contents named_pins
             (subst (λ w. IsEnded p s g b ambiguous (map word_at bytes) copied.went copied.stayed copied.m w (word_at end)) (ap (λ (z : Contents). word z) (sym e)) (ended join))
             (record {
               pins = told_pins p s g b heap.0 heap.1.0 heap.1.1 contents ambiguous (map word_at bytes) slots named_pins seeds tagged still tags copied.went copied.stayed copied.m (word round) (word_at end) image told told_of_heap

@@ -3,7 +3,7 @@ use Rattle.std.specs.Prelude.{◌≡◌, ◌≢◌, ℕ, ◌+◌, ◌<◌, ◌�
 use Rattle.sg_words.specs.Address.{byte_at, word_at}
 use Rattle.sg_words.specs.declared.pieces.Move.{Move}
 use Rattle.sg_graph.specs.declared.program.Program.{Program}
-use Rattle.sg_desc.specs.Shapes.{holds_reference}
+use Rattle.sg_desc.specs.Shapes.{is_strong as is_strong_by}
 use Rattle.sg_graph.specs.Scripts.{kind_of}
 use Rattle.sg_graph.specs.Graph.{Graph}
 use Rattle.sg_graph.specs.Book.{Book, Old, old_end}
@@ -26,10 +26,10 @@ pub record HasTagged (old : ℕ → ℕ) (pins : List ℕ) (new : ℕ → ℕ) :
   pub tagged : (a : ℕ) → In a pins → new a ≡ old a + 2
   pub same : (y : ℕ) → has y pins ≡ false → new y ≡ old y
 
--- a slot outside of the nursery: a global, or a reference field of an old object
+-- a slot outside of the nursery: a global, or a strong field of an old object
 pub data IsSeed (p : Program) (g : Graph) (b : Book) (s : ℕ) : Type 0 where
   Global : (x : ℕ) → x < 64 → s ≡ globals_base (layout_of p) + x → IsSeed p g b s
-  Field : (n i : ℕ) → n ≢ 0 → b.stands n ≡ true → b.section n ≡ Old → i < g.size n → holds_reference (kind_of p (g.class n)) i (g.size n) ≡ true →
+  Field : (n i : ℕ) → n ≢ 0 → b.stands n ≡ true → b.section n ≡ Old → i < g.size n → is_strong_by (kind_of p (g.class n)) i (g.size n) ≡ true →
       s ≡ b.address n + 2 + i → IsSeed p g b s
 
 -- these are such slots, and all of them that refer to a young object
@@ -37,7 +37,7 @@ pub record AreSeeds (p : Program) (w : ℕ → ℕ) (area : Area) (g : Graph) (b
   pub each : (s : ℕ) → In s slots → IsSeed p g b s
   pub all : (s x : ℕ) → IsSeed p g b s → w s ≡ byte_at x → IsYoung area x → In s slots
 
--- What a pause begins from: the young object is pinned, or a global or a reference field of an old object refers to it.
+-- What a pause begins from: the young object is pinned, or a global or a strong field of an old object refers to it.
 abbrev pub IsItem : Program → Area → (ℕ → ℕ) → Graph → Book → List ℕ → ℕ → Type 0
 IsItem p area w g b ambiguous a =
     IsYoung area a
@@ -49,7 +49,7 @@ IsItem p area w g b ambiguous a =
 abbrev pub IsKept : List ℕ → List ℕ → ℕ → Type 0
 IsKept stays moves a = In a stays ⊎ In a moves
 
--- the kept young objects are those that stay and those that move: what the pause begins from, closed under reference fields,
+-- the kept young objects are those that stay and those that move: what the pause begins from, closed under strong fields,
 -- and nothing else
 pub record IsTraced (p : Program) (area : Area) (w : ℕ → ℕ) (g : Graph) (b : Book) (ambiguous stays moves : List ℕ) : Type 0 where
   pub items : (a : ℕ) → IsItem p area w g b ambiguous a → IsKept stays moves a

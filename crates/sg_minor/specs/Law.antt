@@ -10,6 +10,7 @@ use Rattle.sg_graph.specs.declared.program.Program.{Program}
 use Rattle.sg_graph.specs.declared.reports.MinorReport.{MinorReport}
 use Rattle.sg_graph.specs.Graph.{Graph}
 use Rattle.sg_graph.specs.Book.{Book}
+use Rattle.sg_graph.specs.Pause.{IsPlain}
 use Rattle.sg_graph.specs.Minor.{sources, IsMinorPause}
 use Rattle.sg_space.specs.declared.objects.Object.{Object}
 use Rattle.sg_space.specs.Space.{Contents, IsContents}
@@ -53,6 +54,6 @@ pub record HasPaused (p : Program) (g : Graph) (b : Book) (ambiguous : List ℕ)
 abbrev pub PauseLaw : Type 0
 PauseLaw =
     (p : Program) (s : Contents) (g : Graph) (b : Book) (ambiguous pins moves fails : List ℕ) (m : ℕ → ℕ) (v : Contents) (end : ℕ) (standing : List Object) (report : MinorReport) →
-    HoldsHeap p s g b → IsContents s → ArePins g b ambiguous pins → IsEnded p s g b ambiguous pins moves fails m (word v) end → IsReportOf report pins moves fails m →
+    HoldsHeap p s g b → IsPlain p g → IsContents s → ArePins g b ambiguous pins → IsEnded p s g b ambiguous pins moves fails m (word v) end → IsReportOf report pins moves fails m →
     HaveWords standing (word s) (pins ++ fails) → ArePieces s.layout standing report.pieces → IsRefitted s v report.pieces →
     HasPaused p g b ambiguous v report

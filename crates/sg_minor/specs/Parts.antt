@@ -7,7 +7,7 @@ use Rattle.sg_words.specs.Tags.{plain_word}
 use Rattle.sg_words.specs.declared.pieces.Move.{Move}
 use Rattle.sg_graph.specs.declared.program.Program.{Program}
 use Rattle.sg_graph.specs.Graph.{Graph}
-use Rattle.sg_desc.specs.Shapes.{holds_reference}
+use Rattle.sg_desc.specs.Shapes.{is_strong as is_strong_by}
 use Rattle.sg_graph.specs.Scripts.{kind_of}
 use Rattle.sg_graph.specs.Book.{Book, Old}
 use Rattle.sg_graph.specs.Minor.{sources}
@@ -34,13 +34,13 @@ pub record GrowsBy (area : Area) (w : ℕ → ℕ) (sort : ℕ → Type 0) (old 
 abbrev pub IsGlobal : Layout → ℕ → ℕ → Type 0
 IsGlobal layout n t = (x : ℕ) × (x < n) × (t ≡ globals_base layout + x)
 
--- one of the first reference fields of an object of class c at the word h
+-- one of the first strong fields of an object of class c at the word h
 abbrev pub IsFieldOf : Area → ℕ → ℕ → ℕ → ℕ → Type 0
 IsFieldOf area c h n t = (i : ℕ) × (i < n) × (area.strong c i ≡ true) × (t ≡ h + 2 + i)
 
--- a reference field of an old object
+-- a strong field of an old object
 abbrev pub IsOldField : Program → Graph → Book → ℕ → Type 0
-IsOldField p g b t = (n : ℕ) × (i : ℕ) × (n ≢ 0) × (b.stands n ≡ true) × (b.section n ≡ Old) × (i < g.size n) × (holds_reference (kind_of p (g.class n)) i (g.size n) ≡ true) × (t ≡ b.address n + 2 + i)
+IsOldField p g b t = (n : ℕ) × (i : ℕ) × (n ≢ 0) × (b.stands n ≡ true) × (b.section n ≡ Old) × (i < g.size n) × (is_strong_by (kind_of p (g.class n)) i (g.size n) ≡ true) × (t ≡ b.address n + 2 + i)
 
 -- each is the byte address of a first word with a plain tag
 pub record ArePlain (s : Contents) (pins : List ℕ) : Type 0 where

@@ -2,6 +2,7 @@ ghost use Rattle.std.specs.Prelude.{◌≡◌, ℕ, IfOk};
 ghost use Rattle.sg_graph.specs.declared.program.Program.{Program};
 ghost use Rattle.sg_graph.specs.Graph.{Graph};
 ghost use Rattle.sg_graph.specs.Book.{Book};
+ghost use Rattle.sg_graph.specs.Pause.{IsPlain};
 ghost use Rattle.sg_space.specs.Space.{IsContents};
 ghost use Rattle.sg_space.specs.Heap.{HoldsHeap};
 ghost use Rattle.sg_minor.specs.Law.{HasPaused};
@@ -33,7 +34,7 @@ pub fn minor(
     ambiguous: &[u64],
 ) -> Result<(Space, MinorReport), AllocError>
     requires { HoldsSome space }
-    ensures paused { IfOk result (λ r. (p : Program) (g : Graph) (b : Book) → HoldsHeap p space g b → HasPaused p g b ambiguous.now r.0 r.1) }
+    ensures paused { IfOk result (λ r. (p : Program) (g : Graph) (b : Book) → HoldsHeap p space g b → IsPlain p g → HasPaused p g b ambiguous.now r.0 r.1) }
     ensures contents { IfOk result (λ r. IsContents r.0) }
     ensures stop { IfOk result (λ r. r.0.stop ≡ space.stop) }
     ensures layout { IfOk result (λ r. r.0.layout ≡ space.layout) }

@@ -17,7 +17,7 @@ use sg_space::Space;
 use sg_words::{Addr, Tag, read_tag};
 use std::alloc::{AllocError, Global};
 
-/// The slots outside of the nursery that refer to young objects: the globals in order, then the reference fields of old
+/// The slots outside of the nursery that refer to young objects: the globals in order, then the strong fields of old
 /// objects by address. Linear in the objects of the major heap and their fields.
 pub(crate) fn seeds(alloc: Global, space: &Space) -> Result<Vec<Addr>, AllocError>
     requires contents { IsContents space.now }
@@ -42,7 +42,7 @@ fn add_globals(space: &Space, slots: &mut Vec<Addr>) -> Result<(), AllocError>
     Ok(())
 }
 
-// Adds the reference fields of old objects that refer to young ones.
+// Adds the strong fields of old objects that refer to young ones.
 fn add_old(space: &Space, slots: &mut Vec<Addr>) -> Result<(), AllocError>
     requires contents { IsContents space.now }
     requires heap { HoldsSome space.now }
@@ -60,7 +60,7 @@ fn add_old(space: &Space, slots: &mut Vec<Addr>) -> Result<(), AllocError>
     Ok(())
 }
 
-// Adds the reference fields of this object that refer to young ones; the answer is how many fields the object has.
+// Adds the strong fields of this object that refer to young ones; the answer is how many fields the object has.
 fn add_object(space: &Space, slots: &mut Vec<Addr>, at: Addr) -> Result<u32, AllocError>
     requires layout { IsLayout space.now.layout }
     requires class { (class : ℕ) × (class < length space.now.shapes) × (class < 256) × (word space.now (word_at at) ≡ plain_word class) }
@@ -80,7 +80,7 @@ fn add_object(space: &Space, slots: &mut Vec<Addr>, at: Addr) -> Result<u32, All
     Ok(fields)
 }
 
-// Adds the reference fields of an object of this class that refer to young ones.
+// Adds the strong fields of an object of this class that refer to young ones.
 fn add_fields(
     space: &Space,
     slots: &mut Vec<Addr>,
@@ -95,7 +95,7 @@ fn add_fields(
 {
     let shape = space.shape(class);
     for i in 0..fields {
-        if shape.kind.is_ref(i, shape.fields) {
+        if shape.kind.is_strong(i, shape.fields) {
             add_slot(space, slots, at.plus(2 + i))?;
         }
     }

@@ -1,10 +1,11 @@
 -- Lines and words of a text, from the front.
-use Rattle.std.proofs.Common.{◌≡◌, ℕ, ◌+◌, ◌-◌, ◌<◌, ◌≤◌, suc, Bool, true, false, not, List, [], ◌∷◌, length, take, drop, get_or, ◌++◌, append_assoc, filter, map, refl, sym, ap, ◌∙◌, inl, inr, arith}
-use Rattle.std.specs.List.{position_or_len}
+use Rattle.std.proofs.Common.{◌≡◌, ℕ, ◌+◌, ◌-◌, ◌<◌, ◌≤◌, suc, Bool, false, cond, not, List, [], ◌∷◌, length, take, drop, get_or, ◌++◌, append_assoc, filter, refl, sym, ap, ◌∙◌, inl, inr, arith}
+use Rattle.std.specs.List.{position_or_len, count_by}
+use Rattle.std.proofs.lemmas.List.Sums.{sum_by-cons}
 use Rattle.std.proofs.Math.Seq.{take-length}
 use Rattle.std.proofs.lemmas.Bool.{cases_Bool}
-use Rattle.sg_parse.specs.Text.{parted_by, is_line_feed, is_blank, is_empty, lines_of, words_of}
-use Rattle.sg_parse.specs.Reading.{words_in, with_words, Cuts}
+use Rattle.sg_parse.specs.Words.{parted_by, onto_first, is_line_feed, is_blank, is_empty, lines_of}
+use Rattle.sg_parse.specs.Steps.{words_in}
 
 one_more : (n : ℕ) → 1 + n ≡ suc n
 one_more n = omega arith
@@ -30,9 +31,6 @@ parts_past_word p (c ∷ cs) =
       | inr e ↦ rw (e, one_more (position_or_len p cs)) (parts_past_word p cs)
     ]
 
-pub words_past_blank : (c : ℕ) (cs : List ℕ) → is_blank c ≡ true → words_in (c ∷ cs) ≡ words_in cs
-words_past_blank c cs e = rw e refl
-
 words_past_word_of : (p : ℕ → Bool) (c : ℕ) (cs : List ℕ) → p c ≡ false
     → filter (λ word. not (is_empty word)) (parted_by p (c ∷ cs)) ≡ take (position_or_len p (c ∷ cs)) (c ∷ cs) ∷ filter (λ word. not (is_empty word)) (parted_by p (drop (position_or_len p (c ∷ cs)) (c ∷ cs)))
 words_past_word_of p c cs e =
@@ -41,36 +39,6 @@ words_past_word_of p c cs e =
 
 pub words_past_word : (c : ℕ) (cs : List ℕ) → is_blank c ≡ false → words_in (c ∷ cs) ≡ take (position_or_len is_blank (c ∷ cs)) (c ∷ cs) ∷ words_in (drop (position_or_len is_blank (c ∷ cs)) (c ∷ cs))
 words_past_word c cs e = words_past_word_of is_blank c cs e
-
-kept : (words : List (List ℕ)) (more : List (List (List ℕ))) → filter (λ ws. not (is_empty ws)) (words ∷ more) ≡ with_words words (filter (λ ws. not (is_empty ws)) more)
-kept [] more = refl
-kept (w ∷ ws) more = refl
-
-cut_by : (bytes line rest : List ℕ) → lines_of bytes ≡ line ∷ lines_of rest → Cuts bytes line rest
-cut_by bytes line rest e = record {
-  proper = rw e refl;
-  content = rw e (kept (words_of line) (map words_of (lines_of rest)));
-}
-
-cut_end : (bytes line : List ℕ) → lines_of bytes ≡ line ∷ [] → Cuts bytes line []
-cut_end bytes line e = record {
-  proper = rw e refl;
-  content = rw e (kept (words_of line) []);
-}
-
-cut_at_end : (bytes line rest : List ℕ) → lines_of bytes ≡ line ∷ parts_after is_line_feed rest → length rest ≡ 0 → Cuts bytes line rest
-cut_at_end bytes line [] e none = cut_end bytes line e
-cut_at_end bytes line (c ∷ cs) e none = absurd (omega arith)
-
-cut_at_more : (bytes line rest : List ℕ) → lines_of bytes ≡ line ∷ parts_after is_line_feed rest → 0 < length rest → Cuts bytes line (drop 1 rest)
-cut_at_more bytes line [] e some = absurd (omega arith)
-cut_at_more bytes line (c ∷ cs) e some = cut_by bytes line cs e
-
-pub cut_last : (bytes : List ℕ) (n : ℕ) → n ≡ position_or_len is_line_feed bytes → length (drop n bytes) ≡ 0 → Cuts bytes (take n bytes) (drop n bytes)
-cut_last bytes n e none = cut_at_end bytes (take n bytes) (drop n bytes) (rw e (parted_front is_line_feed bytes)) none
-
-pub cut_more : (bytes : List ℕ) (n : ℕ) → n ≡ position_or_len is_line_feed bytes → 0 < length (drop n bytes) → Cuts bytes (take n bytes) (drop 1 (drop n bytes))
-cut_more bytes n e some = cut_at_more bytes (take n bytes) (drop n bytes) (rw e (parted_front is_line_feed bytes)) some
 
 words_from : (rest : List ℕ) → 0 < length rest → is_blank (get_or rest 0 0) ≡ false → words_in rest ≡ take (position_or_len is_blank rest) rest ∷ words_in (drop (position_or_len is_blank rest) rest)
 words_from [] some dark = absurd (omega arith)
@@ -82,45 +50,39 @@ words_more before text rest word more n some dark n-is word-is more-is e =
     let front : words_in rest ≡ word ∷ words_in more = rw (word-is, more-is, n-is) (words_from rest some dark) in
     e ∙ ap (λ (words : List (List ℕ)). before ++ words) front ∙ sym (append_assoc before (word ∷ []) (words_in more))
 
-pub cut_empty : (bytes line rest : List ℕ) (n : ℕ) → n ≡ position_or_len is_line_feed bytes → line ≡ take n bytes → rest ≡ drop n bytes → length rest < 1 → Cuts bytes line rest
-cut_empty bytes line rest n n-is line-is rest-is none = rw (line-is, rest-is) (cut_last bytes n n-is (rw (← rest-is) (omega arith)))
+cut_at : (bytes line rest : List ℕ) → lines_of bytes ≡ line ∷ parts_after is_line_feed rest → 1 ≤ length rest → lines_of bytes ≡ line ∷ lines_of (drop 1 rest)
+cut_at bytes line [] e some = absurd (omega arith)
+cut_at bytes line (c ∷ cs) e some = e
+
+cut_end : (bytes line rest : List ℕ) → lines_of bytes ≡ line ∷ parts_after is_line_feed rest → length rest < 1 → lines_of bytes ≡ line ∷ []
+cut_end bytes line [] e none = e
+cut_end bytes line (c ∷ cs) e none = absurd (omega arith)
+
+pub cut_empty : (bytes line rest : List ℕ) (n : ℕ) → n ≡ position_or_len is_line_feed bytes → line ≡ take n bytes → rest ≡ drop n bytes → length rest < 1 → lines_of bytes ≡ line ∷ []
+cut_empty bytes line rest n n-is line-is rest-is none = cut_end bytes line rest (rw (line-is, rest-is, n-is) (parted_front is_line_feed bytes)) none
 
 whole_front : (rest : List ℕ) → take (length rest - 1) (drop 1 rest) ≡ drop 1 rest
 whole_front [] = refl
 whole_front (c ∷ cs) = let len : length (c ∷ cs) - 1 ≡ length cs = omega arith in rw len (take-length cs)
 
-pub cut_some : (bytes line rest : List ℕ) (n : ℕ) → n ≡ position_or_len is_line_feed bytes → line ≡ take n bytes → rest ≡ drop n bytes → 1 ≤ length rest → Cuts bytes line (take (length rest - 1) (drop 1 rest))
+pub cut_some : (bytes line rest : List ℕ) (n : ℕ) → n ≡ position_or_len is_line_feed bytes → line ≡ take n bytes → rest ≡ drop n bytes → 1 ≤ length rest → lines_of bytes ≡ line ∷ lines_of (take (length rest - 1) (drop 1 rest))
 cut_some bytes line rest n n-is line-is rest-is some =
-    rw (whole_front rest, line-is, rest-is) (cut_more bytes n n-is (rw (← rest-is) (omega arith)))
+    rw (whole_front rest) (cut_at bytes line rest (rw (line-is, rest-is, n-is) (parted_front is_line_feed bytes)) some)
 
-pub two : {A B : Type 0} (f : A → B) (words : List A) (d : A) → 2 ≤ length words → length words < 3 → map f words ≡ f (get_or words 0 d) ∷ f (get_or words 1 d) ∷ []
-two f [] d least most = absurd (omega arith)
-two f (x ∷ []) d least most = absurd (omega arith)
-two f (x ∷ y ∷ []) d least most = refl
-two f (x ∷ y ∷ z ∷ zs) d least most = absurd (omega arith)
+no_more : (n : ℕ) → 0 + n ≡ n
+no_more n = omega arith
 
-pub three : {A B : Type 0} (f : A → B) (words : List A) (d : A) → 3 ≤ length words → length words < 4 → map f words ≡ f (get_or words 0 d) ∷ f (get_or words 1 d) ∷ f (get_or words 2 d) ∷ []
-three f [] d least most = absurd (omega arith)
-three f (x ∷ []) d least most = absurd (omega arith)
-three f (x ∷ y ∷ []) d least most = absurd (omega arith)
-three f (x ∷ y ∷ z ∷ []) d least most = refl
-three f (x ∷ y ∷ z ∷ u ∷ us) d least most = absurd (omega arith)
+length_onto : (c : ℕ) (parts : List (List ℕ)) → 1 ≤ length parts → length (onto_first c parts) ≡ length parts
+length_onto c [] some = absurd (omega arith)
+length_onto c (part ∷ parts) some = refl
 
-pub four : {A B : Type 0} (f : A → B) (words : List A) (d : A) → 4 ≤ length words → length words < 5 → map f words ≡ f (get_or words 0 d) ∷ f (get_or words 1 d) ∷ f (get_or words 2 d) ∷ f (get_or words 3 d) ∷ []
-four f [] d least most = absurd (omega arith)
-four f (x ∷ []) d least most = absurd (omega arith)
-four f (x ∷ y ∷ []) d least most = absurd (omega arith)
-four f (x ∷ y ∷ z ∷ []) d least most = absurd (omega arith)
-four f (x ∷ y ∷ z ∷ u ∷ []) d least most = refl
-four f (x ∷ y ∷ z ∷ u ∷ v ∷ vs) d least most = absurd (omega arith)
-
-pub six : {A B : Type 0} (f : A → B) (words : List A) (d : A) → 6 ≤ length words → length words < 7
-    → map f words ≡ f (get_or words 0 d) ∷ f (get_or words 1 d) ∷ f (get_or words 2 d) ∷ f (get_or words 3 d) ∷ f (get_or words 4 d) ∷ f (get_or words 5 d) ∷ []
-six f [] d least most = absurd (omega arith)
-six f (x ∷ []) d least most = absurd (omega arith)
-six f (x ∷ y ∷ []) d least most = absurd (omega arith)
-six f (x ∷ y ∷ z ∷ []) d least most = absurd (omega arith)
-six f (x ∷ y ∷ z ∷ u ∷ []) d least most = absurd (omega arith)
-six f (x ∷ y ∷ z ∷ u ∷ v ∷ []) d least most = absurd (omega arith)
-six f (x ∷ y ∷ z ∷ u ∷ v ∷ w ∷ []) d least most = refl
-six f (x ∷ y ∷ z ∷ u ∷ v ∷ w ∷ t ∷ ts) d least most = absurd (omega arith)
+-- there is one line more than line feeds
+pub length_lines : (bytes : List ℕ) → length (lines_of bytes) ≡ suc (count_by is_line_feed bytes)
+length_lines [] = refl
+length_lines (c ∷ cs) =
+    let more : length (lines_of cs) ≡ suc (count_by is_line_feed cs) = length_lines cs in
+    let step = sum_by-cons (λ (b : ℕ). cond (is_line_feed b) 1 0) c cs in
+    elim (cases_Bool (is_line_feed c)) [
+      | inl e ↦ rw (step, e) (ap suc (more ∙ sym (one_more (count_by is_line_feed cs))))
+      | inr e ↦ rw (step, e) (length_onto c (lines_of cs) (omega arith) ∙ more ∙ ap suc (sym (no_more (count_by is_line_feed cs))))
+    ]

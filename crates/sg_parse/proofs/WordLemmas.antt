@@ -5,8 +5,7 @@ use mir.Val.{bool_byte}
 use Rattle.std.proofs.Math.Seq.{drop-cons}
 use Rattle.std.proofs.Math.Nat.{pow-suc}
 use Rattle.std.proofs.Math.Pow.{pow_mono}
-use Rattle.std.proofs.Common.{Option, Some, ◌≡◌, ◌≢◌, ℕ, zero, suc, ◌+◌, ◌*◌, ◌-◌, ◌^◌, ◌<◌, ◌≤◌, Bool, true, false, cond, eqb, leb, ◌&&◌, List, [], ◌∷◌, length, get_or, drop, Result, Ok, Err, refl, sym, subst, ◌∙◌, arith}
-use Rattle.std.specs.List.{list_all}
+use Rattle.std.proofs.Common.{Option, Some, ◌≡◌, ◌≢◌, ℕ, zero, suc, ◌+◌, ◌*◌, ◌-◌, ◌^◌, ◌<◌, ◌≤◌, Bool, true, false, cond, eqb, List, [], ◌∷◌, length, get_or, drop, Result, Ok, Err, refl, sym, subst, ◌∙◌, arith}
 use Rattle.std.specs.Fmt.{decimal}
 use Rattle.std.specs.Str.Parse.{ParsesUnsigned, digits_value}
 use Rattle.std.specs.Str.{all_ascii_digits}
@@ -14,12 +13,9 @@ use Rattle.std.specs.Str.{IsUtf8}
 use Rattle.std.proofs.lemmas.Str.{IsUtf8-from_ascii}
 use Rattle.std.proofs.lemmas.Str.Parse.{IsNumeralModel, numerals_by_value, tells_all_ascii_digits, parse_plain}
 use Rattle.std.proofs.lemmas.Fmt.{parse-decimal, decimal_injective, IsAscii-decimal, decimal-digits_value, digits_decimal, first_decimal, decimal_digit, decimal_nonempty}
-use Rattle.sg_parse.specs.Text.{IsNumber, is_letter, is_name_byte, is_name, mask_bits}
+use Rattle.sg_parse.specs.Words.{IsNumber, mask_bits}
 
-all_digits : List ℕ → Type 0
-all_digits ds = all_ascii_digits ds ≡ true
-
-own : IsNumeralModel (λ ds. all_ascii_digits ds ≡ true) (digits_value 10)
+pub own : IsNumeralModel (λ ds. all_ascii_digits ds ≡ true) (digits_value 10)
 own = numerals_by_value _ tells_all_ascii_digits
 
 pub number_found : (E : Type 0) (word : List ℕ) (n : ℕ) → ParsesUnsigned {E = E} 64 10 word (Ok n) → get_or word 0 0 ≢ 43 → (get_or word 0 0 ≡ 48 → length word ≡ 1) → IsNumber word n
@@ -59,10 +55,6 @@ number_unique word m n a b = decimal_injective m n a.1 b.1 (sym a.0 ∙ b.0)
 
 pub number_ascii : (word : List ℕ) (n : ℕ) → IsNumber word n → IsUtf8 word
 number_ascii word n is = rw is.0 (IsUtf8-from_ascii (decimal n) (IsAscii-decimal n is.1))
-
-pub is_name_cons : (word : List ℕ) → 0 < length word → is_name word ≡ (is_letter (get_or word 0 0) && list_all is_name_byte (drop 1 word) && leb (length (drop 1 word)) 31)
-is_name_cons [] h = absurd (omega arith)
-is_name_cons (c ∷ cs) h = refl
 
 pub parsed_found : (E : Type 0) (text word : List ℕ) (r : Result ℕ E) (o : Option ℕ) → text ≡ word → o ≡ result_ok r → ParsesUnsigned {E = E} 64 10 text r → get_or word 0 0 ≢ 43 → get_or word 0 0 ≢ 48 → IfSome o (IsNumber word)
 parsed_found E text word (Ok n) o same e parses sign lead = rw e (number_found E word n (rw same at parses) sign (λ h. absurd (lead h)))

@@ -1,63 +1,64 @@
--- Which inputs are accepted, and as which program.
-use Rattle.std.specs.Prelude.{◌≡◌, ℕ, ◌+◌, ◌%◌, ◌<◌, ◌≤◌, List, length}
+-- Which inputs are accepted, as which program, and how the others are refused.
+use Rattle.std.specs.Prelude.{◌≡◌, ◌≢◌, ℕ, ◌<◌, ◌≤◌, List, length}
 use Rattle.std.specs.List.{AllByRecursion}
-use Rattle.sg_desc.specs.declared.shapes.Descriptor.{Descriptor}
-use Rattle.sg_desc.specs.declared.shapes.Descriptor.TheVariants.{PtrFree, Run, Bitmap, VectorRefs, VectorPlain, Ephemeron}
-use Rattle.sg_graph.specs.declared.program.Config.{Config}
-use Rattle.sg_graph.specs.declared.program.Class.{Class}
+use Rattle.sg_graph.specs.declared.program.Script.{Script}
 use Rattle.sg_graph.specs.declared.program.Program.{Program}
-use Rattle.sg_graph.specs.Scripts.{script_of}
-use Rattle.sg_graph.specs.Kinds.{first_kinds, HasNoMisuse}
-use Rattle.sg_parse.specs.Text.{IsClassName, Reads}
+use Rattle.sg_graph.specs.Scripts.{written}
+use Rattle.sg_graph.specs.Kinds.{HasNoMisuse}
+use Rattle.sg_graph.specs.Limits.{IsWithinLimits, IsRun}
+use Rattle.sg_parse.specs.declared.refusal.Refusal.{Refusal}
+use Rattle.sg_parse.specs.declared.refusal.Refusal.TheVariants.{TooLong, Syntax, Class, Limit, Later, Memory}
+use Rattle.sg_parse.specs.Words.{lines_of}
+use Rattle.sg_parse.specs.Text.{IsText, IsFirstRefused, Reads}
+use Rattle.sg_parse.specs.Faults.{IsFirstFault, HasNone, IsMisnamed, IsLimitFault, KeepsLimits, IsLater}
 
--- a class with this descriptor may have this many fields
-abbrev pub MayHave : Descriptor → ℕ → Type 0
-MayHave PtrFree fields = fields ≤ 62
-MayHave (Run first count) fields = (1 ≤ count) × (first + count ≤ fields) × (fields ≤ 62)
-MayHave (Bitmap bits) fields = fields ≤ 60
-MayHave VectorRefs fields = fields ≡ 0
-MayHave VectorPlain fields = fields ≡ 0
-MayHave Ephemeron fields = fields ≡ 2
+-- the most bytes of an input
+abbrev pub byte_limit : ℕ
+byte_limit = 1048576
 
-abbrev pub IsSmallClass : Class → Type 0
-IsSmallClass class = MayHave class.shape.kind class.shape.fields
-
--- the limits of the settings
-pub record AreWithinLimits (config : Config) : Type 0 where
-  pub nursery_least : 256 ≤ config.nursery
-  pub nursery_most : config.nursery ≤ 65536
-  pub nursery_even : config.nursery % 64 ≡ 0
-  pub blocks_least : 1 ≤ config.blocks
-  pub blocks_most : config.blocks ≤ 4096
-  pub pages_most : config.pages ≤ 1024
-  pub buffer_least : 16 ≤ config.buffer
-  pub buffer_most : config.buffer ≤ 1024
-  pub workers_least : 1 ≤ config.workers
-  pub workers_most : config.workers ≤ 8
-  pub cement_least : 1 ≤ config.cement
-  pub cement_most : config.cement ≤ 1000
-
--- the limits of a program
-pub record IsWithinLimits (p : Program) : Type 0 where
-  pub settings : AreWithinLimits p.config
-  pub classes : length p.classes ≤ 256
-  pub fields : AllByRecursion IsSmallClass p.classes
-  pub mutators_least : 1 ≤ length p.mutators
-  pub mutators_most : length p.mutators ≤ 16
-
--- the bytes are accepted as this program: they are few enough, they read as it, each class is declared once, the limits
--- hold, and no statement finds an operand of another kind than it needs
-pub record IsAcceptedAs (bytes : List ℕ) (p : Program) : Type 0 where
-  pub short : length bytes ≤ 1048576
+-- The bytes are few enough, they read as this program, each class is declared once and above its use, the limits hold, and
+-- there is nothing that isn't run yet.
+pub record IsReadAs (bytes : List ℕ) (p : Program) : Type 0 where
+  pub short : length bytes ≤ byte_limit
   pub reads : Reads bytes p
-  pub distinct : (i j : ℕ) (name : List ℕ) → IsClassName p.classes name i → IsClassName p.classes name j → i ≡ j
+  pub named : HasNone IsMisnamed (lines_of bytes)
+  pub limits : KeepsLimits (lines_of bytes)
+  pub now : HasNone IsLater (lines_of bytes)
+
+-- How a text is refused: it is too long; else at the first line that the grammar refuses; else at the first one that misnames a
+-- class; else at the first one that breaks a limit; else at the first one that isn't run yet. Nothing is said of want of memory.
+abbrev pub IsRefusedBy : List ℕ → Refusal → Type 0
+IsRefusedBy bytes TooLong = byte_limit < length bytes
+IsRefusedBy bytes (Syntax line) = (length bytes ≤ byte_limit) × IsFirstRefused (lines_of bytes) line
+IsRefusedBy bytes (Class line) = (length bytes ≤ byte_limit) × IsText (lines_of bytes) × IsFirstFault IsMisnamed (lines_of bytes) line
+IsRefusedBy bytes (Limit line which) =
+    (length bytes ≤ byte_limit) × IsText (lines_of bytes) × HasNone IsMisnamed (lines_of bytes) × IsLimitFault (lines_of bytes) line which
+IsRefusedBy bytes (Later line) =
+    (length bytes ≤ byte_limit) × IsText (lines_of bytes) × HasNone IsMisnamed (lines_of bytes) × KeepsLimits (lines_of bytes) × IsFirstFault IsLater (lines_of bytes) line
+IsRefusedBy bytes Memory = Unit {0}
+
+-- what is known of a program that was read
+pub record IsReadProgram (p : Program) : Type 0 where
   pub limits : IsWithinLimits p
-  pub kinds : (k : ℕ) → k < length p.mutators → HasNoMisuse first_kinds (script_of p k)
+  pub alone : length p.mutators ≡ 1
+  pub run : AllByRecursion (λ (script : Script). AllByRecursion (IsRun p) (written script.items)) p.mutators
+
+-- the bytes are accepted as this program: they read as it, and no statement finds an operand of another kind than it needs
+pub record IsAcceptedAs (bytes : List ℕ) (p : Program) : Type 0 where
+  pub reads : IsReadAs bytes p
+  pub kinds : AllByRecursion (λ (script : Script). HasNoMisuse script.items) p.mutators
+
+-- what is known of a program that is accepted
+pub record IsAcceptedProgram (p : Program) : Type 0 where
+  pub read : IsReadProgram p
+  pub kinds : AllByRecursion (λ (script : Script). HasNoMisuse script.items) p.mutators
 
 -- the bytes are accepted as some program
 abbrev pub IsAccepted : List ℕ → Type 0
 IsAccepted bytes = (p : Program) × IsAcceptedAs bytes p
 
--- some bytes are accepted as this program
-abbrev pub IsAcceptedProgram : Program → Type 0
-IsAcceptedProgram p = (bytes : List ℕ) × IsAcceptedAs bytes p
+-- no text is refused in two ways: the cause, its line and its limit are fixed; and none that is refused reads as a program. Of
+-- want of memory nothing is said.
+pub record HasOneRefusal : Type 0 where
+  pub one : (bytes : List ℕ) (r s : Refusal) → r ≢ Memory → s ≢ Memory → IsRefusedBy bytes r → IsRefusedBy bytes s → r ≡ s
+  pub none : (bytes : List ℕ) (r : Refusal) (p : Program) → r ≢ Memory → IsRefusedBy bytes r → ¬ IsReadAs bytes p

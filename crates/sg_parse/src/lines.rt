@@ -1,8 +1,8 @@
 //! Lines, and the words of a line.
-ghost use Rattle.std.specs.Prelude.{◌≡◌, ◌≤◌, ◌<◌, ◌↔◌, [], ◌∷◌, true, false, length, IfOk, IfSome, IfNone, IsTrue, map, ◌==◌};
+ghost use Rattle.std.specs.Prelude.{◌≡◌, ◌≤◌, ◌<◌, [], ◌∷◌, true, false, length, IfOk, IfSome, IfNone, map, ◌==◌};
 ghost use Rattle.std.specs.List.{list_all, position_or_len};
-ghost use Rattle.sg_parse.specs.Text.{is_blank, is_line_feed, is_proper, words_of};
-ghost use Rattle.sg_parse.specs.Reading.{is_shown, words_in, proper, Cuts, IsNext};
+ghost use Rattle.sg_parse.specs.Words.{is_blank, is_line_feed, is_proper, lines_of, words_of};
+ghost use Rattle.sg_parse.specs.Steps.{is_shown, words_in};
 
 use std::alloc::{AllocError, Global};
 
@@ -83,7 +83,7 @@ fn words_in(alloc: Global, text: &[u8]) -> Result<Vec<&[u8]>, AllocError>
 }
 
 /// The words of a line; `None` where another byte stands outside its comment.
-fn words_of(alloc: Global, line: &[u8]) -> Result<Option<Vec<&[u8]>>, AllocError>
+pub(crate) fn words_of(alloc: Global, line: &[u8]) -> Result<Option<Vec<&[u8]>>, AllocError>
     ensures found { IfOk result (λ read. IfSome read (λ words. (is_proper line.now ≡ true) × (map (λ word. word.now) words.items ≡ words_of line.now))) }
     ensures none { IfOk result (λ read. IfNone read (is_proper line.now ≡ false)) }
 {
@@ -94,71 +94,29 @@ fn words_of(alloc: Global, line: &[u8]) -> Result<Option<Vec<&[u8]>>, AllocError
     Ok(Some(words_in(alloc, text)?))
 }
 
-/// The first line, and the bytes behind its line feed.
-fn cut_line(bytes: &[u8]) -> (&[u8], &[u8])
-    requires { 0 < length bytes.now }
-    ensures cuts { Cuts bytes.now result.0.now result.1.now }
-    ensures shorter { length result.1.now < length bytes.now }
+/// The first line, and the bytes behind its line feed, if it has one.
+pub(crate) fn cut_line(bytes: &[u8]) -> (&[u8], Option<&[u8]>)
+    ensures cuts { IfSome result.1 (λ rest. lines_of bytes.now ≡ result.0.now ∷ lines_of rest.now) }
+    ensures shorter { IfSome result.1 (λ rest. length rest.now < length bytes.now) }
+    ensures last { IfNone result.1 (lines_of bytes.now ≡ result.0.now ∷ []) }
 {
     let (line, rest) = bytes.split_at(line_len(bytes));
     match rest {
-        [] => (line, rest),
-        [_, after @ ..] => (line, after),
+        [] => (line, None),
+        [_, after @ ..] => (line, Some(after)),
     }
 }
 
-/// A line's words, and the bytes behind the line.
-#[derive(Drop)]
-pub(crate) struct Line<'a> {
-    pub(crate) words: Vec<&'a [u8]>,
-    pub(crate) rest: &'a [u8],
-}
-
-/// The next line that has words; one without words at the end. `None` where a line is not proper.
-pub(crate) fn next_line(alloc: Global, bytes: &[u8]) -> Result<Option<Line<'_>>, AllocError>
-    ensures found { IfOk result (λ read. IfSome read (λ line. IsNext bytes.now (map (λ word. word.now) line.words.items) line.rest.now)) }
-    ensures none { IfOk result (λ read. IfNone read (proper bytes.now ≡ false)) }
+/// How many lines the bytes have.
+pub(crate) fn count_lines(bytes: &[u8]) -> u32
+    requires { length bytes.now ≤ 1048576 }
+    ensures { result ≡ length (lines_of bytes.now) }
 {
-    let mut rest = bytes;
-    while !rest.is_empty() {
-        let (line, after) = cut_line(rest);
-        let Some(words) = words_of(alloc, line)? else {
-            return Ok(None);
-        };
-        rest = after;
-        if !words.is_empty() {
-            return Ok(Some(Line { words, rest }));
+    let mut count = 1;
+    for byte in bytes {
+        if *byte == b'\n' {
+            count += 1;
         }
     }
-    Ok(Some(Line {
-        words: Vec::new(alloc),
-        rest,
-    }))
-}
-
-/// Whether the words are the same.
-pub(crate) fn says(word: &[u8], text: &[u8]) -> bool
-    ensures { IsTrue result ↔ (word.now ≡ text.now) }
-{
-    word == text
-}
-
-/// Whether a line has this word alone.
-pub(crate) fn is_one(words: &[&[u8]], text: &[u8]) -> bool
-    ensures { IsTrue result ↔ (map (λ word. word.now) words.now ≡ text.now ∷ []) }
-{
-    match *words {
-        [word] => says(word, text),
-        _ => false,
-    }
-}
-
-/// Whether a line has these two words alone.
-pub(crate) fn is_two(words: &[&[u8]], first: &[u8], second: &[u8]) -> bool
-    ensures { IsTrue result ↔ (map (λ word. word.now) words.now ≡ first.now ∷ second.now ∷ []) }
-{
-    match *words {
-        [one, two] => says(one, first) && says(two, second),
-        _ => false,
-    }
+    count
 }

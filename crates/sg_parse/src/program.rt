@@ -1,170 +1,140 @@
-ghost use Rattle.std.specs.Prelude.{◌≡◌, IfOk, IfSome, IfNone};
-ghost use Rattle.sg_parse.specs.Accepted.{IsAccepted, IsAcceptedAs};
-ghost use Rattle.sg_parse.specs.Reading.{program_of};
+//! The reading as a whole.
+ghost use Rattle.std.specs.Prelude.{◌≡◌, ◌≢◌, ◌<◌, ◌≤◌, Some, map, length, slice_get, IfOk, IfErr};
+ghost use Rattle.sg_graph.specs.declared.program.Program.{Program as AnyProgram};
+ghost use Rattle.sg_parse.specs.declared.refusal.Refusal.{Refusal as AnyRefusal};
+ghost use Rattle.sg_parse.specs.Words.{lines_of};
+ghost use Rattle.sg_parse.specs.Text.{IsWhole, HasOneReading};
+ghost use Rattle.sg_parse.specs.Faults.{IsMisnamed, IsLater, classes_in};
+ghost use Rattle.sg_parse.specs.Accepted.{IsReadAs, IsReadProgram, IsRefusedBy, HasOneRefusal};
+ghost use Rattle.sg_parse.specs.Reading.{sentence_of, AreRead};
 
-use crate::kinds::has_no_misuse;
-use crate::statements::items;
-use crate::{classes, head};
-use sg_graph::{Class, Config, Item, Program, Script};
-use sg_words::List;
+use crate::build::{Built, build};
+use crate::later::later;
+use crate::names::{Named, name_classes};
+use crate::order::{Order, order_of};
+use crate::refusal::{Refusal, Which};
+use crate::scan::{Scanned, scan};
+use sg_graph::Program;
 use std::alloc::{AllocError, Global};
 
-/// No more bytes are read.
+/// The most bytes of an input.
 const MOST_BYTES: usize = 1_048_576;
 
-/// The program as which the bytes are accepted; `None` where they are not. Linear in the bytes.
-pub fn parse(alloc: Global, bytes: &[u8]) -> Result<Option<Program>, AllocError>
-    ensures found { IfOk result (λ read. IfSome read (IsAcceptedAs bytes.now)) }
-    ensures none { IfOk result (λ read. IfNone read (¬ IsAccepted bytes.now)) }
+/// The program as which the bytes are read, or why they aren't: the first cause in the order too long, syntax, class, limit,
+/// later, and within a cause the first line. Linear in the bytes, with the cost of a map for the names of classes.
+pub fn parse(alloc: Global, bytes: &[u8]) -> Result<Program, Refusal>
+    ensures read { IfOk result (IsReadAs bytes.now) }
+    ensures known { IfOk result IsReadProgram }
+    ensures one { IfOk result (λ p. (q : AnyProgram) → IsReadAs bytes.now q → q ≡ p) }
+    ensures refused { IfErr result (IsRefusedBy bytes.now) }
+    ensures wrong { IfErr result (λ refusal. refusal ≢ AnyRefusal.Memory → (q : AnyProgram) → ¬ IsReadAs bytes.now q) }
+{
+    // The law of one reading: this call does nothing.
+    one_reading();
+    text(alloc, bytes)
+}
+
+/// The same, without the clauses that need the law of one reading.
+fn text(alloc: Global, bytes: &[u8]) -> Result<Program, Refusal>
+    ensures read { IfOk result (IsReadAs bytes.now) }
+    ensures known { IfOk result IsReadProgram }
+    ensures refused { IfErr result (IsRefusedBy bytes.now) }
 {
     if bytes.len() > MOST_BYTES {
-        return Ok(None);
+        return Err(Refusal::TooLong);
     }
-    let Some((config, rest)) = head::head(alloc, bytes)? else {
-        return Ok(None);
-    };
-    let Some((classes, rest)) = classes::classes(alloc, rest)? else {
-        return Ok(None);
-    };
-    let Some(items) = items(alloc, classes.as_slice(), rest)? else {
-        return Ok(None);
-    };
-    if !has_no_misuse(items.as_slice()) {
-        return Ok(None);
+    match sentences(alloc, bytes) {
+        Ok(scan) => read(alloc, bytes, &scan),
+        Err(refusal) => Err(refusal),
     }
-    Ok(Some(program(alloc, config, classes, items)?))
 }
 
-/// The program of one mutator.
-fn program(
-    alloc: Global,
-    config: Config,
-    classes: List<Class>,
-    items: List<Item>,
-) -> Result<Program, AllocError>
-    ensures { IfOk result (λ p. p ≡ program_of config classes items) }
+/// The sentences of a text that the grammar reads.
+fn sentences(alloc: Global, bytes: &[u8]) -> Result<Scanned<'_>, Refusal>
+    requires { length bytes.now ≤ 1048576 }
+    ensures read { IfOk result (λ s. AreRead (lines_of bytes.now) s.numbers.items (map sentence_of s.lines.items)) }
+    ensures whole { IfOk result (λ s. IsWhole (map sentence_of s.lines.items)) }
+    ensures count { IfOk result (λ s. s.count ≡ length (lines_of bytes.now)) }
+    ensures refused { IfErr result (IsRefusedBy bytes.now) }
 {
-    let mut scripts = Vec::new(alloc);
-    scripts.push(Script { items })?;
-    Ok(Program {
-        config,
-        classes,
-        mutators: List::from_vec(scripts),
-    })
-}
-
-#[cfg(test)]
-mod tests {
-    use super::*;
-    use sg_desc::{Descriptor, Shape};
-    use sg_graph::Statement;
-    use std::test::*;
-
-    const FULL: &[u8] =
-        b"# any byte: \xff\x00\nsgen 1 # head\n\n\tnursery 256\r\nbuffer 16\nclass a_1 map r.r\nmutator\nnew r0 a_1\nnum r15 18446744073709551615\nput r0 0 r0\nget r1 r0 2\nputd r0 1 r15\ngetd r2 r0 1\ndrop r2\nend";
-
-    #[test]
-    fn accepted_and_refused(rt: HostRuntime) {
-        let cases: [(&[u8], bool); 34] = [
-            (FULL, true),
-            (b"sgen 1\nmutator\nend\n", true),
-            (b"sgen 1\nclass a plain 62\nmutator\nend\n", true),
-            (b"", false),
-            (b"sgen 1\n", false),
-            (b"sgen 1\nnursery 0256\nmutator\nend\n", false),
-            (b"sgen 1\nnursery 300\nmutator\nend\n", false),
-            (b"sgen 1\nnursery 256\nnursery 256\nmutator\nend\n", false),
-            (
-                b"sgen 1\ncement 1000\nworkers 8\npages 0\nbuffer 1024\nblocks 4096\nnursery 65536\nmutator\nend\n",
-                true,
-            ),
-            (
-                b"sgen 1\nblocks 4\npages 4\nblocks 4\nmutator\nend\n",
-                false,
-            ),
-            (b"sgen 1\nblocks 0\nmutator\nend\n", false),
-            (b"sgen 1\npages 1025\nmutator\nend\n", false),
-            (b"sgen 1\nbuffer 15\nmutator\nend\n", false),
-            (b"sgen 1\nworkers 9\nmutator\nend\n", false),
-            (
-                b"sgen 1\ncement 18446744073709551615\nmutator\nend\n",
-                false,
-            ),
-            (b"sgen 1\nworkers\nmutator\nend\n", false),
-            (b"sgen 1\nclass a plain 1\nbuffer 64\nmutator\nend\n", false),
-            (b"sgen 1\nclass a plain 63\nmutator\nend\n", false),
-            (
-                b"sgen 1\nclass a plain 1\nclass a plain 2\nmutator\nend\n",
-                false,
-            ),
-            (
-                b"sgen 1\nclass abcdefghijklmnopqrstuvwxyzABCDEFG plain 1\nmutator\nend\n",
-                false,
-            ),
-            (b"sgen 1\nclass a run 62 0 62\nmutator\nend\n", true),
-            (b"sgen 1\nclass a run 4 3 1\nmutator\nend\n", true),
-            (b"sgen 1\nclass a run 4 3 2\nmutator\nend\n", false),
-            (b"sgen 1\nclass a run 4 4 0\nmutator\nend\n", false),
-            (b"sgen 1\nclass a run 63 0 1\nmutator\nend\n", false),
-            (b"sgen 1\nclass a run 4 1\nmutator\nend\n", false),
-            (
-                b"sgen 1\nclass a run 4 18446744073709551615 1\nmutator\nend\n",
-                false,
-            ),
-            (
-                b"sgen 1\nclass a run 4 1 18446744073709551615\nmutator\nend\n",
-                false,
-            ),
-            (b"sgen 1\nmutator\nnum r16 0\nend\n", false),
-            (
-                b"sgen 1\nmutator\nnum r0 18446744073709551616\nend\n",
-                false,
-            ),
-            (b"sgen 1\nmutator\nnum r0 1\nput r0 0 r0\nend\n", false),
-            (b"sgen 1\nmutator\n\x00end\n", false),
-            (b"sgen 1\nmutator\nend\nmutator\nend\n", false),
-            (b"sgen 1\nmutator\nend\nmore\n", false),
-        ];
-        for (text, accepted) in cases {
-            assert!(rt; matches!(parse(rt.alloc(), text), Ok(read) if read.is_some() == accepted));
-        }
-    }
-
-    // Of five fields the references are 1, 2 and 3.
-    #[test]
-    fn class_of_a_run(rt: HostRuntime) -> Result<(), Fail> {
-        let text = b"sgen 1\nclass Row run 5 1 3\nmutator\nend\n";
-        let program = parse(rt.alloc(), text).ok().flatten().ok_or("a program")?;
-        let shape = Shape {
-            fields: 5,
-            kind: Descriptor::Run { first: 1, count: 3 },
-        };
-        assert_eq!(rt; program.classes.as_slice().len(), 1);
-        assert!(rt; program.classes.as_slice()[0].shape == shape);
-        Ok(())
-    }
-
-    #[test]
-    fn one_program(rt: HostRuntime) -> Result<(), Fail> {
-        let program = parse(rt.alloc(), FULL).ok().flatten().ok_or("a program")?;
-        let config = Config {
-            nursery: 256,
-            blocks: 64,
-            pages: 64,
-            buffer: 16,
-            workers: 1,
-            cement: 4,
-        };
-        assert!(rt; program.config == config);
-        for class in program.classes.as_slice() {
-            assert_eq!(rt; class.name.bytes.as_slice(), b"a_1".as_slice());
-            assert!(rt; class.shape.kind == Descriptor::Bitmap { bits: 5 });
-        }
-        for script in program.mutators.as_slice() {
-            assert_eq!(rt; script.items.as_slice().len(), 7);
-            let Item::One(first) = script.items.as_slice()[0];
-            assert!(rt; first == Statement::New { r: 0, class: 0 });
-        }
-        Ok(())
+    let scan = match scan(alloc, bytes) {
+        Ok(scan) => scan,
+        Err(AllocError) => return Err(Refusal::Memory),
+    };
+    match order_of(scan.lines.as_slice()) {
+        Order::Misplaced { index } => Err(Refusal::Syntax {
+            line: number_at(scan.numbers.as_slice(), index),
+        }),
+        Order::Whole => match scan.bad {
+            Some(line) => Err(Refusal::Syntax { line }),
+            None => Ok(scan),
+        },
+        Order::Unfinished => match scan.bad {
+            Some(line) => Err(Refusal::Syntax { line }),
+            None => Err(Refusal::Syntax { line: scan.count }),
+        },
     }
 }
+
+/// The program of a text that the grammar reads.
+fn read(alloc: Global, bytes: &[u8], scan: &Scanned<'_>) -> Result<Program, Refusal>
+    requires short { length bytes.now ≤ 1048576 }
+    requires read { AreRead (lines_of bytes.now) scan.now.numbers.items (map sentence_of scan.now.lines.items) }
+    requires whole { IsWhole (map sentence_of scan.now.lines.items) }
+    requires count { scan.now.count ≡ length (lines_of bytes.now) }
+    ensures read { IfOk result (IsReadAs bytes.now) }
+    ensures known { IfOk result IsReadProgram }
+    ensures refused { IfErr result (IsRefusedBy bytes.now) }
+{
+    let lines = scan.lines.as_slice();
+    let names = match name_classes(alloc, lines) {
+        Ok(Named::Classes(names)) => names,
+        Ok(Named::Misnamed { index }) => {
+            return Err(Refusal::Class {
+                line: number_at(scan.numbers.as_slice(), index),
+            });
+        }
+        Err(AllocError) => return Err(Refusal::Memory),
+    };
+    let program = match build(alloc, lines, &names) {
+        Ok(Built::Program(program)) => program,
+        Ok(Built::Over { index, which }) => {
+            return Err(Refusal::Limit {
+                line: number_at(scan.numbers.as_slice(), index),
+                which,
+            });
+        }
+        Ok(Built::NoMutator) => {
+            return Err(Refusal::Limit {
+                line: scan.count,
+                which: Which::Mutators,
+            });
+        }
+        Err(AllocError) => return Err(Refusal::Memory),
+    };
+    match later(lines, &names) {
+        Some(index) => Err(Refusal::Later {
+            line: number_at(scan.numbers.as_slice(), index),
+        }),
+        None => Ok(program),
+    }
+}
+
+/// The number of the line with this index.
+fn number_at(numbers: &[u32], index: usize) -> u32
+    requires { index < length numbers.now }
+    ensures { slice_get numbers.now index ≡ Some result }
+{
+    numbers[index]
+}
+
+/// The law of one reading: no text reads as two programs. It does nothing; its contract is the law.
+pub fn one_reading()
+    ensures { HasOneReading }
+{}
+
+/// The law of one refusal: no text is refused by two causes, at two lines or by two limits, and none that is refused reads as
+/// a program. It does nothing; its contract is the law.
+pub fn one_refusal()
+    ensures { HasOneRefusal }
+{}

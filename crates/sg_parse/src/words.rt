@@ -1,11 +1,12 @@
 //! What single words mean.
 ghost use Rattle.std.specs.Prelude.{◌≡◌, ◌<◌, ◌^◌, ℕ, length, IfSome, Some};
 ghost use Rattle.std.specs.List.{list_all};
-ghost use Rattle.sg_parse.specs.Text.{IsNumber, IsRegister, is_letter, is_name_byte, is_name, is_mask_byte, mask_bits};
-ghost use Rattle.sg_parse.specs.Reading.{Only};
+ghost use Rattle.sg_parse.specs.Words.{IsNumber, IsRegister, is_letter, is_name_byte, is_name, is_mask_byte, mask_bits};
+ghost use Rattle.sg_parse.specs.Steps.{Only};
+ghost use Rattle.sg_parse.specs.Sentences.{number_in, register_in};
 
 /// The number that the word spells.
-pub(crate) fn number(word: &[u8]) -> Option<u64>
+fn spelled(word: &[u8]) -> Option<u64>
     ensures found { IfSome result (IsNumber word.now) }
     ensures only { Only (IsNumber word.now) result }
 {
@@ -25,17 +26,31 @@ pub(crate) fn number(word: &[u8]) -> Option<u64>
 }
 
 /// The register that the word names.
-pub(crate) fn register(word: &[u8]) -> Option<u8>
+fn named(word: &[u8]) -> Option<u8>
     ensures found { IfSome result (IsRegister word.now) }
     ensures only { Only (IsRegister word.now) result }
 {
     match word {
-        [b'r', digits @ ..] => match number(digits) {
+        [b'r', digits @ ..] => match spelled(digits) {
             Some(found) if found <= 15 => Some(found as u8),
             _ => None,
         },
         _ => None,
     }
+}
+
+/// The number that the word spells.
+pub(crate) fn number(word: &[u8]) -> Option<u64>
+    ensures { result ≡ number_in word.now }
+{
+    spelled(word)
+}
+
+/// The register that the word names.
+pub(crate) fn register(word: &[u8]) -> Option<u8>
+    ensures { result ≡ register_in word.now }
+{
+    named(word)
 }
 
 fn is_letter(byte: u8) -> bool

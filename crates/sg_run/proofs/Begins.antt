@@ -1,33 +1,33 @@
 -- What the code asks before a statement follows from the relation of the words to a graph and a book.
-use Rattle.std.proofs.Common.{◌≡◌, ◌≢◌, ℕ, zero, suc, ◌+◌, ◌^◌, ◌<◌, ◌≤◌, true, List, [], ◌∷◌, length, drop, map, replicate, slice_get, get_or, add-one, refl, ap, sym, ◌∙◌, subst, inl, inr, arith, rules}
+use Rattle.std.proofs.Common.{◌≡◌, ◌≢◌, ℕ, zero, suc, ◌-◌, ◌^◌, ◌<◌, ◌≤◌, true, false, List, [], ◌∷◌, length, map, replicate, reverse, get_or, refl, ap, sym, ◌∙◌, subst, inl, inr, arith}
 use Rattle.std.proofs.lemmas.Bool.{cases_eq}
-use Rattle.std.proofs.lemmas.List.{length-map}
-use Rattle.std.specs.List.{All}
+use Rattle.std.proofs.lemmas.List.{length-map, length-reverse}
+use Rattle.std.specs.List.{AllByRecursion}
 use Rattle.sg_words.specs.Address.{IsAddress, byte_at, word_at}
 use Rattle.sg_words.specs.Words.{Words}
 use Rattle.sg_desc.specs.declared.shapes.Shape.{Shape}
 use Rattle.sg_graph.specs.declared.program.Class.{Class}
 use Rattle.sg_graph.specs.declared.program.Statement.{Statement}
-use Rattle.sg_graph.specs.declared.program.Statement.TheVariants.{New, Put, Get, PutD, GetD, Num, Drop, CollectMinor}
-use Rattle.sg_graph.specs.declared.program.Item.{Item}
-use Rattle.sg_graph.specs.declared.program.Item.TheVariants.{One}
+use Rattle.sg_graph.specs.declared.program.Statement.TheVariants.{New, NewV, Mature, Put, Get, PutD, GetD, Num, Move, Hide, Unhide, Drop, Push, Pop, GPut, GGet, WSet, WGet, Final, NextFin, Same, Collect, Sections}
 use Rattle.sg_graph.specs.declared.program.Program.{Program}
 use Rattle.sg_graph.specs.declared.reports.Answer.{Answer}
 use Rattle.sg_desc.specs.Shapes.{has_field, Reference}
-use Rattle.sg_graph.specs.Scripts.{shape_at, kind_of, fields_of, written_out, NamesClass, NameClasses}
-use Rattle.sg_graph.specs.Kinds.{IsRef, Needs, HasNoMisuse}
-use Rattle.sg_graph.specs.Graph.{Entry, Ref, Int, Mutator as Mutator_of, Graph}
+use Rattle.sg_graph.specs.Scripts.{kind_of, IsMaking}
+use Rattle.sg_graph.specs.Kinds.{IsRef, IsInner, Kinds, Needs, FindKinds}
+use Rattle.sg_graph.specs.Graph.{Entry, Ref, Int, Inner, Graph}
 use Rattle.sg_graph.specs.Book.{Book, old_end, word_of}
-use Rattle.sg_space.specs.declared.layout.Layout.{Layout as Sections}
+use Rattle.sg_graph.specs.Epoch.{Pairwise}
+use Rattle.sg_space.specs.declared.layout.Layout.{Layout as Sections_of}
 use Rattle.sg_space.specs.Heap.{Owner, IsHeaded, IsKnownEntry, IsOfSort, layout_of as sections_of}
-use Rattle.sg_space.specs.Sections.{words_end}
-use Rattle.sg_space.specs.Space.{Contents, words_of, IsContents, clear_space}
-use Rattle.sg_run.specs.declared.mutator.Mutator.{Mutator}
-use Rattle.sg_run.specs.Rest.{kind_of_entry}
-use Rattle.sg_run.specs.Opening.{IsFirstLayout, IsOpening}
-use Rattle.sg_run.specs.Views.{layout_of, actor_of, IsSpace, KeepsSpace, HasByteAddresses, class_at, IsReference, IsObject, HoldsObject, IsBufferIn, NamesRegisters, NameRegisters, CanDo, CanGo}
-use Rattle.sg_run.proofs.Relation.{Ground, Stands}
-use Rattle.sg_run.proofs.Accesses.{reference_field}
+use Rattle.sg_space.specs.Sections.{IsLayout, words_end}
+use Rattle.sg_space.specs.Space.{Contents, words_of, AreShapes, IsContents, clear_space}
+use Rattle.sg_actor.specs.declared.mutator.Mutator.{Mutator}
+use Rattle.sg_order.specs.Rest.{kind_of_entry, kinds_in, Stands as StandsAt, IsRunnable}
+use Rattle.sg_order.specs.Opening.{IsFirstLayout, IsOpening}
+use Rattle.sg_actor.specs.Views.{slot_of, layout_of, actor_of, IsSpace, KeepsSpace, HasByteAddresses, class_at, IsReference, IsObject, HoldsObject, HoldsInner, IsBufferIn, CanMake, CanDo, CanGo}
+use Rattle.sg_order.proofs.Relation.{Ground, Stands}
+use Rattle.sg_order.proofs.Accesses.{reference_field}
+use Rattle.sg_order.proofs.Cases.{by_making}
 
 -- the space has the program's sections and the shapes of its classes
 pub record IsOf (p : Program) (s : Contents) : Type 0 where
@@ -44,7 +44,13 @@ of_stays p s t keeps of = record {
 }
   where
     contents_stay : (s t : Contents) → KeepsSpace s t → IsContents s → IsContents t
-    contents_stay s t keeps c = search rules
+    contents_stay s t keeps c = record {
+      layout = subst IsLayout (sym keeps.layout) c.layout;
+      shapes = subst AreShapes (sym keeps.shapes) c.shapes;
+      words = keeps.words ∙ c.words ∙ ap words_end (sym keeps.layout);
+      fragments = keeps.next ∙ c.fragments ∙ ap length (sym keeps.ends);
+      few = omega (arith, c.few, ap length keeps.ends);
+    }
 
 pub layout_stays : (s t : Contents) → KeepsSpace s t → layout_of t ≡ layout_of s
 layout_stays s t keeps = ap (λ (e : List ℕ). record { fragments = length e; limit = λ f. word_at (get_or e f 0) }) keeps.ends
@@ -55,7 +61,7 @@ space_stays p s t keeps of space = record {
   contents = of.contents;
   ends = λ f l.
       let there : f < length s.ends = omega (arith, ap length keeps.ends) in
-      omega (arith, space.ends f there, ap (λ (e : List ℕ). word_at (get_or e f 0)) keeps.ends, ap (λ (l : Sections). l.nursery) keeps.layout);
+      omega (arith, space.ends f there, ap (λ (e : List ℕ). word_at (get_or e f 0)) keeps.ends, ap (λ (l : Sections_of). l.nursery) keeps.layout);
 }
 
 -- a space before its first object is as a program begins
@@ -64,29 +70,33 @@ clear_word zero x = refl
 clear_word (suc n) zero = refl
 clear_word (suc n) (suc x) = clear_word n x
 
-pub is_opening : (s : Contents) (shapes : List Shape) (sections : Sections) → s ≡ clear_space sections shapes → IsOpening (words_of s)
+pub is_opening : (s : Contents) (shapes : List Shape) (sections : Sections_of) → s ≡ clear_space sections shapes → IsOpening (words_of s)
 is_opening s shapes sections e = subst (λ t. IsOpening (words_of t)) (sym e) (record { stop = refl; next = refl; word = clear_word (words_end sections) })
 
 pub is_first_layout : (p : Program) (s : Contents) (shapes : List Shape) → s ≡ clear_space (sections_of p) shapes → IsFirstLayout p (layout_of s)
 is_first_layout p s shapes e = subst (λ t. IsFirstLayout p (layout_of t)) (sym e) (record { fragments = refl; limit = omega arith })
 
--- the classes of a program with a space are few and small
-shape_in : (classes : List Class) (c : ℕ) → All (λ (shape : Shape). shape.fields ≤ 62) (map (λ (class : Class). class.shape) classes) → (shape_at (slice_get classes c)).fields ≤ 62
-shape_in [] c small = omega arith
-shape_in (class ∷ classes) zero small = small 0 class.shape (omega arith)
-shape_in (class ∷ classes) (suc c) small = shape_in classes c (λ i d l. small (suc i) d (omega arith))
+-- two lists whose items stand in pairs have the same length
+pairwise_length : {A B : Type 0} (R : A → B → Type 0) (xs : List A) (ys : List B) → Pairwise R xs ys → length xs ≡ length ys
+pairwise_length R [] [] h = refl
+pairwise_length R [] (y ∷ ys) h = absurd h
+pairwise_length R (x ∷ xs) [] h = absurd h
+pairwise_length R (x ∷ xs) (y ∷ ys) h = ap suc (pairwise_length R xs ys h.1)
+
+-- what a statement that makes an object asks, where it is run now
+can_make : (p : Program) (s : Statement) → IsRunnable p s → length p.classes ≤ 256 → IsMaking s → CanMake p s
+can_make p s is few making = by_making (λ s. IsRunnable p s → CanMake p s)
+    (λ r class is. record { making = tt; register = (let l : r ≤ 15 = is.good.operands in omega arith); there = is.good.names; few = few; small = is.small })
+    (λ r class count is. record { making = tt; register = (let l : r ≤ 15 = is.good.operands.0 in omega arith); there = is.good.names; few = few; small = is.small }) s making is
 
 module _ (p : Program) (s : Contents) (of : IsOf p s) where
   few : length p.classes ≤ 256
   few = let same : length s.shapes ≡ length p.classes = ap length of.shapes ∙ length-map p.classes (λ (class : Class). class.shape) in omega (arith, of.contents.shapes.classes)
 
-  small : (c : ℕ) → fields_of p c ≤ 62
-  small c = shape_in p.classes c (subst (λ shapes. All (λ (shape : Shape). shape.fields ≤ 62) shapes) of.shapes of.contents.shapes.fields)
-
   heap_end : (words_end s.layout ≡ words_end (sections_of p)) × (old_end p ≤ words_end s.layout) × (old_end p < 2 ^ 32)
   heap_end =
-      let nursery : s.layout.nursery ≡ p.config.nursery = ap (λ (l : Sections). l.nursery) of.layout in
-      let blocks : s.layout.blocks ≡ p.config.blocks = ap (λ (l : Sections). l.blocks) of.layout in
+      let nursery : s.layout.nursery ≡ p.config.nursery = ap (λ (l : Sections_of). l.nursery) of.layout in
+      let blocks : s.layout.blocks ≡ p.config.blocks = ap (λ (l : Sections_of). l.blocks) of.layout in
       (ap words_end of.layout, omega arith, omega (arith, of.contents.layout.nursery_most, of.contents.layout.blocks_most))
 
   module _ (g : Graph) (b : Book) (owner : ℕ → Owner) (ground : Ground p (layout_of s) (words_of s) g b owner) where
@@ -99,7 +109,7 @@ module _ (p : Program) (s : Contents) (of : IsOf p s) where
       contents = of.contents;
       ends = λ f l.
           let there : f < b.fragments = omega (arith, ground.number) in
-          let nursery : s.layout.nursery ≡ p.config.nursery = ap (λ (l : Sections). l.nursery) of.layout in
+          let nursery : s.layout.nursery ≡ p.config.nursery = ap (λ (l : Sections_of). l.nursery) of.layout in
           omega (arith, ground.limits f there, (ground.laid.fragments.inside f there).2);
     }
 
@@ -123,6 +133,7 @@ module _ (p : Program) (s : Contents) (of : IsOf p s) where
       | inr some ↦ inr (is_address n (omega arith) known.0)
     ]
     is_reference (Int v) known sort = absurd sort
+    is_reference (Inner n o) known sort = absurd sort
 
     -- an object with a name
     object_at : (n : ℕ) → n ≢ 0 → b.stands n ≡ true → IsHeaded w.word g b n → IsObject p w (words_end s.layout) (b.address n)
@@ -149,6 +160,7 @@ module _ (p : Program) (s : Contents) (of : IsOf p s) where
     -- the object in a register
     object_in_word : (e : Entry) (v : ℕ) → IsKnownEntry w.word g b e → kind_of_entry e ≡ IsRef → v ≡ word_of b.address e → v ≢ 0 → IsObject p w (words_end s.layout) (word_at v)
     object_in_word (Int m) v known kind is some = cc
+    object_in_word (Inner n o) v known kind is some = cc
     object_in_word (Ref n) v known kind is some = elim known.1 [
       | inl z ↦ absurd (some (is ∙ ap (λ m. byte_at (b.address m)) z ∙ ap byte_at ground.laid.nothing.at_nil))
       | inr head ↦
@@ -157,58 +169,77 @@ module _ (p : Program) (s : Contents) (of : IsOf p s) where
           (object_at n (λ z. some (is ∙ ap (λ m. byte_at (b.address m)) z ∙ ap byte_at ground.laid.nothing.at_nil)) known.0 head)
     ]
 
+    -- the object behind an address inside it
+    object_behind : (e : Entry) (v offset : ℕ) → StandsAt g b offset e → kind_of_entry e ≡ IsInner → v ≡ word_of b.address e → v ≢ 0 → (offset ≤ v) × IsAddress (v - offset)
+    object_behind (Int m) v offset stands kind is some = cc
+    object_behind (Ref n) v offset stands kind is some = cc
+    object_behind (Inner n o) v offset stands kind is some = elim stands.2 [
+      | inl z ↦ absurd (some (let at : b.address n ≡ 0 = ap b.address z.0 ∙ ground.laid.nothing.at_nil in let o_is = z.1 in omega (arith, is)))
+      | inr d ↦
+          let same = stands.1 in
+          let there : v - offset ≡ byte_at (b.address n) = omega (arith, is) in
+          (omega (arith, is), subst IsAddress (sym there) (is_address n (let q = d.0 in omega arith) stands.0))
+    ]
+
     -- the statement that comes next may begin
     module _ (said : ℕ → List Answer) (k : ℕ) (m : Mutator) where
-      needs : (statement : Statement) (rest : List Statement) (at : Stands p (layout_of s) w g b said k (actor_of m (statement ∷ rest))) → Needs (λ r. kind_of_entry (at.entry r)) statement
-      needs statement rest at =
-          let all : HasNoMisuse (λ r. kind_of_entry (at.entry r)) (statement ∷ rest) =
-          subst (λ (x : Mutator_of). HasNoMisuse (λ r. kind_of_entry (x.register r)) x.script) at.at.is at.fits in
-          all.0
+      abbrev kinds_at : (ℕ → Entry) → Kinds
+      kinds_at entry = record { register = λ r. kind_of_entry (entry r); stack = map kind_of_entry (g.mutator k).stack }
 
-      names_class : (statement : Statement) (rest : List Statement) (at : Stands p (layout_of s) w g b said k (actor_of m (statement ∷ rest))) → NamesClass p statement
-      names_class statement rest at =
-          let all : NameClasses p (statement ∷ rest) = subst (λ (x : Mutator_of). NameClasses p x.script) at.at.is at.named in
+      needs : (statement : Statement) (rest : List Statement) (at : Stands p (layout_of s) w g b said k (actor_of m (statement ∷ rest))) → Needs (kinds_at at.entry) statement
+      needs statement rest at =
+          let all : FindKinds (kinds_in (g.mutator k)) (statement ∷ rest) = subst (λ script. FindKinds (kinds_in (g.mutator k)) script) at.at.script_is at.fits in
+          subst (λ (entry : ℕ → Entry). Needs (kinds_at entry) statement) at.at.register_is all.0
+
+      runs : (statement : Statement) (rest : List Statement) (at : Stands p (layout_of s) w g b said k (actor_of m (statement ∷ rest))) → IsRunnable p statement
+      runs statement rest at =
+          let all : AllByRecursion (IsRunnable p) (statement ∷ rest) = subst (λ script. AllByRecursion (IsRunnable p) script) at.at.script_is at.runnable in
           all.0
 
       module _ (script : List Statement) (at : Stands p (layout_of s) w g b said k (actor_of m script)) where
-        holds_object : (r : ℕ) → r < 16 → kind_of_entry (at.entry r) ≡ IsRef → HoldsObject p s m r
-        holds_object r l kind = (l, few, λ some. object_in_word (at.entry r) (get_or m.registers r 0) (at.known r) kind (at.regs r) some)
+        holds_object : (r : ℕ) → r ≤ 15 → kind_of_entry (at.entry r) ≡ IsRef → HoldsObject p s m r
+        holds_object r l kind = (omega arith, few, λ some. object_in_word (at.entry r) (get_or m.registers r 0) (at.known r) kind (at.regs r) some)
+
+        holds_inner : (r : ℕ) → kind_of_entry (at.entry r) ≡ IsInner → HoldsInner m r
+        holds_inner r kind some = object_behind (at.entry r) (get_or m.registers r 0) (get_or m.offsets r 0) (at.offsets r) kind (at.regs r) some
 
         is_buffer_in : IsBufferIn s m
         is_buffer_in l =
             let inside = ground.laid.buffers.inside k (omega (arith, at.from_is, at.to_is)) in
-            let nursery : s.layout.nursery ≡ p.config.nursery = ap (λ (l : Sections). l.nursery) of.layout in
+            let nursery : s.layout.nursery ≡ p.config.nursery = ap (λ (l : Sections_of). l.nursery) of.layout in
             (omega (arith, inside.0, at.from_is), omega (arith, inside.1, at.to_is))
 
-        can_do : (statement : Statement) → NamesRegisters statement → NamesClass p statement → Needs (λ r. kind_of_entry (at.entry r)) statement → CanDo p s m statement
-        can_do (New r class) names named need = (names, record { there = named; few = few; small = small class }, has_byte_addresses, is_buffer_in)
-        can_do (Put r i v) names named need = (holds_object r names.0 need.0, names.1)
-        can_do (Get d r i) names named need = (holds_object r names.1 need, names.0)
-        can_do (PutD r i v) names named need = (holds_object r names.0 need.0, names.1)
-        can_do (GetD d r i) names named need = (holds_object r names.1 need, names.0)
-        can_do (Num d n) names named need = names
-        can_do (Drop r) names named need = names
-        can_do CollectMinor names named need = tt
+        -- the stacks have the same length
+        stacked : length m.stack.items ≡ length (map kind_of_entry (g.mutator k).stack)
+        stacked =
+            sym (length-map m.stack.items slot_of) ∙ sym (length-reverse (map slot_of m.stack.items))
+            ∙ pairwise_length _ (reverse (map slot_of m.stack.items)) (g.mutator k).stack at.stack ∙ sym (length-map (g.mutator k).stack kind_of_entry)
 
-      pub can_go : (statement : Statement) (rest : List Statement) → Stands p (layout_of s) w g b said k (actor_of m (statement ∷ rest)) → NamesRegisters statement → s.stop ≡ 0 → CanGo p s m statement
-      can_go statement rest at names stop = (stop, can_do (statement ∷ rest) at statement names (names_class statement rest at) (needs statement rest at))
+        can_do : (statement : Statement) → IsRunnable p statement → Needs (kinds_at at.entry) statement → CanDo p s m statement
+        can_do (New r class) is need = (can_make p (New r class) is few tt, has_byte_addresses, is_buffer_in)
+        can_do (NewV r class count) is need = (can_make p (NewV r class count) is few tt, has_byte_addresses, is_buffer_in)
+        can_do (Put r i v) is need = (holds_object r is.good.operands.0 need.0, let l : v ≤ 15 = is.good.operands.1 in omega arith)
+        can_do (Get d r i) is need = (holds_object r is.good.operands.1 need, let l : d ≤ 15 = is.good.operands.0 in omega arith)
+        can_do (PutD r i v) is need = (holds_object r is.good.operands.0 need.0, let l : v ≤ 15 = is.good.operands.1 in omega arith)
+        can_do (GetD d r i) is need = (holds_object r is.good.operands.1 need, let l : d ≤ 15 = is.good.operands.0 in omega arith)
+        can_do (Num d n) is need = let l : d ≤ 15 = is.good.operands in omega arith
+        can_do (Move d v) is need = let l : d ≤ 15 = is.good.operands.0 in let q : v ≤ 15 = is.good.operands.1 in (omega arith, omega arith)
+        can_do (Hide d v offset) is need = (holds_object v is.good.operands.1 need, let l : d ≤ 15 = is.good.operands.0 in omega arith)
+        can_do (Unhide d v) is need = let l : d ≤ 15 = is.good.operands.0 in let q : v ≤ 15 = is.good.operands.1 in (omega arith, omega arith, holds_inner v need)
+        can_do (Drop r) is need = let l : r ≤ 15 = is.good.operands in omega arith
+        can_do (Push r) is need = let l : r ≤ 15 = is.good.operands in let e = stacked in (omega arith, omega (arith, need))
+        can_do (Pop r) is need = let l : r ≤ 15 = is.good.operands in let e = stacked in (omega arith, omega (arith, need))
+        can_do (Same r v) is need = let l : r ≤ 15 = is.good.operands.0 in let q : v ≤ 15 = is.good.operands.1 in (omega arith, omega arith)
+        can_do (Collect false) is need = tt
+        can_do (Collect true) is need = absurd is.run
+        can_do (Mature r class) is need = absurd is.run
+        can_do (GPut x r) is need = absurd is.run
+        can_do (GGet r x) is need = absurd is.run
+        can_do (WSet x r long) is need = absurd is.run
+        can_do (WGet r x) is need = absurd is.run
+        can_do (Final r) is need = absurd is.run
+        can_do (NextFin r) is need = absurd is.run
+        can_do Sections is need = absurd is.run
 
--- the next statement of a script
-written_at : (items : List Item) (j : ℕ) (d : Item) (s : Statement) → j < length items → get_or items j d ≡ One s → written_out (drop j items) ≡ s ∷ written_out (drop (suc j) items)
-written_at [] j d s l e = absurd (omega arith)
-written_at (x ∷ items) zero d s l e = ap (λ y. written_out (y ∷ items)) e
-written_at (x ∷ items) (suc j) d s l e = written_at items j d s (omega arith) e
-
-pub next_written : (items : List Item) (j : ℕ) (d : Item) (s : Statement) → j < length items → get_or items j d ≡ One s → written_out (drop j items) ≡ s ∷ written_out (drop (j + 1) items)
-next_written items j d s l e = written_at items j d s l e ∙ ap (λ k. s ∷ written_out (drop k items)) (sym (add-one j))
-
--- and the registers in it are those from 0 to 15, where all in the script are
-names_along : (items : List Item) (j : ℕ) → NameRegisters (written_out items) → NameRegisters (written_out (drop j items))
-names_along items zero names = names
-names_along [] (suc j) names = tt
-names_along (One s ∷ items) (suc j) names = names_along items j names.1
-
-pub names_next : (items : List Item) (j : ℕ) (d : Item) (s : Statement) → j < length items → get_or items j d ≡ One s → NameRegisters (written_out items) → NamesRegisters s
-names_next items j d s l e names =
-    let all : NameRegisters (s ∷ written_out (drop (suc j) items)) = subst (λ script. NameRegisters script) (written_at items j d s l e) (names_along items j names) in
-    all.0
+      pub can_go : (statement : Statement) (rest : List Statement) → Stands p (layout_of s) w g b said k (actor_of m (statement ∷ rest)) → s.stop ≡ 0 → CanGo p s m statement
+      can_go statement rest at stop = (stop, can_do (statement ∷ rest) at statement (runs statement rest at) (needs statement rest at))

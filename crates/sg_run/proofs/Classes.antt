@@ -1,95 +1,24 @@
--- What the code asks of a program holds of an accepted one: its statements name registers and classes that there are, its settings and its classes fit a space, and no register is misused.
-use Rattle.std.proofs.Common.{◌≡◌, None, ℕ, zero, suc, ◌<◌, ◌≤◌, List, [], ◌∷◌, length, map, slice_get, refl, sym, subst, inl, inr, arith}
-use Rattle.std.proofs.lemmas.Bool.{cases_lt}
+-- What the code asks of a program holds of an accepted one: its settings and its classes fit a space, its statements are run
+-- now and find the kinds that they need, and there are few of them.
+use Rattle.std.proofs.Common.{◌≡◌, ℕ, zero, suc, ◌-◌, ◌^◌, ◌≤◌, min, List, [], ◌∷◌, length, map, slice_get, arith}
 use Rattle.std.proofs.lemmas.List.{length-map}
 use Rattle.std.proofs.lemmas.List.Elements.{All-nil, All-cons}
-use Rattle.std.specs.List.{All, AllByRecursion}
+use Rattle.std.specs.List.{All, AllByRecursion, sum_by}
 use Rattle.sg_desc.specs.declared.shapes.Descriptor.{Descriptor}
 use Rattle.sg_desc.specs.declared.shapes.Descriptor.TheVariants.{PtrFree, Run, Bitmap, VectorRefs, VectorPlain, Ephemeron}
 use Rattle.sg_desc.specs.declared.shapes.Shape.{Shape}
 use Rattle.sg_graph.specs.declared.program.Class.{Class}
-use Rattle.sg_graph.specs.declared.program.Item.{Item}
-use Rattle.sg_graph.specs.declared.program.Item.TheVariants.{One}
 use Rattle.sg_graph.specs.declared.program.Script.{Script}
 use Rattle.sg_graph.specs.declared.program.Statement.{Statement}
-use Rattle.sg_graph.specs.declared.program.Statement.TheVariants.{New, Put, Get, PutD, GetD, Num, Drop, CollectMinor}
 use Rattle.sg_graph.specs.declared.program.Program.{Program}
-use Rattle.sg_graph.specs.Scripts.{written_out, statements_at, script_of, NamesClass, NameClasses}
-use Rattle.sg_graph.specs.Kinds.{first_kinds, HasNoMisuse}
-use Rattle.sg_graph.specs.Epoch.{Pairwise}
-use Rattle.sg_space.specs.Heap.{layout_of as sections_of}
-use Rattle.sg_space.specs.Sections.{IsLayout}
+use Rattle.sg_graph.specs.Scripts.{written, written_out, statements_at, script_of, statements_in}
+use Rattle.sg_graph.specs.Kinds.{first_kinds, HasNoMisuse, FindKinds}
+use Rattle.sg_graph.specs.Limits.{MayHave, IsSmallClass, HasOperands, IsGood, IsRun, IsGoodScript}
+use Rattle.sg_graph.proofs.Runs.{all_out, finds_kinds}
 use Rattle.sg_space.specs.Space.{AreShapes}
-use Rattle.sg_parse.specs.Text.{IsItemLine, IsStatementLine, IsClassName, AreScripts}
-use Rattle.sg_parse.specs.Accepted.{MayHave, IsSmallClass, IsAcceptedAs}
-use Rattle.sg_run.specs.Views.{NamesRegisters, NameRegisters}
-
--- the registers of statements
-registers_in_line : (classes : List Class) (line : List (List ℕ)) (s : Statement) → IsStatementLine classes line s → NamesRegisters s
-registers_in_line classes line (New r class) (a, b, e, f, g) = omega (arith, f.1)
-registers_in_line classes line (Put r i s) (a, b, c, e, f, g, h) = (omega (arith, f.1), omega (arith, h.1))
-registers_in_line classes line (Get d r i) (a, b, c, e, f, g, h) = (omega (arith, f.1), omega (arith, g.1))
-registers_in_line classes line (PutD r i s) (a, b, c, e, f, g, h) = (omega (arith, f.1), omega (arith, h.1))
-registers_in_line classes line (GetD d r i) (a, b, c, e, f, g, h) = (omega (arith, f.1), omega (arith, g.1))
-registers_in_line classes line (Num d n) (a, b, e, f, g) = omega (arith, f.1)
-registers_in_line classes line (Drop r) (a, e, f) = omega (arith, f.1)
-registers_in_line classes line CollectMinor q = tt
-
-registers_in_items : (classes : List Class) (body : List (List (List ℕ))) (items : List Item) → Pairwise (IsItemLine classes) body items → NameRegisters (written_out items)
-registers_in_items classes [] [] q = tt
-registers_in_items classes [] (item ∷ items) q = absurd q
-registers_in_items classes (line ∷ body) [] q = absurd q
-registers_in_items classes (line ∷ body) (One s ∷ items) q = (registers_in_line classes line s q.0, registers_in_items classes body items q.1)
-
-registers_in_scripts : (classes : List Class) (lines : List (List (List ℕ))) (scripts : List Script) (k : ℕ) → AreScripts classes lines scripts → NameRegisters (statements_at (slice_get scripts k))
-registers_in_scripts classes lines [] k q = tt
-registers_in_scripts classes lines (script ∷ scripts) zero (body, rest, e, items, more) = registers_in_items classes body script.items items
-registers_in_scripts classes lines (script ∷ scripts) (suc k) (body, rest, e, items, more) = registers_in_scripts classes rest scripts k more
-
-pub accepted_registers : (bytes : List ℕ) (p : Program) → IsAcceptedAs bytes p → (k : ℕ) → NameRegisters (script_of p k)
-accepted_registers bytes p a k = registers_in_scripts p.classes a.reads.program.scripts p.mutators k a.reads.program.are_scripts
-
--- the classes of statements
-class_below : (classes : List Class) (name : List ℕ) (c : ℕ) → IsClassName classes name c → c < length classes
-class_below [] name c e = cc
-class_below (class ∷ classes) name zero e = omega arith
-class_below (class ∷ classes) name (suc c) e = let l = class_below classes name c e in omega arith
-
-module _ (p : Program) where
-  class_in_line : (line : List (List ℕ)) (s : Statement) → IsStatementLine p.classes line s → NamesClass p s
-  class_in_line line (New r class) (a, b, e, f, g) = class_below p.classes b class g
-  class_in_line line (Put r i s) q = tt
-  class_in_line line (Get d r i) q = tt
-  class_in_line line (PutD r i s) q = tt
-  class_in_line line (GetD d r i) q = tt
-  class_in_line line (Num d n) q = tt
-  class_in_line line (Drop r) q = tt
-  class_in_line line CollectMinor q = tt
-
-  classes_in_items : (body : List (List (List ℕ))) (items : List Item) → Pairwise (IsItemLine p.classes) body items → NameClasses p (written_out items)
-  classes_in_items [] [] q = tt
-  classes_in_items [] (item ∷ items) q = absurd q
-  classes_in_items (line ∷ body) [] q = absurd q
-  classes_in_items (line ∷ body) (One s ∷ items) q = (class_in_line line s q.0, classes_in_items body items q.1)
-
-  classes_in_scripts : (lines : List (List (List ℕ))) (scripts : List Script) (k : ℕ) → AreScripts p.classes lines scripts → NameClasses p (statements_at (slice_get scripts k))
-  classes_in_scripts lines [] k q = tt
-  classes_in_scripts lines (script ∷ scripts) zero (body, rest, e, items, more) = classes_in_items body script.items items
-  classes_in_scripts lines (script ∷ scripts) (suc k) (body, rest, e, items, more) = classes_in_scripts rest scripts k more
-
-pub accepted_classes : (bytes : List ℕ) (p : Program) → IsAcceptedAs bytes p → (k : ℕ) → NameClasses p (script_of p k)
-accepted_classes bytes p a k = classes_in_scripts p a.reads.program.scripts p.mutators k a.reads.program.are_scripts
-
--- the settings and the classes fit a space
-pub accepted_layout : (bytes : List ℕ) (p : Program) → IsAcceptedAs bytes p → IsLayout (sections_of p)
-accepted_layout bytes p a = record {
-  nursery_least = a.limits.settings.nursery_least;
-  nursery_most = a.limits.settings.nursery_most;
-  nursery_even = a.limits.settings.nursery_even;
-  blocks_least = a.limits.settings.blocks_least;
-  blocks_most = a.limits.settings.blocks_most;
-  pages = a.limits.settings.pages_most;
-}
+use Rattle.sg_parse.specs.Accepted.{IsAcceptedProgram}
+use Rattle.sg_order.specs.Rest.{IsRunnable}
+use Rattle.sg_order.proofs.Small.{all_runnable}
 
 small_kind : (kind : Descriptor) (n : ℕ) → MayHave kind n → n ≤ 62
 small_kind PtrFree n l = l
@@ -103,20 +32,63 @@ small_shapes : (classes : List Class) → AllByRecursion IsSmallClass classes �
 small_shapes [] q = All-nil (λ (shape : Shape). shape.fields ≤ 62)
 small_shapes (class ∷ classes) q = All-cons (λ (shape : Shape). shape.fields ≤ 62) class.shape _ (small_kind class.shape.kind class.shape.fields q.0) (small_shapes classes q.1)
 
-pub accepted_shapes : (bytes : List ℕ) (p : Program) → IsAcceptedAs bytes p → AreShapes (map (λ (class : Class). class.shape) p.classes)
-accepted_shapes bytes p a = record {
-  classes = omega (arith, length-map p.classes (λ (class : Class). class.shape), a.limits.classes);
-  fields = small_shapes p.classes a.limits.fields;
+pub accepted_shapes : (p : Program) → IsAcceptedProgram p → AreShapes (map (λ (class : Class). class.shape) p.classes)
+accepted_shapes p a = record {
+  classes = omega (arith, length-map p.classes (λ (class : Class). class.shape), a.read.limits.classes);
+  fields = small_shapes p.classes a.read.limits.fields;
 }
 
--- no mutator of an accepted program misuses a register
-beyond : {A : Type 0} (xs : List A) (k : ℕ) → length xs ≤ k → slice_get xs k ≡ None
-beyond [] k l = refl
-beyond (x ∷ xs) zero l = absurd (omega arith)
-beyond (x ∷ xs) (suc k) l = beyond xs k (omega arith)
+-- what is known of a script, once for all: its statements as they are written are good and run now, and it misuses nothing
+record IsKnownScript (p : Program) (script : Script) : Type 0 where
+  good : IsGoodScript p script
+  run : AllByRecursion (IsRun p) (written script.items)
+  kinds : HasNoMisuse script.items
 
-pub no_misuse : (bytes : List ℕ) (p : Program) → IsAcceptedAs bytes p → (k : ℕ) → HasNoMisuse first_kinds (script_of p k)
-no_misuse bytes p a k = elim (cases_lt k (length p.mutators)) [
-  | inl l ↦ a.kinds k l
-  | inr l ↦ subst (λ o. HasNoMisuse first_kinds (statements_at o)) (sym (beyond p.mutators k l)) tt
-]
+known_scripts : (p : Program) (scripts : List Script) → AllByRecursion (IsGoodScript p) scripts →
+    AllByRecursion (λ (script : Script). AllByRecursion (IsRun p) (written script.items)) scripts → AllByRecursion (λ (script : Script). HasNoMisuse script.items) scripts →
+    AllByRecursion (IsKnownScript p) scripts
+known_scripts p [] a b c = tt
+known_scripts p (script ∷ scripts) a b c = (record { good = a.0; run = b.0; kinds = c.0 }, known_scripts p scripts a.1 b.1 c.1)
+
+all_known : (p : Program) → IsAcceptedProgram p → AllByRecursion (IsKnownScript p) p.mutators
+all_known p a = known_scripts p p.mutators a.read.limits.scripts a.read.run a.kinds
+
+-- what holds of the statements of each such script, and of none, holds of those of each mutator
+of_scripts : (p : Program) (Q : List Statement → Type 0) → ((script : Script) → IsKnownScript p script → Q (written_out script.items)) → Q [] →
+    (scripts : List Script) (k : ℕ) → AllByRecursion (IsKnownScript p) scripts → Q (statements_at (slice_get scripts k))
+of_scripts p Q each none [] k h = none
+of_scripts p Q each none (script ∷ scripts) zero h = each script h.0
+of_scripts p Q each none (script ∷ scripts) (suc k) h = of_scripts p Q each none scripts k h.1
+
+operands_of : (p : Program) (ss : List Statement) → AllByRecursion (IsGood p) ss → AllByRecursion HasOperands ss
+operands_of p [] h = tt
+operands_of p (s ∷ ss) h = (h.0.operands, operands_of p ss h.1)
+
+-- the statements that a mutator does find the kinds that they need
+pub accepted_kinds : (p : Program) → IsAcceptedProgram p → (k : ℕ) → FindKinds first_kinds (script_of p k)
+accepted_kinds p a k =
+    of_scripts p (FindKinds first_kinds) (λ script h. finds_kinds script.items h.kinds.0 h.kinds.1 (operands_of p (written script.items) h.good.statements)) tt p.mutators k (all_known p a)
+
+-- and are run now
+pub accepted_statements : (p : Program) → IsAcceptedProgram p → (k : ℕ) → AllByRecursion (IsRunnable p) (script_of p k)
+accepted_statements p a k =
+    of_scripts p (AllByRecursion (IsRunnable p)) (λ script h. all_out (IsRunnable p) script.items (all_runnable p (written script.items) a.read.limits.fields h.good.statements h.run)) tt p.mutators k (all_known p a)
+
+pub one_mutator : (p : Program) → IsAcceptedProgram p → length p.mutators ≡ 1
+one_mutator p a = a.read.alone
+
+-- the statements of the program's one script are all that it does
+counted_in : (scripts : List Script) → length scripts ≡ 1 → sum_by (λ (script : Script). length (written_out script.items)) scripts ≡ length (statements_at (slice_get scripts 0))
+counted_in [] l = absurd (omega arith)
+counted_in (script ∷ []) l = omega arith
+counted_in (script ∷ other ∷ scripts) l = absurd (omega arith)
+
+pub statements_counted : (p : Program) → IsAcceptedProgram p → statements_in p ≡ length (script_of p 0)
+statements_counted p a = counted_in p.mutators (one_mutator p a)
+
+pub few_statements : (p : Program) → IsAcceptedProgram p → length (script_of p 0) ≤ 1048576
+few_statements p a = let e = statements_counted p a in let l = a.read.limits.statements in omega arith
+
+-- the count of a program's statements is that of its one script, and isn't held back
+pub total_is : (p : Program) (count : ℕ) → IsAcceptedProgram p → count ≡ min (statements_in p) (2 ^ 64 - 1) → count ≡ length (script_of p 0)
+total_is p count a e = let same = statements_counted p a in let l = a.read.limits.statements in omega arith

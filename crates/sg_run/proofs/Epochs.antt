@@ -3,7 +3,7 @@ use Rattle.std.proofs.Common.{◌≡◌, ℕ, zero, suc, ◌+◌, ◌&&◌, nat_
 use Rattle.std.proofs.lemmas.Bool.{le-ltb}
 use Rattle.sg_words.specs.Words.{put, Words}
 use Rattle.sg_graph.specs.declared.program.Statement.{Statement}
-use Rattle.sg_graph.specs.declared.program.Statement.TheVariants.{New, Put, Get, PutD, GetD, Num, Drop, CollectMinor}
+use Rattle.sg_graph.specs.declared.program.Statement.TheVariants.{New, NewV, Mature, Put, Get, PutD, GetD, Num, Move, Hide, Unhide, Drop, Push, Pop, GPut, GGet, WSet, WGet, Final, NextFin, Same, Collect, Sections}
 use Rattle.sg_graph.specs.declared.program.Program.{Program}
 use Rattle.sg_graph.specs.declared.reports.Answer.{Answer}
 use Rattle.sg_graph.specs.declared.reports.Leave.{Leave}
@@ -12,16 +12,16 @@ use Rattle.sg_graph.specs.declared.reports.Request.{Request}
 use Rattle.sg_graph.specs.declared.reports.Request.TheVariants.{Need, Minor}
 use Rattle.sg_graph.specs.declared.reports.EpochReport.{EpochReport}
 use Rattle.sg_graph.specs.Scripts.{script_of}
-use Rattle.sg_graph.specs.Graph.{Mutator, Graph}
+use Rattle.sg_graph.specs.Graph.{Entry, Ref, Int, Inner, Graph}
 use Rattle.sg_graph.specs.Book.{Book, HasNoPlace, IsWordOf, IsApart}
 use Rattle.sg_graph.specs.Epoch.{answers_of, by_address, Asks, Leaves, IsPart, numbers_below, running, Pairwise, is_done, left, AllEnded, IsEpoch}
-use Rattle.sg_run.specs.Rules.{Layout, Mid, Idle, Left, Actor, Went}
-use Rattle.sg_run.specs.Rest.{IsReady, IsHeld, IsEpochOpening, before_it, IsOver}
-use Rattle.sg_run.specs.Views.{IsRequestOf}
+use Rattle.sg_order.specs.Rules.{Layout, Slot, Mid, Idle, Left, Actor, Went}
+use Rattle.sg_order.specs.Rest.{Holds, IsReady, IsHeld, IsEpochOpening, before_it, IsOver}
+use Rattle.sg_actor.specs.Views.{IsRequestOf}
 use Rattle.sg_words.proofs.Puts.{put-all}
-use Rattle.sg_run.proofs.Relation.{IsMutator, IsAsked, AtMid, Stands}
-use Rattle.sg_run.proofs.Moves.{laid_mutators}
-use Rattle.sg_run.proofs.Law.{SoFar, so_far, stands_so_far, at_rest, ready_at_rest, held_at_rest, apart_by}
+use Rattle.sg_order.proofs.Relation.{IsMutator, IsAsked, AtMid, Stands}
+use Rattle.sg_order.proofs.Moves.{laid_mutators, plain_mutators}
+use Rattle.sg_order.proofs.Law.{SoFar, so_far, stands_so_far, at_rest, ready_at_rest, held_at_rest, apart_by}
 
 -- the report of an epoch of the program's one mutator
 abbrev pub report_of : ℕ → Bool → ℕ → List Answer → Leave → EpochReport
@@ -48,35 +48,65 @@ pub record HasAsked (p : Program) (lay : Layout) (number : ℕ) (g : Graph) (b :
 asks_for : (p : Program) (lay : Layout) (b : Book) (k : ℕ) (s : Statement) (request : Request) → b.fragments ≡ lay.fragments → IsAsked p lay b k s → IsRequestOf p s request → Asks p b k s request
 asks_for p lay b k (New r class) (Need n) number t e = (e, subst (λ m. HasNoPlace b k m) (sym e) (record { short = t.short; none = λ f l. t.below f (omega arith) }))
 asks_for p lay b k (New r class) Minor number t e = absurd e
+asks_for p lay b k (NewV r class count) (Need n) number t e = (e, subst (λ m. HasNoPlace b k m) (sym e) (record { short = t.short; none = λ f l. t.below f (omega arith) }))
+asks_for p lay b k (NewV r class count) Minor number t e = absurd e
+asks_for p lay b k (Collect false) (Need n) number t e = absurd e
+asks_for p lay b k (Collect false) Minor number t e = tt
+asks_for p lay b k (Collect true) request number t e = absurd t
+asks_for p lay b k (Mature r class) request number t e = absurd t
 asks_for p lay b k (Put r i s) request number t e = absurd t
 asks_for p lay b k (Get d r i) request number t e = absurd t
 asks_for p lay b k (PutD r i s) request number t e = absurd t
 asks_for p lay b k (GetD d r i) request number t e = absurd t
 asks_for p lay b k (Num d n) request number t e = absurd t
+asks_for p lay b k (Move d s) request number t e = absurd t
+asks_for p lay b k (Hide d s offset) request number t e = absurd t
+asks_for p lay b k (Unhide d s) request number t e = absurd t
 asks_for p lay b k (Drop r) request number t e = absurd t
-asks_for p lay b k CollectMinor (Need n) number t e = absurd e
-asks_for p lay b k CollectMinor Minor number t e = tt
+asks_for p lay b k (Push r) request number t e = absurd t
+asks_for p lay b k (Pop r) request number t e = absurd t
+asks_for p lay b k (GPut x r) request number t e = absurd t
+asks_for p lay b k (GGet r x) request number t e = absurd t
+asks_for p lay b k (WSet w r long) request number t e = absurd t
+asks_for p lay b k (WGet r w) request number t e = absurd t
+asks_for p lay b k (Final r) request number t e = absurd t
+asks_for p lay b k (NextFin r) request number t e = absurd t
+asks_for p lay b k (Same r s) request number t e = absurd t
+asks_for p lay b k Sections request number t e = absurd t
 
 -- what no mutator enters into stays as the epoch ends
 held_left : (p : Program) (lay : Layout) (w : Words) (g : Graph) (b : Book) → IsHeld p lay w g b → IsHeld p lay w (left p g) b
 held_left p lay w g b held = record {
   owner = held.owner;
   heap = record { laid = laid_mutators p w.word g b held.owner (left p g).mutator held.heap.laid; headed = held.heap.headed };
+  plain = plain_mutators p g (left p g).mutator held.plain;
   number = held.number;
   limits = held.limits;
   nexts = held.nexts;
 }
 
+holds_left : (p : Program) (g : Graph) (b : Book) (v o : ℕ) (e : Entry) → Holds g b v o e → Holds (left p g) b v o e
+holds_left p g b v o (Ref n) t = record { word_is = t.word_is; stands = t.stands }
+holds_left p g b v o (Int x) t = record { word_is = t.word_is; stands = tt }
+holds_left p g b v o (Inner n i) t = record { word_is = t.word_is; stands = t.stands }
+
+stack_left : (p : Program) (g : Graph) (b : Book) (xs : List Slot) (ys : List Entry) → Pairwise (λ (slot : Slot) (entry : Entry). Holds g b slot.word slot.offset entry) xs ys →
+    Pairwise (λ (slot : Slot) (entry : Entry). Holds (left p g) b slot.word slot.offset entry) xs ys
+stack_left p g b [] [] t = tt
+stack_left p g b [] (y ∷ ys) t = absurd t
+stack_left p g b (x ∷ xs) [] t = absurd t
+stack_left p g b (x ∷ xs) (y ∷ ys) t = (holds_left p g b x.word x.offset y t.0, stack_left p g b xs ys t.1)
+
 ready_left : (p : Program) (g : Graph) (b : Book) (k : ℕ) (a : Actor) (script : List Statement) → IsReady p g b k a script → ((left p g).mutator k).ended ≡ false → IsReady p (left p g) b k a script
 ready_left p g b k a script r awake = record {
-  regs = r.regs;
-  stand = r.stand;
+  regs = λ q. holds_left p g b (a.reg q) (a.offset q) ((g.mutator k).register q) (r.regs q);
+  stack = stack_left p g b a.stack (g.mutator k).stack r.stack;
   script_is = r.script_is;
   awake = awake;
   from_is = r.from_is;
   to_is = r.to_is;
   kinds = r.kinds;
-  classes = r.classes;
+  runnable = r.runnable;
 }
 
 apart_left : (p : Program) (g : Graph) (b : Book) → IsApart p g b → IsApart p (left p g) b
@@ -103,7 +133,7 @@ module _ (p : Program) (lay : Layout) (w : Words) (g : Graph) (b : Book) (actors
   mutator over = at_rest p lay v so.graph so.book (λ j. answers_of j so.order) 0 a st over
 
   script_is : IsOver a.mid → (so.graph.mutator 0).script ≡ before_it a.mid a.script
-  script_is over = ap (λ (m : Mutator). m.script) (mutator over).is
+  script_is over = (mutator over).script_is
 
   -- the one mutator was running
   running_is : running p g ≡ 0 ∷ []
@@ -192,7 +222,7 @@ module _ (p : Program) (lay : Layout) (w : Words) (g : Graph) (b : Book) (actors
       at_left = subst (λ (mid : Mid). AtMid p lay v so.graph so.book (λ j. answers_of j so.order) 0 st.entry st.answers a.script mid) leaves st.at
 
       script_left : (so.graph.mutator 0).script ≡ s ∷ a.script
-      script_left = ap (λ (m : Mutator). m.script) at_left.1.is
+      script_left = at_left.1.script_is
 
       awake : (k : ℕ) → ((left p so.graph).mutator k).ended ≡ false
       awake zero = ended_is 0 ∙ ap (λ s. nat_lt 0 1 && is_done s) script_left

@@ -1,18 +1,10 @@
-pub mod Relation
-pub mod Events
-pub mod Frame
-pub mod Moves
-pub mod Loads
-pub mod Accesses
-pub mod Places
-pub mod Whole
-pub mod Steps
-pub mod Law
 pub mod Epochs
 pub mod Classes
 pub mod Begins
 pub mod Serving
 mod Fronts
+mod Refused
+mod OneCause
 mod Pieces
 mod Words
 pub mod Stops

@@ -1,5 +1,5 @@
 -- What a sink took of a piece, write after write.
-use Rattle.std.proofs.Common.{◌≡◌, ℕ, ◌+◌, ◌≤◌, List, ◌++◌, length, take, drop, ap, arith, sym, subst, length-drop}
+use Rattle.std.proofs.Common.{◌≡◌, ℕ, ◌+◌, ◌≤◌, List, ◌++◌, length, take, drop, refl, ap, arith, sym, ◌∙◌, subst, length-drop, length-append, take_at, drop_at}
 use Rattle.std.specs.Prelude.{Option}
 use Rattle.std.proofs.Math.Seq.{take-add}
 use Rattle.std.proofs.KnownBytes.{Appends-trans}
@@ -25,3 +25,13 @@ pub taken_some : (a b c : Option (List ℕ)) (piece rest : List ℕ) (at : ℕ) 
     → TakesSome b c rest → TakesSome a c piece
 taken_some a b c piece rest at within before e (n, few, more) =
     (at + n, within_further piece rest at n within e few, taken_further a b c piece rest at n before e more)
+
+-- all of a piece was taken, and some first bytes of the next one: some first bytes of both
+pub some_further : (a b c : Option (List ℕ)) (piece next : List ℕ) → Appends a b piece → TakesSome b c next → TakesSome a c (piece ++ next)
+some_further a b c piece next first (n, few, more) =
+    let within : length piece + n ≤ length (piece ++ next) = omega (arith, length-append piece next) in
+    let front : take (length piece) (piece ++ next) ≡ piece = take_at piece next (length piece) refl in
+    let rest : drop (length piece) (piece ++ next) ≡ next = drop_at piece next (length piece) refl in
+    let both : piece ++ take n next ≡ take (length piece + n) (piece ++ next) =
+    sym (ap (λ l. l ++ take n (drop (length piece) (piece ++ next))) front ∙ ap (λ l. piece ++ take n l) rest) ∙ take_further (piece ++ next) (length piece) n in
+    (length piece + n, within, subst (Appends a c) both (Appends-trans a b c piece (take n next) first more))

@@ -2,7 +2,7 @@
 use Rattle.std.proofs.Common.{◌≡◌, ℕ, zero, suc, ◌+◌, ◌<◌, ◌≤◌, true, false, None, List, [], ◌∷◌, ◌++◌, length, map, drop, get_or, slice_get, vec_len, vec_capacity, inl, inr, sym, refl, ap, ◌∙◌, subst, arith}
 use Rattle.sg_words.specs.Words.{put, Words}
 use Rattle.sg_graph.specs.declared.program.Statement.{Statement}
-use Rattle.sg_graph.specs.declared.program.Statement.TheVariants.{New, Put, Get, PutD, GetD, Num, Drop, CollectMinor}
+use Rattle.sg_graph.specs.declared.program.Statement.TheVariants.{New, NewV, Mature, Put, Get, PutD, GetD, Num, Move, Hide, Unhide, Drop, Push, Pop, GPut, GGet, WSet, WGet, Final, NextFin, Same, Collect, Sections}
 use Rattle.sg_graph.specs.declared.program.Script.{Script}
 use Rattle.sg_graph.specs.declared.program.Class.{Class}
 use Rattle.sg_graph.specs.declared.program.Program.{Program}
@@ -11,35 +11,34 @@ use Rattle.sg_graph.specs.declared.reports.Leave.{Leave}
 use Rattle.sg_graph.specs.declared.reports.Leave.TheVariants.{Ended, Wants}
 use Rattle.sg_graph.specs.declared.reports.EpochReport.{EpochReport}
 use Rattle.sg_graph.specs.declared.reports.StopReport.{StopReport}
-use Rattle.sg_graph.specs.declared.program.Item.{Item}
-use Rattle.sg_graph.specs.declared.program.Item.TheVariants.{One}
 use Rattle.sg_graph.specs.Scripts.{script_of, written_out, statements_at}
-use Rattle.sg_graph.specs.Graph.{no_objects}
+use Rattle.sg_graph.specs.declared.program.Item.{Item}
+use Rattle.sg_graph.specs.Graph.{Entry, no_objects}
 use Rattle.sg_words.specs.Address.{byte_at}
 use Rattle.sg_desc.specs.declared.shapes.Shape.{Shape}
 use Rattle.sg_graph.specs.Book.{nursery_base, empty_book}
 use Rattle.sg_space.specs.Sections.{old_base}
-use Rattle.sg_graph.specs.Epoch.{IsEpoch}
+use Rattle.sg_graph.specs.Epoch.{Pairwise, IsEpoch}
 use Rattle.sg_graph.specs.Stop.{IsStop, requests_in}
 use Rattle.sg_graph.specs.Run.{Phase, Epoch, Stop, Goes, IsWholeRun}
 use Rattle.sg_graph.specs.Run.Goes.{Begins, GoesOn}
 use Rattle.sg_parse.specs.Accepted.{IsAcceptedProgram}
 use Rattle.sg_space.specs.Space.{Contents, words_of, IsContents, clear_space}
 use Rattle.sg_space.specs.Heap.{layout_of as sections_of, HoldsHeap}
-use Rattle.sg_run.specs.declared.mutator.Mutator.{Mutator}
+use Rattle.sg_actor.specs.declared.mutator.Mutator.{Mutator}
 use Rattle.sg_run.specs.declared.world.World.{World}
-use Rattle.sg_run.specs.Rules.{Layout, Actor, Idle, Left, fresh, within, Went}
-use Rattle.sg_run.specs.Rest.{IsReady, IsHeld, IsEpochOpening, before_it}
-use Rattle.sg_run.specs.Views.{layout_of, actor_of, IsSpace, KeepsSpace, IsFresh, IsEmptied, NamesRegisters, CanDo, CanGo, IsRequestOf}
+use Rattle.sg_order.specs.Rules.{Layout, Slot, Actor, Idle, Left, fresh, within, Went}
+use Rattle.sg_order.specs.Rest.{Holds, IsReady, IsHeld, IsEpochOpening, before_it}
+use Rattle.sg_actor.specs.Views.{layout_of, actor_of, IsSpace, KeepsSpace, IsFresh, IsEmptied, CanDo, CanGo, IsRequestOf}
 use Rattle.sg_run.specs.Worlds.{AreReady, CanServe, HasStopped, rest_of, IsBetween, IsAtStop, ComesTo, HasGone, HasAsked, Leaves, is_end}
 use Rattle.sg_words.proofs.Puts.{put-same, put-other, put-all}
 use Rattle.sg_graph.specs.Epoch.{answers_of}
-use Rattle.sg_run.proofs.Relation.{Ground, Stands}
-use Rattle.sg_run.proofs.Law.{so_far, ground_so_far, stands_so_far, first_opening}
+use Rattle.sg_order.proofs.Relation.{Ground, Stands}
+use Rattle.sg_order.proofs.Law.{so_far, ground_so_far, stands_so_far, first_opening}
 use Rattle.sg_run.proofs.Epochs.{report_of, HasEnded, HasAsked as EpochAsked, epoch_ends, epoch_asks}
-use Rattle.sg_run.proofs.Steps.{went_then, went_in}
+use Rattle.sg_actor.proofs.Steps.{went_then, went_in}
 use Rattle.sg_run.proofs.Begins.{IsOf, of_stays, layout_stays, space_stays, is_opening, is_first_layout, can_go}
-use Rattle.sg_run.proofs.Classes.{accepted_classes, no_misuse}
+use Rattle.sg_run.proofs.Classes.{accepted_kinds, accepted_statements, one_mutator}
 use Rattle.sg_run.proofs.Serving.{of_heap, held_of_heap, heap_of_held, space_of_heap}
 
 -- what is left of a list
@@ -68,38 +67,40 @@ drop_suc (z ∷ xs) (suc j) x ys e = drop_suc xs j x ys e
 left_next : {A : Type 0} (xs : List A) (j : ℕ) (x : A) (ys : List A) → drop j xs ≡ x ∷ ys → drop (j + 1) xs ≡ ys
 left_next xs j x ys e = ap (λ i. drop i xs) (let q : j + 1 ≡ suc j = omega arith in q) ∙ drop_suc xs j x ys e
 
--- the statement of an item is the script's at the same place
-next_in : (items : List Item) (j : ℕ) (d : Item) (s : Statement) → j < length items → get_or items j d ≡ One s → drop j (written_out items) ≡ s ∷ drop (suc j) (written_out items)
-next_in [] j d s l e = absurd (omega arith)
-next_in (One t ∷ items) zero d s l e = ap (λ (i : Item). first_of i ∷ written_out items) e
-  where
-    first_of : Item → Statement
-    first_of (One s) = s
-next_in (One t ∷ items) (suc j) d s l e = next_in items j d s (omega arith) e
+-- the next statement of a world, and what is left behind it
+pub next_place : (p : Program) (world : World) (s : Statement) (rest : List Statement) → rest_of p world ≡ s ∷ rest → (world.at < length (script_of p 0)) × (drop (world.at + 1) (script_of p 0) ≡ rest)
+next_place p world s rest e = (below (script_of p 0) world.at (let q = ap length e in omega arith), left_next (script_of p 0) world.at s rest e)
 
-pub next_is : (items : List Item) (script : List Statement) → written_out items ≡ script → (j : ℕ) (d : Item) (s : Statement) → j < length items → get_or items j d ≡ One s → drop j script ≡ s ∷ drop (j + 1) script
-next_is items script is j d s l e =
-    subst (λ ss. drop j ss ≡ s ∷ drop (j + 1) ss) is (next_in items j d s l e ∙ ap (λ i. s ∷ drop i (written_out items)) (let q : suc j ≡ j + 1 = omega arith in q))
+-- no statement is left
+pub at_end : (p : Program) (world : World) → world.at ≤ length (script_of p 0) → rest_of p world ≡ [] → world.at ≡ length (script_of p 0)
+at_end p world l e = let q = ap length e in let h = length_left (script_of p 0) world.at l in omega arith
 
 -- a statement that asks for a stop can be answered there
 pub can_serve : (p : Program) (s : Contents) (m : Mutator) (statement : Statement) (request : Request) → IsRequestOf p statement request → CanDo p s m statement → CanServe p statement
-can_serve p s m (New r class) request fits can = (can.0, can.1)
-can_serve p s m CollectMinor request fits can = tt
+can_serve p s m (New r class) request fits can = can.0
+can_serve p s m (NewV r class count) request fits can = can.0
+can_serve p s m (Collect false) request fits can = tt
+can_serve p s m (Collect true) request fits can = absurd can
+can_serve p s m (Mature r class) request fits can = absurd fits
 can_serve p s m (Put r i x) request fits can = absurd fits
 can_serve p s m (Get d r i) request fits can = absurd fits
 can_serve p s m (PutD r i x) request fits can = absurd fits
 can_serve p s m (GetD d r i) request fits can = absurd fits
 can_serve p s m (Num d n) request fits can = absurd fits
+can_serve p s m (Move d x) request fits can = absurd fits
+can_serve p s m (Hide d x offset) request fits can = absurd fits
+can_serve p s m (Unhide d x) request fits can = absurd fits
 can_serve p s m (Drop r) request fits can = absurd fits
-
-pub none_left : {A : Type 0} (xs : List A) (j : ℕ) → length xs ≤ j → drop j xs ≡ []
-none_left [] zero l = refl
-none_left [] (suc j) l = refl
-none_left (x ∷ xs) zero l = absurd (omega arith)
-none_left (x ∷ xs) (suc j) l = none_left xs j (omega arith)
-
-pub keeps_self : (s : Contents) → KeepsSpace s s
-keeps_self s = record { layout = refl; shapes = refl; next = refl; ends = refl; words = refl }
+can_serve p s m (Push r) request fits can = absurd fits
+can_serve p s m (Pop r) request fits can = absurd fits
+can_serve p s m (GPut x r) request fits can = absurd fits
+can_serve p s m (GGet r x) request fits can = absurd fits
+can_serve p s m (WSet x r long) request fits can = absurd fits
+can_serve p s m (WGet r x) request fits can = absurd fits
+can_serve p s m (Final r) request fits can = absurd fits
+can_serve p s m (NextFin r) request fits can = absurd fits
+can_serve p s m (Same r x) request fits can = absurd fits
+can_serve p s m Sections request fits can = absurd fits
 
 pub keeps_then : (s t u : Contents) → KeepsSpace s t → KeepsSpace t u → KeepsSpace s u
 keeps_then s t u f g = record {
@@ -109,9 +110,6 @@ keeps_then s t u f g = record {
   ends = g.ends ∙ f.ends;
   words = g.words ∙ f.words;
 }
-
-pub one_mutator : (p : Program) → IsAcceptedProgram p → length p.mutators ≡ 1
-one_mutator p a = omega (arith, a.1.limits.mutators_least, a.1.reads.program.few)
 
 -- the mutators of an epoch of the program's one mutator
 abbrev pub actors_of : Actor → ℕ → Actor
@@ -126,7 +124,7 @@ module _ (p : Program) (accepted : IsAcceptedProgram p) (phases : List Phase) (o
 
   opening : IsEpochOpening p lay (words_of old.space) between.graph between.book (actors_of first)
   opening = record {
-    held = held_of_heap p old.space between.graph between.book between.held;
+    held = held_of_heap p old.space between.graph between.book between.plain between.held;
     ready = put-all (λ k (a : Actor). IsReady p between.graph between.book k a a.script) (λ _. fresh []) 0 first between.ready.first (λ k n. between.ready.others k (omega (arith, n)));
     idle = put-all (λ k (a : Actor). a.mid ≡ Idle) (λ _. fresh []) 0 first refl (λ k n. refl);
     untold = put-all (λ k (a : Actor). a.told ≡ []) (λ _. fresh []) 0 first between.none (λ k n. refl);
@@ -140,7 +138,7 @@ module _ (p : Program) (accepted : IsAcceptedProgram p) (phases : List Phase) (o
   of_old = of_heap p old.space between.graph between.book between.contents between.held
 
   pub space_is : IsSpace old.space
-  space_is = space_of_heap p old.space between.graph between.book between.contents between.held
+  space_is = space_of_heap p old.space between.graph between.book between.contents between.plain between.held
 
   module _ (now : World) (keeps : KeepsSpace old.space now.space) where
     of_now : IsOf p now.space
@@ -162,8 +160,8 @@ module _ (p : Program) (accepted : IsAcceptedProgram p) (phases : List Phase) (o
 
     -- the next statement may begin
     pub can_step : (statement : Statement) (rest : List Statement) → rest_of p now ≡ statement ∷ rest → Went p lay first (words_of old.space) (actor_of now.mutator (rest_of p now)) (words_of now.space) →
-        now.space.stop ≡ 0 → NamesRegisters statement → CanGo p now.space now.mutator statement
-    can_step statement rest is went stop names =
+        now.space.stop ≡ 0 → CanGo p now.space now.mutator statement
+    can_step statement rest is went stop =
         let a = actor_of now.mutator (statement ∷ rest) in
         let here = subst (λ script. Went p lay first (words_of old.space) (actor_of now.mutator script) (words_of now.space)) is went in
         let so = so_far p lay (words_of old.space) between.graph between.book (actors_of first) 0 a (words_of now.space) opening (from_first a (words_of now.space) here) in
@@ -172,7 +170,7 @@ module _ (p : Program) (accepted : IsAcceptedProgram p) (phases : List Phase) (o
         let same = sym (layout_stays old.space now.space keeps) in
         can_go p now.space of_now so.graph so.book so.world.owner (subst (λ l. Ground p l (words_of now.space) so.graph so.book so.world.owner) same ground)
         (λ j. answers_of j so.order) 0 now.mutator statement rest
-        (subst (λ l. Stands p l (words_of now.space) so.graph so.book (λ j. answers_of j so.order) 0 a) same stands) names stop
+        (subst (λ l. Stands p l (words_of now.space) so.graph so.book (λ j. answers_of j so.order) 0 a) same stands) stop
 
   place : old.at + length ((between.graph.mutator 0).script) ≡ length (script_of p 0)
   place = ap (λ script. old.at + length script) between.ready.first.script_is ∙ length_left (script_of p 0) old.at between.within_it
@@ -202,9 +200,9 @@ module _ (p : Program) (accepted : IsAcceptedProgram p) (phases : List Phase) (o
 
   -- the mutator has left with its next statement
   pub asks : (gone_to after : World) (report : EpochReport) (request : Request) → HasGone p old gone_to → (asked : HasAsked p old request gone_to) →
-      IsEmptied gone_to.mutator after.mutator → after.space ≡ gone_to.space → after.at ≡ gone_to.at → after.number ≡ gone_to.number →
+      IsEmptied gone_to.mutator after.mutator → after.space ≡ gone_to.space → after.at ≡ gone_to.at → after.number ≡ gone_to.number → after.cursor ≡ gone_to.cursor →
       report ≡ report_of old.number false old.at gone_to.mutator.answers.items (Wants request) → IsAtStop p phases report after
-  asks gone_to after report request gone asked emptied same_space same_at same_number is = record {
+  asks gone_to after report request gone asked emptied same_space same_at same_number same_cursor is = record {
     before_graph = between.graph;
     before_book = between.book;
     goes = subst (λ n. Goes p n phases between.graph between.book) (sym number) between.goes;
@@ -221,6 +219,7 @@ module _ (p : Program) (accepted : IsAcceptedProgram p) (phases : List Phase) (o
       held = subst (λ s. HoldsHeap p s e.h e.c) (sym same_space)
           (heap_of_held p old.space gone_to.space between.graph e.h between.book e.c gone.keeps between.held
           (subst (λ l. IsHeld p l (words_of gone_to.space) e.h e.c) (sym (layout_stays old.space gone_to.space gone.keeps)) e.held));
+      plain = e.held.plain;
       ready = record { first = ready_first; others = ready_others };
       apart = e.epoch.apart;
       one = one_mutator p accepted;
@@ -230,7 +229,9 @@ module _ (p : Program) (accepted : IsAcceptedProgram p) (phases : List Phase) (o
     untold = emptied.none;
     none = ap (λ (x : Actor). x.told) (emptied.is []);
     counted = let c = between.counted in let h = gone.ahead in let n = number in let q = same_at in omega arith;
+    at_place = same_cursor ∙ gone.at_place ∙ ap (λ at. drop at (script_of p 0)) (sym same_at);
     room = let r = gone.room in let q = emptied.room in omega arith;
+    stack_room = let r = gone.stack_room in let q = ap vec_capacity emptied.stack in omega arith;
   }
     where
       a : Actor
@@ -247,14 +248,14 @@ module _ (p : Program) (accepted : IsAcceptedProgram p) (phases : List Phase) (o
 
       ready_first : IsReady p e.h e.c 0 (actor_of after.mutator (asked.statement ∷ asked.rest)) (asked.statement ∷ asked.rest)
       ready_first = record {
-        regs = λ r. ap (λ (x : Actor). x.reg r) (emptied.is []) ∙ at_zero.regs r;
-        stand = at_zero.stand;
+        regs = λ r. subst (λ (x : Actor). Holds e.h e.c (x.reg r) (x.offset r) ((e.h.mutator 0).register r)) (sym (emptied.is [])) (at_zero.regs r);
+        stack = subst (λ (x : Actor). Pairwise (λ (slot : Slot) (entry : Entry). Holds e.h e.c slot.word slot.offset entry) x.stack (e.h.mutator 0).stack) (sym (emptied.is [])) at_zero.stack;
         script_is = at_zero.script_is;
         awake = at_zero.awake;
         from_is = ap (λ (x : Actor). x.from) (emptied.is []) ∙ at_zero.from_is;
         to_is = ap (λ (x : Actor). x.to) (emptied.is []) ∙ at_zero.to_is;
         kinds = at_zero.kinds;
-        classes = at_zero.classes;
+        runnable = at_zero.runnable;
       }
 
       ready_others : (k : ℕ) → 1 ≤ k → IsReady p e.h e.c k (fresh []) []
@@ -264,11 +265,11 @@ module _ (p : Program) (accepted : IsAcceptedProgram p) (phases : List Phase) (o
 
 -- however the mutator left
 pub comes : (p : Program) (accepted : IsAcceptedProgram p) (phases : List Phase) (old : World) (between : IsBetween p phases old) (gone after : World) (leave : Leave) (report : EpochReport) →
-    HasGone p old gone → Leaves p old leave gone → IsEmptied gone.mutator after.mutator → after.space ≡ gone.space → after.at ≡ gone.at → after.number ≡ gone.number →
+    HasGone p old gone → Leaves p old leave gone → IsEmptied gone.mutator after.mutator → after.space ≡ gone.space → after.at ≡ gone.at → after.number ≡ gone.number → after.cursor ≡ gone.cursor →
     report ≡ report_of old.number (is_end leave) old.at gone.mutator.answers.items leave → ComesTo p phases report after
-comes p accepted phases old between gone after Ended report done leaves emptied space at number is = inl (ap (λ (r : EpochReport). r.last) is, ends p accepted phases old between gone report done leaves is)
-comes p accepted phases old between gone after (Wants request) report done leaves emptied space at number is =
-    inr (ap (λ (r : EpochReport). r.last) is, asks p accepted phases old between gone after report request done leaves emptied space at number is)
+comes p accepted phases old between gone after Ended report done leaves emptied space at number cursor is = inl (ap (λ (r : EpochReport). r.last) is, ends p accepted phases old between gone report done leaves is)
+comes p accepted phases old between gone after (Wants request) report done leaves emptied space at number cursor is =
+    inr (ap (λ (r : EpochReport). r.last) is, asks p accepted phases old between gone after report request done leaves emptied space at number cursor is)
 
 -- the items of the program's one script
 pub script_is : (p : Program) → IsAcceptedProgram p → (scripts : List Script) → scripts ≡ p.mutators → (script : Script) → script ≡ get_or scripts 0 script → (items : List Item) → items ≡ script.items → written_out items ≡ script_of p 0
@@ -286,10 +287,9 @@ same_head x y xs ys e = ap (λ (zs : List Statement). first_or zs) e
     first_or [] = x
     first_or (z ∷ zs) = z
 
--- the statement that asks is the script's next one
-pub asking_is : (p : Program) (phases : List Phase) (report : EpochReport) (world : World) (t : IsAtStop p phases report world) (items : List Item) → written_out items ≡ script_of p 0 →
-    (d : Item) (s : Statement) → world.at < length items → get_or items world.at d ≡ One s → t.statement ≡ s
-asking_is p phases report world t items is d s l e = same_head t.statement s t.rest (drop (world.at + 1) (script_of p 0)) (sym t.is ∙ next_is items (script_of p 0) is world.at d s l e)
+-- the statement that asks is the next one
+pub asking_is : (p : Program) (phases : List Phase) (report : EpochReport) (world : World) (t : IsAtStop p phases report world) (s : Statement) (rest : List Statement) → world.cursor ≡ s ∷ rest → t.statement ≡ s
+asking_is p phases report world t s rest e = same_head t.statement s t.rest rest (sym t.is ∙ sym t.at_place ∙ e)
 
 -- there is such a statement, and it has a number
 pub asking_there : (p : Program) (phases : List Phase) (report : EpochReport) (world : World) → IsAtStop p phases report world → world.at < length (script_of p 0)
@@ -298,15 +298,16 @@ asking_there p phases report world t = below (script_of p 0) world.at (let q = a
 -- behind the stop
 pub goes_on : (p : Program) (phases : List Phase) (report : EpochReport) (world after : World) (stop : StopReport) (at_stop : IsAtStop p phases report world) →
     HasStopped p world.number world.at at_stop.graph at_stop.book at_stop.request at_stop.rest after.space after.mutator stop →
-    IsContents after.space → after.space.stop ≡ 0 → after.mutator.answers ≡ world.mutator.answers → after.at ≡ world.at + 1 → after.number ≡ world.number + 1 →
+    IsContents after.space → after.space.stop ≡ 0 → after.mutator.answers ≡ world.mutator.answers → after.mutator.stack ≡ world.mutator.stack → after.at ≡ world.at + 1 → after.number ≡ world.number + 1 → after.cursor ≡ at_stop.rest →
     IsBetween p (phases ++ Epoch report ∷ Stop stop ∷ []) after
-goes_on p phases report world after stop t s contents going answers at number = record {
+goes_on p phases report world after stop t s contents going answers stack at number cursor = record {
   graph = s.graph;
   book = s.book;
   goes = subst (λ n. Goes p n (phases ++ Epoch report ∷ Stop stop ∷ []) s.graph s.book) (let e = number in let q : suc world.number ≡ after.number = omega arith in q)
       (GoesOn world.number phases t.before_graph t.before_book report t.graph t.book stop s.graph s.book t.goes t.epoch
       (subst (λ requests. IsStop p world.number t.graph t.book requests stop s.graph s.book) (sym t.asked) s.stop));
   held = s.held;
+  plain = s.plain;
   ready = subst (λ script. AreReady p s.graph s.book after.mutator script) (sym rest) s.ready;
   contents = contents;
   going = going;
@@ -314,7 +315,9 @@ goes_on p phases report world after stop t s contents going answers at number = 
   none = ap (λ v. v.items) answers ∙ t.none;
   within_it = left_of;
   counted = let c = t.counted in let a = at in let n = number in omega arith;
+  at_place = cursor ∙ sym rest;
   room = let r = t.room in let q = ap vec_capacity answers in omega arith;
+  stack_room = let r = t.stack_room in let q = ap vec_capacity stack in omega arith;
 }
   where
     rest : rest_of p after ≡ t.rest
@@ -325,8 +328,8 @@ goes_on p phases report world after stop t s contents going answers at number = 
 
 -- before the program's first epoch
 pub begins : (p : Program) (accepted : IsAcceptedProgram p) (world : World) (shapes : List Shape) → shapes ≡ map (λ (class : Class). class.shape) p.classes → world.space ≡ clear_space (sections_of p) shapes →
-    IsContents world.space → IsFresh world.mutator (length (script_of p 0)) → world.at ≡ 0 → world.number ≡ 0 → IsBetween p [] world
-begins p accepted world shapes named space contents fresh_one at number = record {
+    IsContents world.space → IsFresh world.mutator (length (script_of p 0)) → world.cursor ≡ script_of p 0 → world.at ≡ 0 → world.number ≡ 0 → IsBetween p [] world
+begins p accepted world shapes named space contents fresh_one cursor at number = record {
   graph = no_objects p;
   book = empty_book p;
   goes = subst (λ n. Goes p n [] (no_objects p) (empty_book p)) (sym number) Begins;
@@ -341,6 +344,7 @@ begins p accepted world shapes named space contents fresh_one at number = record
     },
     (opens.held.owner, opens.held.heap),
   );
+  plain = opens.held.plain;
   ready = record { first = first_ready; others = others };
   contents = contents;
   going = ap (λ (s : Contents). s.stop) space;
@@ -348,11 +352,13 @@ begins p accepted world shapes named space contents fresh_one at number = record
   none = ap (λ (a : Actor). a.told) (fresh_one.begins []);
   within_it = let z = at in omega arith;
   counted = let z = at in let n = number in omega arith;
+  at_place = cursor ∙ sym whole;
   room = let r = fresh_one.room in omega arith;
+  stack_room = fresh_one.stack;
 }
   where
     opens : IsEpochOpening p (layout_of world.space) (words_of world.space) (no_objects p) (empty_book p) (λ k. fresh (script_of p k))
-    opens = first_opening p (layout_of world.space) (words_of world.space) (no_misuse accepted.0 p accepted.1) (accepted_classes accepted.0 p accepted.1) (is_first_layout p world.space shapes space) (is_opening world.space shapes (sections_of p) space)
+    opens = first_opening p (layout_of world.space) (words_of world.space) (accepted_kinds p accepted) (accepted_statements p accepted) (is_first_layout p world.space shapes space) (is_opening world.space shapes (sections_of p) space)
 
     whole : rest_of p world ≡ script_of p 0
     whole = ap (λ j. drop j (script_of p 0)) at

@@ -5,18 +5,19 @@ use Rattle.sg_words.specs.Tags.{plain_word}
 use Rattle.sg_words.specs.Words.{put}
 use Rattle.sg_graph.specs.declared.program.Statement.{Statement}
 use Rattle.sg_graph.specs.declared.program.Program.{Program}
-use Rattle.sg_graph.specs.Scripts.{fields_of}
+use Rattle.sg_graph.specs.Scripts.{IsSizeOf, words_for}
 use Rattle.sg_graph.specs.Graph.{Entry, Graph, grown, goes_on}
-use Rattle.sg_graph.specs.Book.{Book, placed, words_of_class}
+use Rattle.sg_graph.specs.Book.{Book, placed}
+use Rattle.sg_graph.specs.Pause.{IsPlain}
 use Rattle.sg_graph.specs.Stop.{Takes, HasNoFragment}
 use Rattle.sg_space.specs.declared.layout.Layout.{Layout as Sections}
 use Rattle.sg_space.specs.Heap.{HoldsHeap}
 use Rattle.sg_space.specs.Space.{Contents, words_of, IsContents}
 use Rattle.sg_space.proofs.Placing.{HasPlaced, holds_placed}
-use Rattle.sg_run.specs.Rest.{IsHeld}
-use Rattle.sg_run.specs.Views.{layout_of, IsSpace, KeepsSpace, HasByteAddresses, IsPlaced, HasNowhere}
+use Rattle.sg_order.specs.Rest.{IsHeld}
+use Rattle.sg_actor.specs.Views.{layout_of, IsSpace, KeepsSpace, HasByteAddresses, IsPlaced, HasNowhere}
 use Rattle.sg_words.proofs.Puts.{put-same}
-use Rattle.sg_run.proofs.Relation.{Ground}
+use Rattle.sg_order.proofs.Relation.{Ground}
 use Rattle.sg_run.proofs.Begins.{IsOf, is_space, has_byte_addresses}
 
 -- a space that holds the graph is the program's
@@ -24,10 +25,11 @@ pub of_heap : (p : Program) (s : Contents) (g : Graph) (b : Book) → IsContents
 of_heap p s g b contents holds = record { contents = contents; layout = holds.0.layout; shapes = holds.0.shapes }
 
 -- its words hold the graph as an epoch opens
-pub held_of_heap : (p : Program) (s : Contents) (g : Graph) (b : Book) → HoldsHeap p s g b → IsHeld p (layout_of s) (words_of s) g b
-held_of_heap p s g b holds = record {
+pub held_of_heap : (p : Program) (s : Contents) (g : Graph) (b : Book) → IsPlain p g → HoldsHeap p s g b → IsHeld p (layout_of s) (words_of s) g b
+held_of_heap p s g b plain holds = record {
   owner = holds.1.0;
   heap = holds.1.1;
+  plain = plain;
   number = holds.0.fragments;
   limits = λ f l. omega (arith, holds.0.limit f l);
   nexts = holds.0.next;
@@ -49,12 +51,12 @@ heap_of_held p s t g h b c keeps holds held = (
   (held.owner, held.heap),
 )
 
-module _ (p : Program) (s : Contents) (g : Graph) (b : Book) (contents : IsContents s) (holds : HoldsHeap p s g b) where
+module _ (p : Program) (s : Contents) (g : Graph) (b : Book) (contents : IsContents s) (plain : IsPlain p g) (holds : HoldsHeap p s g b) where
   of : IsOf p s
   of = of_heap p s g b contents holds
 
   ground : Ground p (layout_of s) (words_of s) g b holds.1.0
-  ground = let held = held_of_heap p s g b holds in record { laid = holds.1.1.laid; number = held.number; limits = held.limits; words = held.nexts }
+  ground = let held = held_of_heap p s g b plain holds in record { laid = holds.1.1.laid; plain = plain; number = held.number; limits = held.limits; words = held.nexts }
 
   -- such a space is one to work on
   pub space_of_heap : IsSpace s
@@ -73,7 +75,7 @@ module _ (p : Program) (s : Contents) (g : Graph) (b : Book) (contents : IsConte
 
   -- A fragment of it gave a new object its place: by the book the lowest one with room, and the space holds the graph with the
   -- new object, in whichever register that stands.
-  module _ (k class : ℕ) (rest : List Statement) (register : ℕ → Entry) (t : Contents) (a : ℕ) (known : class < length p.classes) (is : IsPlaced s class (fields_of p class) t a) where
+  module _ (k class fields : ℕ) (rest : List Statement) (register : ℕ → Entry) (t : Contents) (a : ℕ) (known : class < length p.classes) (sized : IsSizeOf p class fields) (is : IsPlaced s class fields t a) where
     abbrev fragment : ℕ
     fragment = is.fragment
 
@@ -81,7 +83,7 @@ module _ (p : Program) (s : Contents) (g : Graph) (b : Book) (contents : IsConte
     x = b.next fragment
 
     abbrev n : ℕ
-    n = words_of_class p class
+    n = words_for fields
 
     abbrev c : Book
     c = record (placed b (suc g.count) x) { next = put b.next fragment (x + n) }
@@ -108,7 +110,7 @@ module _ (p : Program) (s : Contents) (g : Graph) (b : Book) (contents : IsConte
         let nursery : s.layout.nursery ≡ p.config.nursery = ap (λ (l : Sections). l.nursery) holds.0.layout in
         omega (arith, takes.room, (holds.1.1.laid.fragments.inside fragment there).2, contents.words)
 
-    has_placed : HasPlaced s fragment x n class (fields_of p class) t
+    has_placed : HasPlaced s fragment x n class fields t
     has_placed = record {
       layout = ap (λ (s : Contents). s.layout) is.after;
       shapes = ap (λ (s : Contents). s.shapes) is.after;
@@ -117,18 +119,18 @@ module _ (p : Program) (s : Contents) (g : Graph) (b : Book) (contents : IsConte
       next = ap (λ (s : Contents). get_or s.next fragment 0) is.after ∙ get_or-set_same s.next fragment (a + byte_at n) 0 (omega (arith, holds.0.same, is.there)) ∙ omega (arith, at);
       other = λ j d. ap (λ (s : Contents). get_or s.next j 0) is.after ∙ get_or-set_other s.next fragment j (a + byte_at n) 0 d;
       tag = ap (λ (s : Contents). get_or s.words x 0) is.after ∙ ap (λ y. get_or (set (written y) y (plain_word class)) x 0) at_word
-          ∙ get_or-set_same (written x) x (plain_word class) 0 (omega (arith, is_inside, length-set s.words (x + 1) (fields_of p class)));
+          ∙ get_or-set_same (written x) x (plain_word class) 0 (omega (arith, is_inside, length-set s.words (x + 1) fields));
       length_is = ap (λ (s : Contents). get_or s.words (x + 1) 0) is.after ∙ ap (λ y. get_or (set (written y) y (plain_word class)) (x + 1) 0) at_word
-          ∙ get_or-set_other (written x) x (x + 1) (plain_word class) 0 (λ e. omega arith) ∙ get_or-set_same s.words (x + 1) (fields_of p class) 0 (omega (arith, is_inside));
+          ∙ get_or-set_other (written x) x (x + 1) (plain_word class) 0 (λ e. omega arith) ∙ get_or-set_same s.words (x + 1) fields 0 (omega (arith, is_inside));
       same = λ y d e. ap (λ (s : Contents). get_or s.words y 0) is.after ∙ ap (λ z. get_or (set (written z) z (plain_word class)) y 0) at_word
-          ∙ get_or-set_other (written x) x y (plain_word class) 0 d ∙ get_or-set_other s.words (x + 1) y (fields_of p class) 0 e;
+          ∙ get_or-set_other (written x) x y (plain_word class) 0 d ∙ get_or-set_other s.words (x + 1) y fields 0 e;
     }
       where
         written : ℕ → List ℕ
-        written y = set s.words (y + 1) (fields_of p class)
+        written y = set s.words (y + 1) fields
 
-    pub holds_served : HoldsHeap p t (goes_on (grown p g k class) k rest register) c
-    holds_served = holds_placed p s g b holds.1.0 holds.0 holds.1.1 k class fragment k rest register t known there takes.room has_placed
+    pub holds_served : HoldsHeap p t (goes_on (grown p g k class fields) k rest register) c
+    holds_served = holds_placed p s g b holds.1.0 holds.0 holds.1.1 k class fields fragment k rest register t known sized there takes.room has_placed
 
     pub served_at : a ≡ byte_at (c.address (suc g.count))
     served_at = at ∙ ap byte_at (sym (put-same b.address (suc g.count) x))

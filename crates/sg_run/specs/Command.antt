@@ -9,7 +9,3 @@ IsRunCommand words = words ≡ codes "run" ∷ []
 -- what is written where the words are no command
 abbrev pub usage_line : List ℕ
 usage_line = codes "usage: sgenlab run" ++ line_feed
-
--- what is written where the input isn't accepted
-abbrev pub refusal_line : List ℕ
-refusal_line = codes "refused input" ++ line_feed

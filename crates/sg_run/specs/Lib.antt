@@ -1,11 +1,10 @@
-pub mod Rules
-pub mod Opening
-pub mod Rest
-pub mod OneOrder
-pub mod Views
 pub mod Command
+pub mod Causes
 pub mod Ends
 pub mod Input
+pub mod Running
 pub mod Status
+pub mod Refusing
 pub mod Top
 pub mod Worlds
+pub mod Made

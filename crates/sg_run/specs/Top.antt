@@ -1,13 +1,15 @@
 -- What the top call promises, by its status: 0 done, 1 no command, 2 not accepted, 3 the source failed, 4 the sink
 -- failed, 5 no memory. Clauses on bytes hold where the source and the sink tell their bytes.
-use Rattle.std.specs.Prelude.{◌≡◌, ℕ, ◌≤◌, ◌⊎◌, List, IfSome}
+use Rattle.std.specs.Prelude.{◌≡◌, ℕ, ◌≤◌, ◌⊎◌, Option, List, [], IfSome}
 use Rattle.std.specs.Io.KnownBytes.{Appends, Keeps, IsAtEnd}
 use Rattle.sg_io.specs.Progress.{TakesSome}
 use Rattle.sg_graph.specs.declared.program.Program.{Program}
 use Rattle.sg_graph.specs.Run.{Phase, IsRun, IsWholeRun}
 use Rattle.sg_graph.specs.Trace.{text}
 use Rattle.sg_parse.specs.Accepted.{IsAcceptedAs, IsAccepted}
-use Rattle.sg_run.specs.Command.{IsRunCommand, usage_line, refusal_line}
+use Rattle.sg_run.specs.declared.refusal.Cause.{Cause}
+use Rattle.sg_run.specs.Command.{IsRunCommand, usage_line}
+use Rattle.sg_run.specs.Causes.{IsCause, refusal_line}
 use Rattle.sg_run.specs.Ends.{Ends, ReadFails, WriteFails, Gives}
 
 -- the input is accepted as some program, of which there is a whole run, and the sink took exactly that run's text
@@ -33,13 +35,13 @@ pub record Usage (words : List (List ℕ)) (old new : Ends) (status : ℕ) : Typ
   pub line : status ≡ 1 → Appends old.taken new.taken usage_line
   pub unread : ¬ IsRunCommand words → Keeps old.left new.left
 
--- status 2: exactly where the words are the command and the input isn't accepted, with the refusal line
+-- status 2: exactly where the words are the command and the input isn't accepted, with the line that tells why
 pub record Refusal (words : List (List ℕ)) (old new : Ends) (status : ℕ) : Type 0 where
   pub command : status ≡ 2 → IsRunCommand words
   pub only : status ≡ 2 → IfSome old.left (λ input. ¬ IsAccepted input)
   pub always : IsRunCommand words
       → IfSome old.left (λ input. ¬ IsAccepted input → Gives 2 old new status ⊎ ((status ≡ 3) × ReadFails old new))
-  pub line : status ≡ 2 → Appends old.taken new.taken refusal_line
+  pub line : status ≡ 2 → (cause : Cause) × Appends old.taken new.taken (refusal_line cause) × IfSome old.left (λ input. IsCause input cause)
 
 -- status 3: only where the words are the command and a read failed; nothing is written then
 pub record ReadFault (words : List (List ℕ)) (old new : Ends) (status : ℕ) : Type 0 where
@@ -55,11 +57,15 @@ WriteFault old new status = status ≡ 4 → WriteFails old new
 abbrev pub IsCutShort : ℕ → Type 0
 IsCutShort status = (status ≡ 4) ⊎ (status ≡ 5)
 
+-- the sink took nothing, or a front of the line that tells why the input isn't accepted
+abbrev pub TakesFront : List ℕ → Option (List ℕ) → Option (List ℕ) → Type 0
+TakesFront input old new = TakesSome old new [] ⊎ ((cause : Cause) × IsCause input cause × TakesSome old new (refusal_line cause))
+
 -- statuses 4 and 5: the sink took a front of what would have been written
 pub record Front (words : List (List ℕ)) (old new : Ends) (status : ℕ) : Type 0 where
   pub usage : IsCutShort status → ¬ IsRunCommand words → TakesSome old.taken new.taken usage_line
   pub refusal : IsCutShort status → IsRunCommand words
-      → IfSome old.left (λ input. ¬ IsAccepted input → TakesSome old.taken new.taken refusal_line)
+      → IfSome old.left (λ input. ¬ IsAccepted input → TakesFront input old.taken new.taken)
   pub trace : IsCutShort status → IsRunCommand words → IfSome old.left (λ input. IsAccepted input → WritesFront input old new)
 
 -- an accepted input is run to its end, where no read and no write failed and memory didn't run out

@@ -1,8 +1,8 @@
 -- A world between its epochs and stops, and what a stop does with it.
-use Rattle.std.specs.Prelude.{◌≡◌, ℕ, ◌+◌, ◌<◌, ◌≤◌, ◌⊎◌, Bool, true, false, List, [], ◌∷◌, ◌++◌, drop, length, vec_len, vec_capacity}
+use Rattle.std.specs.Prelude.{◌≡◌, ℕ, ◌+◌, ◌≤◌, ◌⊎◌, Bool, true, false, List, [], ◌∷◌, ◌++◌, drop, length, vec_len, vec_capacity}
 use Rattle.sg_words.specs.Words.{put}
 use Rattle.sg_graph.specs.declared.program.Statement.{Statement}
-use Rattle.sg_graph.specs.declared.program.Statement.TheVariants.{New, CollectMinor}
+use Rattle.sg_graph.specs.declared.program.Statement.TheVariants.{New, NewV, Collect}
 use Rattle.sg_graph.specs.declared.program.Program.{Program}
 use Rattle.sg_graph.specs.declared.reports.Answer.{Answer}
 use Rattle.sg_graph.specs.declared.reports.Answer.TheVariants.{At, Fine, Full}
@@ -11,19 +11,20 @@ use Rattle.sg_graph.specs.declared.reports.Leave.{Leave}
 use Rattle.sg_graph.specs.declared.reports.Leave.TheVariants.{Ended, Wants}
 use Rattle.sg_graph.specs.declared.reports.EpochReport.{EpochReport}
 use Rattle.sg_graph.specs.declared.reports.StopReport.{StopReport}
-use Rattle.sg_graph.specs.Scripts.{script_of, fields_of}
+use Rattle.sg_graph.specs.Scripts.{script_of, fields_of, words_for}
 use Rattle.sg_graph.specs.Graph.{Graph}
 use Rattle.sg_graph.specs.Book.{Book, words_of_class, IsApart}
 use Rattle.sg_graph.specs.Epoch.{IsEpoch}
+use Rattle.sg_graph.specs.Pause.{IsPlain}
 use Rattle.sg_graph.specs.Stop.{IsStop, requests_in}
 use Rattle.sg_graph.specs.Run.{Phase, Epoch, Goes, IsWholeRun}
 use Rattle.sg_space.specs.Space.{Contents, words_of, IsContents}
 use Rattle.sg_space.specs.Heap.{HoldsHeap}
-use Rattle.sg_run.specs.declared.mutator.Mutator.{Mutator}
+use Rattle.sg_actor.specs.declared.mutator.Mutator.{Mutator}
 use Rattle.sg_run.specs.declared.world.World.{World}
-use Rattle.sg_run.specs.Rules.{fresh, within, Left, Went}
-use Rattle.sg_run.specs.Rest.{IsReady}
-use Rattle.sg_run.specs.Views.{layout_of, actor_of, KeepsSpace, HasClass, IsPlaced, HasNowhere, IsRequestOf}
+use Rattle.sg_order.specs.Rules.{fresh, within, Left, Went}
+use Rattle.sg_order.specs.Rest.{IsReady}
+use Rattle.sg_actor.specs.Views.{layout_of, actor_of, KeepsSpace, CanMake, IsPlaced, HasNowhere, IsRequestOf}
 
 -- the mutator's registers and buffer are those of the graph's mutator 0, which has this script before it; all other mutators
 -- of the graph have none
@@ -33,24 +34,28 @@ pub record AreReady (p : Program) (g : Graph) (b : Book) (m : Mutator) (script :
 
 -- what a stop asks of a statement
 abbrev pub CanServe : Program → Statement → Type 0
-CanServe p (New r class) = (r < 16) × HasClass p class
-CanServe p CollectMinor = Unit {0}
+CanServe p (New r class) = CanMake p (New r class)
+CanServe p (NewV r class count) = CanMake p (NewV r class count)
+CanServe p (Collect false) = Unit {0}
 CanServe p s = ⊥
 
 -- register r is this word now, and nothing else of the mutator has changed
 abbrev pub HasSet : Mutator → ℕ → ℕ → Mutator → Type 0
-HasSet m r word o = ((script : List Statement) → actor_of o script ≡ record (actor_of m script) { reg = put (actor_of m script).reg r word }) × (o.answers ≡ m.answers)
+HasSet m r word o = ((script : List Statement) → actor_of o script ≡ record (actor_of m script) { reg = put (actor_of m script).reg r word }) × (o.answers ≡ m.answers) × (o.stack ≡ m.stack)
 
 -- the statement's answer at a stop, and what becomes of the space and the mutator
 abbrev pub IsServing : Program → Contents → Mutator → Statement → Answer → Contents → Mutator → Type 0
 IsServing p s m (New r class) (At a) t o = IsPlaced s class (fields_of p class) t a × HasSet m r a o
 IsServing p s m (New r class) Full t o = HasNowhere s (words_of_class p class) t × HasSet m r 0 o
-IsServing p s m CollectMinor Fine t o = (t ≡ s) × (o ≡ m)
+IsServing p s m (NewV r class count) (At a) t o = IsPlaced s class count t a × HasSet m r a o
+IsServing p s m (NewV r class count) Full t o = HasNowhere s (words_for count) t × HasSet m r 0 o
+IsServing p s m (Collect false) Fine t o = (t ≡ s) × (o ≡ m)
 IsServing p s m statement answer t o = ⊥
 
 -- the space holds h by c, and the mutator asks for a stop with this statement
 pub record CanStop (p : Program) (s : Contents) (m : Mutator) (h : Graph) (c : Book) (statement : Statement) (rest : List Statement) : Type 0 where
   pub held : HoldsHeap p s h c
+  pub plain : IsPlain p h
   pub ready : AreReady p h c m (statement ∷ rest)
   pub apart : IsApart p h c
   pub one : length p.mutators ≡ 1
@@ -62,6 +67,7 @@ pub record HasStopped (p : Program) (number place : ℕ) (h : Graph) (c : Book) 
   pub book : Book
   pub stop : IsStop p number h c (record { by = 0; statement = place; request = request } ∷ []) report graph book
   pub held : HoldsHeap p t graph book
+  pub plain : IsPlain p graph
   pub ready : AreReady p graph book o rest
 
 -- the statements that the world hasn't done
@@ -74,14 +80,17 @@ pub record IsBetween (p : Program) (phases : List Phase) (world : World) : Type 
   pub book : Book
   pub goes : Goes p world.number phases graph book
   pub held : HoldsHeap p world.space graph book
+  pub plain : IsPlain p graph
   pub ready : AreReady p graph book world.mutator (rest_of p world)
   pub contents : IsContents world.space
   pub going : world.space.stop ≡ 0
   pub untold : vec_len world.mutator.answers ≡ 0
   pub none : world.mutator.answers.items ≡ []
   pub within_it : world.at ≤ length (script_of p 0)
+  pub at_place : world.cursor ≡ rest_of p world
   pub counted : world.number ≤ world.at
   pub room : length (script_of p 0) ≤ vec_capacity world.mutator.answers
+  pub stack_room : 64 ≤ vec_capacity world.mutator.stack
 
 -- these phases and an epoch with this report have led to the world, and a stop comes next
 pub record IsAtStop (p : Program) (phases : List Phase) (report : EpochReport) (world : World) : Type 0 where
@@ -101,8 +110,10 @@ pub record IsAtStop (p : Program) (phases : List Phase) (report : EpochReport) (
   pub contents : IsContents world.space
   pub untold : vec_len world.mutator.answers ≡ 0
   pub none : world.mutator.answers.items ≡ []
+  pub at_place : world.cursor ≡ rest_of p world
   pub counted : world.number ≤ world.at
   pub room : length (script_of p 0) ≤ vec_capacity world.mutator.answers
+  pub stack_room : 64 ≤ vec_capacity world.mutator.stack
 
 -- the epoch with this report was the last one, or a stop comes next
 abbrev pub ComesTo : Program → List Phase → EpochReport → World → Type 0
@@ -115,8 +126,10 @@ pub record HasGone (p : Program) (world after : World) : Type 0 where
   pub number : after.number ≡ world.number
   pub ahead : world.at ≤ after.at
   pub within_it : after.at ≤ length (script_of p 0)
+  pub at_place : after.cursor ≡ rest_of p after
   pub count : world.at + length after.mutator.answers.items ≡ after.at
   pub room : length (script_of p 0) ≤ vec_capacity after.mutator.answers
+  pub stack_room : 64 ≤ vec_capacity after.mutator.stack
 
 -- the mutator has left with its next statement, which asks for this
 pub record HasAsked (p : Program) (world : World) (request : Request) (after : World) : Type 0 where

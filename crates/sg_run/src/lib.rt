@@ -7,16 +7,14 @@ mod command;
 mod execution;
 mod gate;
 mod input;
-mod mutator;
-mod order;
 mod output;
-mod shared;
+mod refusal;
 mod stop;
 mod top;
 mod world;
 
 pub use gate::{Gate, OpenGate};
-pub use order::one_order;
+pub use refusal::one_cause;
 pub use top::run;
 
 #[cfg(test)]

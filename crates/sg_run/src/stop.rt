@@ -1,15 +1,15 @@
 // What a stop does: the pause, and the answer to the request.
-ghost use Rattle.std.specs.Prelude.{◌≡◌, List as Sequence, IfOk};
+ghost use Rattle.std.specs.Prelude.{◌≡◌, ◌<◌, ◌≤◌, List as Sequence, IfOk};
 ghost use Rattle.sg_graph.specs.declared.program.Statement.{Statement as AnyStatement};
 ghost use Rattle.sg_graph.specs.declared.reports.Request.{Request};
 ghost use Rattle.sg_graph.specs.Graph.{Graph};
 ghost use Rattle.sg_graph.specs.Book.{Book};
 ghost use Rattle.sg_space.specs.Space.{IsContents};
-ghost use Rattle.sg_run.specs.Views.{IsSpace, HasByteAddresses};
+ghost use Rattle.sg_actor.specs.Views.{IsSpace, HasByteAddresses};
 ghost use Rattle.sg_run.specs.Worlds.{CanServe, IsServing, CanStop, HasStopped};
+ghost use Rattle.sg_run.specs.Made.{IsMade};
 
-use crate::mutator::{Mutator, shape};
-use crate::shared::place;
+use sg_actor::{Mutator, place, shape};
 use sg_graph::{Answer, Program, Service, Statement, StopReport};
 use sg_minor::minor;
 use sg_space::Space;
@@ -34,10 +34,12 @@ pub(crate) fn stop(
     ensures contents { IfOk result (λ r. IsContents r.0) }
     ensures going { IfOk result (λ r. r.0.stop ≡ 0) }
     ensures answers { mutator.new.answers ≡ mutator.old.answers }
+    ensures stack { mutator.new.stack ≡ mutator.old.stack }
 {
+    let ambiguous = mutator.ambiguous(alloc)?;
     let mut space = space;
     space.set_stopping(false);
-    let (space, pause) = minor(alloc, space, mutator.registers())?;
+    let (space, pause) = minor(alloc, space, ambiguous.as_slice())?;
     let mut space = space;
     mutator.empty_buffer();
     let answer = serve(program, &mut space, mutator, asking);
@@ -64,35 +66,32 @@ fn serve(program: &Program, space: &mut Space, mutator: &mut Mutator, asking: St
     ensures served { IsServing program.now space.old mutator.old asking result space.new mutator.new }
     ensures going { space.new.stop ≡ space.old.stop }
     ensures answers { mutator.new.answers ≡ mutator.old.answers }
+    ensures stack { mutator.new.stack ≡ mutator.old.stack }
 {
     match asking {
-        Statement::New { r, class } => serve_new(program, space, mutator, r, class),
-        Statement::CollectMinor => Answer::Fine,
-        Statement::Put { .. } => unreachable!(),
-        Statement::Get { .. } => unreachable!(),
-        Statement::PutD { .. } => unreachable!(),
-        Statement::GetD { .. } => unreachable!(),
-        Statement::Num { .. } => unreachable!(),
-        Statement::Drop { .. } => unreachable!(),
+        Statement::New { r, class } => {
+            let fields = shape(program, class).fields;
+            make(space, mutator, r, class, fields)
+        }
+        Statement::NewV { r, class, count } => make(space, mutator, r, class, count),
+        Statement::Collect { major: false } => Answer::Fine,
+        _ => unreachable!(),
     }
 }
 
-/// Register `r` gets a new object of this class, or none where no fragment has room for it.
-fn serve_new(
-    program: &Program,
-    space: &mut Space,
-    mutator: &mut Mutator,
-    r: u8,
-    class: u16,
-) -> Answer
+/// Register `r` gets a new object of this class, with so many fields, or none where no fragment has room for it.
+fn make(space: &mut Space, mutator: &mut Mutator, r: u8, class: u16, fields: u32) -> Answer
     requires space { IsSpace space.old }
     requires bytes { HasByteAddresses space.old }
-    requires can { CanServe program.now (AnyStatement.New r class) }
-    ensures served { IsServing program.now space.old mutator.old (AnyStatement.New r class) result space.new mutator.new }
+    requires r { r < 16 }
+    requires class { class < 256 }
+    requires fields { fields ≤ 62 }
+    ensures made { IsMade space.old mutator.old r class fields result space.new mutator.new }
     ensures going { space.new.stop ≡ space.old.stop }
     ensures answers { mutator.new.answers ≡ mutator.old.answers }
+    ensures stack { mutator.new.stack ≡ mutator.old.stack }
 {
-    match place(space, class, shape(program, class).fields) {
+    match place(space, class, fields) {
         Some(at) => {
             mutator.set(r, at.get());
             Answer::At(at)

@@ -9,9 +9,18 @@ const PROGRAM: &str = "sgen 1\nclass Three plain 3\nmutator\nnew r0 Three\nend\n
 
 const TRACE: &str = "epoch 0\n0 0 4096\n0 done\nend\n";
 
+// A list of two objects, of which the second one moves at a stop.
+const STOPPING: &str =
+    "sgen 1\nnursery 256\nblocks 2\npages 0\nclass Node map r.\nclass Box plain 2\nclass Tab run 4 0 4\nclass Big run 62 0 1\nclass Eph pair\nmutator\nnew r0 Node\nnew r1 Node\nput r0 0 r1\ndrop r1\ncollect minor\nget r1 r0 0\nend\n";
+
+const STOPPED: &str =
+    "epoch 0\n0 0 4096\n0 1 4128\n0 2 ok\n0 3 ok\n0 collect minor\nstop 0\nminor\npin 4096\nmove 4128 6144\nspares 0\nfrag 4128 252\nserve 0 4 ok\nepoch 1\n0 5 6144\n0 done\nend\n";
+
 const USAGE: &str = "usage: sgenlab run\n";
 
-const REFUSAL: &str = "refused input\n";
+const EMPTY: &str = "refused syntax 1\n";
+
+const LONG: &str = "refused long\n";
 
 fn words_of(alloc: Global, words: &[&str]) -> Result<Vec<String>, AllocError> {
     let mut all = Vec::new(alloc);
@@ -30,11 +39,11 @@ fn each_ending(rt: HostRuntime) -> Result<(), Fail> {
         (&["run"], PROGRAM, &[0], &[], 3, ""),
         (&["run"], PROGRAM, &[1], &[], 3, ""),
         (&["run"], PROGRAM, &[], &[0], 4, ""),
-        (&["run"], "", &[], &[], 2, REFUSAL),
-        (&["run"], "", &[1], &[1], 2, REFUSAL),
+        (&["run"], "", &[], &[], 2, EMPTY),
+        (&["run"], "", &[1], &[1], 2, EMPTY),
         (&["run"], "", &[0], &[], 3, ""),
         (&["run"], "", &[], &[0], 4, ""),
-        (&["run"], "sgen 1\nend\n", &[], &[], 2, REFUSAL),
+        (&["run"], "sgen 1\nend\n", &[], &[], 2, "refused syntax 2\n"),
         (&[], PROGRAM, &[0], &[], 1, USAGE),
         (&["run", "now"], PROGRAM, &[0], &[1], 1, USAGE),
         (&["Run"], PROGRAM, &[], &[], 1, USAGE),
@@ -59,11 +68,67 @@ fn each_ending(rt: HostRuntime) -> Result<(), Fail> {
 }
 
 #[test]
+fn each_cause(rt: HostRuntime) -> Result<(), Fail> {
+    let rows: [(&str, &str); 12] = [
+        ("sgen 1\nmutator\nnum r0 01\nend\n", "refused syntax 3\n"),
+        ("sgen 1\nmutator\nnew r0 A\nend", "refused class 3\n"),
+        (
+            "sgen 1\nclass A words\nmutator\nnew r0 A\nend\n",
+            "refused class 4\n",
+        ),
+        (
+            "sgen 1\nclass A plain 1\nclass A plain 1\nmutator\nend\n",
+            "refused class 3\n",
+        ),
+        ("sgen 1\n", "refused limit 2 mutators\n"),
+        (
+            "sgen 1\nmutator\ngput 64 r0\nend\n",
+            "refused limit 3 global\n",
+        ),
+        (
+            "sgen 1\nmutator\nrepeat 1025\nrepeat 1024\nnum r0 0\nend\nend\nend\n",
+            "refused limit 8 statements\n",
+        ),
+        (
+            "sgen 1\nmutator\nrepeat 1025\nfinal r0\nend\nend\n",
+            "refused limit 6 finals\n",
+        ),
+        ("sgen 1\nmutator\ngput 63 r0\nend\n", "refused later 3\n"),
+        ("sgen 1\nmutator\nend\nmutator\nend\n", "refused later 4\n"),
+        (
+            "sgen 1\nmutator\nnum r0 1\nsame r0 r1\nend\n",
+            "refused kind 0 1\n",
+        ),
+        (
+            "sgen 1\nmutator\nrepeat 2\nnum r0 1\ndrop r0\npush r0\nend\nend\n",
+            "refused kind 0 2\n",
+        ),
+    ];
+    let words = words_of(rt.alloc(), &["run"])?;
+    for (input, line) in rows {
+        let mut source = MemorySource::new(rt.alloc(), input.as_bytes(), &[])?;
+        let mut sink = MemorySink::new(rt.alloc(), 100, &[])?;
+        let answer = run(
+            &rt,
+            rt.alloc(),
+            words.as_slice(),
+            &mut source,
+            &mut sink,
+            &OpenGate,
+        );
+        assert_eq!(rt; answer, 2, "of {input}");
+        assert_eq!(rt; sink.taken(), line.as_bytes(), "of {input}");
+    }
+    Ok(())
+}
+
+#[test]
 fn each_room(rt: HostRuntime) -> Result<(), Fail> {
-    let rows: [(&[&str], &str, u8, &str); 3] = [
+    let rows: [(&[&str], &str, u8, &str); 4] = [
         (&["run"], PROGRAM, 0, TRACE),
+        (&["run"], STOPPING, 0, STOPPED),
         (&["run", "now"], PROGRAM, 1, USAGE),
-        (&["run"], "", 2, REFUSAL),
+        (&["run"], "", 2, EMPTY),
     ];
     for (words, input, status, line) in rows {
         let words = words_of(rt.alloc(), words)?;
@@ -91,9 +156,48 @@ fn each_room(rt: HostRuntime) -> Result<(), Fail> {
 }
 
 #[test]
+fn each_piece(rt: HostRuntime) -> Result<(), Fail> {
+    // failing reads, failing writes, the status, and what is taken: the pieces before the write that fails
+    let rows: [(&[u32], &[u32], u8, &str); 6] = [
+        (&[], &[0], 4, ""),
+        (
+            &[],
+            &[1],
+            4,
+            "epoch 0\n0 0 4096\n0 1 4128\n0 2 ok\n0 3 ok\n0 collect minor\n",
+        ),
+        (
+            &[],
+            &[2],
+            4,
+            "epoch 0\n0 0 4096\n0 1 4128\n0 2 ok\n0 3 ok\n0 collect minor\nstop 0\nminor\npin 4096\nmove 4128 6144\nspares 0\nfrag 4128 252\nserve 0 4 ok\n",
+        ),
+        (&[], &[3], 0, STOPPED),
+        (&[0], &[], 3, ""),
+        (&[1], &[], 3, ""),
+    ];
+    let words = words_of(rt.alloc(), &["run"])?;
+    for (reads, writes, status, taken) in rows {
+        let mut source = MemorySource::new(rt.alloc(), STOPPING.as_bytes(), reads)?;
+        let mut sink = MemorySink::new(rt.alloc(), 1000, writes)?;
+        let answer = run(
+            &rt,
+            rt.alloc(),
+            words.as_slice(),
+            &mut source,
+            &mut sink,
+            &OpenGate,
+        );
+        assert_eq!(rt; answer, status, "with {taken}");
+        assert_eq!(rt; sink.taken(), taken.as_bytes(), "with {taken}");
+    }
+    Ok(())
+}
+
+#[test]
 fn the_longest_input(rt: HostRuntime) -> Result<(), Fail> {
     let words = words_of(rt.alloc(), &["run"])?;
-    for (length, status, taken) in [(1_048_576, 0, TRACE), (1_048_577, 2, REFUSAL)] {
+    for (length, status, taken) in [(1_048_576, 0, TRACE), (1_048_577, 2, LONG)] {
         let mut input = Vec::from_slice(rt.alloc(), PROGRAM.as_bytes())?;
         input.resize(length, b'\n')?;
         let mut source = MemorySource::new(rt.alloc(), input.as_slice(), &[])?;
@@ -114,11 +218,21 @@ fn the_longest_input(rt: HostRuntime) -> Result<(), Fail> {
 
 // What the worked programs begin with.
 const HEAD: &str =
-    "sgen 1\nnursery 256\nblocks 1\nclass Node map r.\nclass Box plain 2\nclass Odd plain 29\nclass Even plain 30\nclass Big plain 62\nclass Wide map rr..........................................................\nmutator\n";
+    "sgen 1\nnursery 256\nblocks 1\nclass Node map r.\nclass Box plain 2\nclass Row refs\nclass Odd plain 29\nclass Even plain 30\nclass Big plain 62\nclass Wide map rr..........................................................\nmutator\n";
 
 #[test]
 fn worked_programs(rt: HostRuntime) -> Result<(), Fail> {
-    let rows: [(&str, &str); 9] = [
+    let rows: [(&str, &str); 11] = [
+        // An address inside an object, at its last byte, pins it, and leads back to it.
+        (
+            "new r0 Box\nhide r1 r0 31\nhide r2 r0 32\nunhide r3 r2\ndrop r0\ncollect minor\nunhide r4 r1\nend\n",
+            "epoch 0\n0 0 4096\n0 1 ok\n0 2 field\n0 3 nil\n0 4 ok\n0 collect minor\nstop 0\nminor\npin 4096\nspares 0\nfrag 4128 252\nserve 0 5 ok\nepoch 1\n0 6 4096\n0 done\nend\n",
+        ),
+        // A vector, what a repeat does, and what lies on a stack.
+        (
+            "newv r0 Row 2\nrepeat 2\nnew r1 Box\nput r0 0 r1\nend\npush r1\ndrop r1\ncollect minor\npop r1\nget r2 r0 0\nsame r1 r2\nend\n",
+            "epoch 0\n0 0 4096\n0 1 4128\n0 2 ok\n0 3 4160\n0 4 ok\n0 5 ok\n0 6 ok\n0 collect minor\nstop 0\nminor\npin 4096\npin 4160\nspares 0\nwaste 4128 4\nfrag 4192 244\nserve 0 7 ok\nepoch 1\n0 8 ok\n0 9 4160\n0 10 yes\n0 done\nend\n",
+        ),
         // An object that only another one refers to moves, and what the register holds stays.
         (
             "new r0 Node\nnew r1 Node\nput r0 0 r1\ndrop r1\ncollect minor\nget r1 r0 0\nend\n",

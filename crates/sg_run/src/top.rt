@@ -1,22 +1,25 @@
 // The top call: the words, the input, the run and its text.
-ghost use Rattle.std.specs.Prelude.{◌≡◌, ◌≤◌, List, map, string_bytes, IfOk, IfErr, IfSome, IfNone};
+ghost use Rattle.std.specs.Prelude.{◌≡◌, ◌≢◌, ◌≤◌, List, map, string_bytes, IsFalse, IfOk, IfErr, IfSome};
 ghost use Rattle.std.specs.Io.KnownBytes.{IsAtEnd};
-ghost use Rattle.sg_graph.specs.Run.{Phase, IsWholeRun};
-ghost use Rattle.sg_graph.specs.Trace.{text};
+ghost use Rattle.sg_parse.specs.declared.refusal.Refusal.{Refusal as AnyRefusal};
 ghost use Rattle.sg_parse.specs.Accepted.{IsAccepted, IsAcceptedAs, IsAcceptedProgram};
 ghost use Rattle.sg_run.specs.Ends.{ends_of};
 ghost use Rattle.sg_run.specs.Input.{StopsReading};
+ghost use Rattle.sg_run.specs.Causes.{IsCause, refusal_line as line_of};
+ghost use Rattle.sg_run.specs.Refusing.{Refuses};
 ghost use Rattle.sg_run.specs.Status.{status_of};
-ghost use Rattle.sg_run.specs.Top.{Headline, Usage, Refusal, ReadFault, WriteFault, Front, Complete, Promises};
+ghost use Rattle.sg_run.specs.Top.{Headline, Usage, Refusal as RefusalClause, ReadFault, WriteFault, Front, Complete, Promises};
 
 use crate::command::is_run;
-use crate::execution::execute;
+use crate::execution::{RunError, execute};
 use crate::gate::Gate;
 use crate::input::{ReadError, read_input};
 use crate::output::write_piece;
+use crate::refusal::{Cause, refusal_line};
 use sg_graph::Program;
 use sg_io::{Failed, Sink, Source};
-use sg_parse::parse;
+use sg_kinds::check;
+use sg_parse::{Refusal, parse};
 use std::alloc::{AllocError, Global};
 use std::thread::Threads;
 
@@ -47,11 +50,14 @@ impl Ending {
 }
 
 /// Does what the words after the program's name say: `run` reads a program from the source to its end, runs it, and
-/// writes the trace to the sink. The answer is the exit status:
+/// writes the trace to the sink as the run goes on: each epoch is a piece, and each stop. The answer is the exit status:
 ///
 /// - 0: done, the whole trace was written.
 /// - 1: the words are no command; the line `usage: sgenlab run` was written and nothing was read.
-/// - 2: the input is longer than 1,048,576 bytes or isn't accepted; the line `refused input` was written.
+/// - 2: the input isn't accepted; one line was written that tells why: `refused long` where it is longer than 1,048,576 bytes,
+///   else `refused syntax LINE` at the first line that the grammar refuses, else `refused class LINE` at the first one that
+///   misnames a class, else `refused limit LINE WHICH` at the first one that breaks a limit, else `refused later LINE` at the
+///   first one that isn't run yet, else `refused kind MUTATOR STATEMENT` at the first misuse of a kind.
 /// - 3: a read failed, and nothing was written.
 /// - 4: a write failed, and a front of what would have been written was taken.
 /// - 5: memory ran out. This may come in place of any other status, and a front of what would have been written was
@@ -71,7 +77,7 @@ pub fn run<R: Threads + Sync, S: Source, O: Sink, G: Gate + Sync>(
         (ends_of S.left S.faults O.taken O.faults source.new sink.new) result }
     ensures usage { Usage (map string_bytes words.now) (ends_of S.left S.faults O.taken O.faults source.old sink.old)
         (ends_of S.left S.faults O.taken O.faults source.new sink.new) result }
-    ensures refusal { Refusal (map string_bytes words.now) (ends_of S.left S.faults O.taken O.faults source.old sink.old)
+    ensures refusal { RefusalClause (map string_bytes words.now) (ends_of S.left S.faults O.taken O.faults source.old sink.old)
         (ends_of S.left S.faults O.taken O.faults source.new sink.new) result }
     ensures read_fault { ReadFault (map string_bytes words.now) (ends_of S.left S.faults O.taken O.faults source.old sink.old)
         (ends_of S.left S.faults O.taken O.faults source.new sink.new) result }
@@ -104,47 +110,83 @@ fn conclude<S: Source, O: Sink>(
         };
     }
     let program = match read_program(alloc, source) {
-        Ok(Some(program)) => program,
-        Ok(None) => {
-            return match write_piece(sink, b"refused input\n") {
-                Ok(()) => Ending::NotAccepted,
-                Err(Failed) => Ending::SinkFailed,
-            };
-        }
+        Ok(Ok(program)) => program,
+        Ok(Err(cause)) => return refuse(alloc, sink, cause),
         Err(ReadError::Source) => return Ending::SourceFailed,
         Err(ReadError::Memory) => return Ending::NoMemory,
     };
-    let trace = match trace_of(alloc, &program) {
-        Ok(trace) => trace,
+    match execute(alloc, &program, sink) {
+        Ok(()) => Ending::Done,
+        Err(RunError::Sink) => Ending::SinkFailed,
+        Err(RunError::Memory) => Ending::NoMemory,
+    }
+}
+
+// Writes the line that tells the cause.
+fn refuse<O: Sink>(alloc: Global, sink: &mut O, cause: Cause) -> Ending
+    ensures { Refuses (O.taken sink.old) (O.taken sink.new) (O.faults sink.old) (O.faults sink.new) (line_of cause) result }
+{
+    let line = match refusal_line(alloc, cause) {
+        Ok(line) => line,
         Err(AllocError) => return Ending::NoMemory,
     };
-    match write_piece(sink, trace.as_slice()) {
-        Ok(()) => Ending::Done,
+    match write_piece(sink, line.as_slice()) {
+        Ok(()) => Ending::NotAccepted,
         Err(Failed) => Ending::SinkFailed,
     }
 }
 
-// The program as which the source's bytes are accepted; none where they aren't.
-fn read_program<S: Source>(alloc: Global, source: &mut S) -> Result<Option<Program>, ReadError>
-    ensures found { IfOk result (λ read. IfSome read (λ program. IfSome (S.left source.old) (λ input. IsAcceptedAs input program))) }
-    ensures none { IfOk result (λ read. IfNone read (IfSome (S.left source.old) (λ input. ¬ IsAccepted input))) }
-    ensures accepted { IfOk result (λ read. IfSome read IsAcceptedProgram) }
-    ensures at_end { IfOk result (λ read. IfSome read (λ _. IsAtEnd (S.left source.new))) }
-    ensures cause { IfErr result (λ error. StopsReading error (S.faults source.old) (S.faults source.new)) }
+// The program as which the source's bytes are accepted, or why they aren't.
+fn read_program<S: Source>(
+    alloc: Global,
+    source: &mut S,
+) -> Result<Result<Program, Cause>, ReadError>
+    ensures found { IfOk result (λ read. IfOk read (λ program. IfSome (S.left source.old) (λ input. IsAcceptedAs input program))) }
+    ensures cause { IfOk result (λ read. IfErr read (λ cause. IfSome (S.left source.old) (λ input. IsCause input cause))) }
+    ensures none { IfOk result (λ read. IfErr read (λ _. IfSome (S.left source.old) (λ input. ¬ IsAccepted input))) }
+    ensures accepted { IfOk result (λ read. IfOk read IsAcceptedProgram) }
+    ensures at_end { IfOk result (λ read. IfOk read (λ _. IsAtEnd (S.left source.new))) }
+    ensures stops { IfErr result (λ error. StopsReading error (S.faults source.old) (S.faults source.new)) }
 {
     let bytes = read_input(alloc, source)?;
-    match parse(alloc, bytes.as_slice()) {
+    match accept(alloc, bytes.as_slice()) {
         Ok(read) => Ok(read),
         Err(AllocError) => Err(ReadError::Memory),
     }
 }
 
-// The text of a whole run of an accepted program.
-fn trace_of(alloc: Global, program: &Program) -> Result<Vec<u8>, AllocError>
-    requires { IsAcceptedProgram program.now }
-    ensures { IfOk result (λ trace. (phases : List Phase) × IsWholeRun program.now phases × (trace.items ≡ text phases)) }
+// The program as which the bytes are accepted, or why they aren't.
+fn accept(alloc: Global, bytes: &[u8]) -> Result<Result<Program, Cause>, AllocError>
+    ensures found { IfOk result (λ read. IfOk read (IsAcceptedAs bytes.now)) }
+    ensures cause { IfOk result (λ read. IfErr read (IsCause bytes.now)) }
+    ensures none { IfOk result (λ read. IfErr read (λ _. ¬ IsAccepted bytes.now)) }
+    ensures accepted { IfOk result (λ read. IfOk read IsAcceptedProgram) }
 {
-    let mut trace = Vec::new(alloc);
-    execute(alloc, program, &mut trace)?;
-    Ok(trace)
+    let program = match parse(alloc, bytes) {
+        Ok(program) => program,
+        Err(refusal) => {
+            if is_memory(refusal) {
+                return Err(AllocError);
+            }
+            return Ok(Err(Cause::Refused(refusal)));
+        }
+    };
+    match check(&program) {
+        Ok(()) => Ok(Ok(program)),
+        Err(fault) => Ok(Err(Cause::Misused(fault))),
+    }
+}
+
+// Whether memory was wanted.
+fn is_memory(refusal: Refusal) -> bool
+    ensures { IsFalse result → refusal ≢ AnyRefusal.Memory }
+{
+    match refusal {
+        Refusal::Memory => true,
+        Refusal::TooLong => false,
+        Refusal::Syntax { .. } => false,
+        Refusal::Class { .. } => false,
+        Refusal::Limit { .. } => false,
+        Refusal::Later { .. } => false,
+    }
 }

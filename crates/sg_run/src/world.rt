@@ -2,35 +2,36 @@
 ghost use Rattle.std.specs.Prelude.{◌≡◌, ◌+◌, ◌≤◌, ◌++◌, List as Sequence, [], ◌∷◌, IfOk, map};
 ghost use Rattle.sg_graph.specs.declared.program.Class.{Class as AnyClass};
 ghost use Rattle.sg_graph.specs.declared.reports.EpochReport.{EpochReport as AnyEpoch};
-ghost use Rattle.sg_graph.specs.declared.program.Item.TheVariants.{One};
-ghost use Rattle.sg_graph.specs.Scripts.{script_of, written_out};
 ghost use Rattle.sg_graph.specs.Run.{Phase, Epoch, Stop};
 ghost use Rattle.sg_parse.specs.Accepted.{IsAcceptedProgram};
 ghost use Rattle.sg_run.specs.Worlds.{IsBetween, IsAtStop, ComesTo, HasGone, Leaves, is_end};
 
-use crate::mutator::Mutator;
 use crate::stop::stop;
+use sg_actor::Mutator;
 use sg_desc::Shape;
-use sg_graph::{Class, Config, EpochReport, Item, Leave, Part, Program, Statement, StopReport};
+use sg_graph::{Class, Config, EpochReport, Leave, Part, Program, StopReport, total};
+use sg_script::Cursor;
 use sg_space::{Layout, Space};
 use sg_words::List;
 use std::alloc::{AllocError, Global};
 
 /// A program's space and its one mutator.
 #[derive(Drop)]
-pub(crate) struct World {
+pub(crate) struct World<'a> {
     pub(crate) space: Space,
     pub(crate) mutator: Mutator,
+    /// Where in its script the mutator stands.
+    pub(crate) cursor: Cursor<'a>,
     /// How many statements were answered.
     pub(crate) at: usize,
     /// The number of the next epoch, or of the one before the next stop.
     pub(crate) number: u32,
 }
 
-impl World {
+impl<'a> World<'a> {
     /// A world before the program's first epoch. Takes all the memory that the epochs need, and time linear in the words of
-    /// the space and the statements.
-    pub(crate) fn start(alloc: Global, program: &Program) -> Result<World, AllocError>
+    /// the space and in the statements, repeats counted.
+    pub(crate) fn start(alloc: Global, program: &'a Program) -> Result<World<'a>, AllocError>
         requires { IsAcceptedProgram program.now }
         ensures { IfOk result (IsBetween program.now []) }
     {
@@ -38,7 +39,8 @@ impl World {
         let shapes = shapes_of(alloc, program.classes.as_slice())?;
         Ok(World {
             space: Space::new(alloc, layout_of(&program.config), &shapes)?,
-            mutator: Mutator::new(alloc, script.items.as_slice().len())?,
+            mutator: Mutator::new(alloc, total(program) as usize)?,
+            cursor: Cursor::new(alloc, script.items.as_slice())?,
             at: 0,
             number: 0,
         })
@@ -56,9 +58,8 @@ impl World {
         ensures comes { IfOk result (λ report. (phases : Sequence Phase) → IsBetween program.now phases self.old → ComesTo program.now phases report self.new) }
         ensures ahead { IfOk result (λ _. self.old.at ≤ self.new.at) }
     {
-        let script = &program.mutators.as_slice()[0];
         let first = self.at as u32;
-        let leave = self.go(program, script.items.as_slice());
+        let leave = self.go(program);
         let answers = self.mutator.take_answers(alloc)?;
         let mut parts = Vec::new(alloc);
         parts.push(Part {
@@ -75,18 +76,17 @@ impl World {
     }
 
     /// Does statements until one asks for a stop or none is left.
-    fn go(&mut self, program: &Program, items: &[Item]) -> Leave
+    fn go(&mut self, program: &Program) -> Leave
         requires accepted { IsAcceptedProgram program.now }
-        requires items { written_out items.now ≡ script_of program.now 0 }
         requires between { (phases : Sequence Phase) × IsBetween program.now phases self.old }
         ensures gone { HasGone program.now self.old self.new }
         ensures leaves { Leaves program.now self.old result self.new }
     {
-        while self.at < items.len() {
-            let asking = statement_of(&items[self.at]);
+        while let Some(asking) = self.cursor.peek() {
             if let Some(request) = self.mutator.step(program, &mut self.space, asking) {
                 return Leave::Wants(request);
             }
+            self.cursor.advance();
             self.at += 1;
         }
         Leave::Ended
@@ -97,15 +97,17 @@ impl World {
         self,
         alloc: Global,
         program: &Program,
-    ) -> Result<(World, StopReport), AllocError>
+    ) -> Result<(World<'a>, StopReport), AllocError>
         requires accepted { IsAcceptedProgram program.now }
         requires at_stop { (phases : Sequence Phase) × (report : AnyEpoch) × IsAtStop program.now phases report self }
-        ensures between { IfOk result (λ r. (phases : Sequence Phase) (report : AnyEpoch) → IsAtStop program.now phases report self → IsBetween program.now (phases ++ Epoch report ∷ Stop r.1 ∷ []) r.0) }
-        ensures ahead { IfOk result (λ r. r.0.at ≡ self.at + 1) }
+        ensures between { IfOk result (λ r. (phases : Sequence Phase) (report : AnyEpoch) → IsAtStop program.now phases report self.entry → IsBetween program.now (phases ++ Epoch report ∷ Stop r.1 ∷ []) r.0) }
+        ensures ahead { IfOk result (λ r. r.0.at ≡ self.entry.at + 1) }
     {
-        let script = &program.mutators.as_slice()[0];
-        let asking = statement_of(&script.items.as_slice()[self.at]);
+        let Some(asking) = self.cursor.peek() else {
+            unreachable!();
+        };
         let mut mutator = self.mutator;
+        let mut cursor = self.cursor;
         let (space, report) = stop(
             alloc,
             program,
@@ -115,9 +117,11 @@ impl World {
             self.at as u32,
             asking,
         )?;
+        cursor.advance();
         let world = World {
             space,
             mutator,
+            cursor,
             at: self.at + 1,
             number: self.number + 1,
         };
@@ -155,13 +159,4 @@ fn shapes_of(alloc: Global, classes: &[Class]) -> Result<Vec<Shape>, AllocError>
         shapes.push(class.shape)?;
     }
     Ok(shapes)
-}
-
-/// The statement of an item.
-fn statement_of(item: &Item) -> Statement
-    ensures { item.now ≡ One result }
-{
-    match item {
-        Item::One(statement) => *statement,
-    }
 }

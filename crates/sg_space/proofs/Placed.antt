@@ -142,7 +142,7 @@ module _ (s : Contents) (owner : ℕ → Option ℕ) (sound : IsSoundBy s owner)
         shape = shape;
         shape_is = shape_is;
         tag = tag_is;
-        size = fields_is;
+        size = λ _. fields_is;
         small = omega (arith, fields_is);
         inside = inl (room.above, omega (arith, fields_is));
       }
@@ -156,7 +156,7 @@ module _ (s : Contents) (owner : ℕ → Option ℕ) (sound : IsSoundBy s owner)
         shape = o.shape;
         shape_is = o.shape_is;
         tag = same_tag g e ∙ o.tag;
-        size = size ∙ o.size;
+        size = λ v. size ∙ o.size v;
         small = subst (λ n. n + 2 ≤ 64) (sym size) o.small;
         inside = subst (λ n. ((nursery_base ≤ g) × (g + (n + 2) ≤ old_base s.layout)) ⊎ ((old_base s.layout ≤ g) × (g + (n + 2) ≤ large_base s.layout))) (sym size) o.inside;
       }

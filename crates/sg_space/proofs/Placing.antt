@@ -8,8 +8,8 @@ use Rattle.sg_words.proofs.Puts.{put-at, put-other, within_range, range-in, rang
 use Rattle.sg_graph.specs.declared.program.Statement.{Statement}
 use Rattle.sg_graph.specs.declared.program.Program.{Program}
 use Rattle.sg_desc.specs.Shapes.{holds_reference}
-use Rattle.sg_graph.specs.Scripts.{kind_of, fields_of, words_for}
-use Rattle.sg_graph.specs.Graph.{Entry, Ref, Int, Graph, empty_field, grown, goes_on}
+use Rattle.sg_graph.specs.Scripts.{kind_of, IsSizeOf, words_for}
+use Rattle.sg_graph.specs.Graph.{Entry, Ref, Int, Inner, Graph, empty_field, grown, goes_on}
 use Rattle.sg_graph.specs.Book.{Book, Young, placed, nursery_base, nursery_end, word_of}
 use Rattle.sg_space.specs.Sections.{globals_base}
 use Rattle.sg_space.specs.Space.{Contents}
@@ -37,19 +37,16 @@ empty_cond P true r i = r
 empty_cond P false r i = i
 
 module _ (p : Program) (s : Contents) (g : Graph) (b : Book) (owner : ℕ → Owner) (sp : IsSpaceOf p s b) (heap : IsHeap p (word s) g b owner)
-    (k class f j : ℕ) (rest : List Statement) (register : ℕ → Entry) (t : Contents) (known : class < length p.classes) (there : f < b.fragments)
-    (fits : b.next f + words_for (fields_of p class) ≤ b.limit f) (pl : HasPlaced s f (b.next f) (words_for (fields_of p class)) class (fields_of p class) t) where
+    (k class n f j : ℕ) (rest : List Statement) (register : ℕ → Entry) (t : Contents) (known : class < length p.classes) (sized : IsSizeOf p class n) (there : f < b.fragments)
+    (fits : b.next f + words_for n ≤ b.limit f) (pl : HasPlaced s f (b.next f) (words_for n) class n t) where
   abbrev x : ℕ
   x = b.next f
-
-  abbrev n : ℕ
-  n = fields_of p class
 
   abbrev new : ℕ
   new = suc g.count
 
   abbrev h : Graph
-  h = goes_on (grown p g k class) j rest register
+  h = goes_on (grown p g k class n) j rest register
 
   abbrev c : Book
   c = record (placed b new x) { next = put b.next f (x + words_for n) }
@@ -130,10 +127,12 @@ module _ (p : Program) (s : Contents) (g : Graph) (b : Book) (owner : ℕ → Ow
   entry_old : (e : Entry) → IsKnownEntry (word s) g b e → IsKnownEntry (word t) h c e
   entry_old (Ref m) q = known_old m q
   entry_old (Int v) q = tt
+  entry_old (Inner m offset) q = known_old m q
 
   word_old : (e : Entry) → IsKnownEntry (word s) g b e → word_of c.address e ≡ word_of b.address e
   word_old (Ref m) q = ap byte_at (at_old m q.0)
   word_old (Int v) q = refl
+  word_old (Inner m offset) q = ap (λ a. byte_at a + offset) (at_old m q.0)
 
   nil_stands : b.stands 0 ≡ true
   nil_stands = heap.laid.nothing.stands_nil
@@ -160,12 +159,18 @@ module _ (p : Program) (s : Contents) (g : Graph) (b : Book) (owner : ℕ → Ow
     no_size = size_old 0 nil_stands ∙ heap.laid.nothing.no_size;
   }
 
+  sized_as : (m e u : ℕ) → h.class m ≡ e → h.size m ≡ u → IsSizeOf p e u → IsSizeOf p (h.class m) (h.size m)
+  sized_as m e u a d i = subst (λ z. IsSizeOf p z (h.size m)) (sym a) (subst (λ z. IsSizeOf p e z) (sym d) i)
+
+  sized_at : (m : ℕ) → m ≡ new → IsSizeOf p (h.class m) (h.size m)
+  sized_at m e = sized_as m class n (class_new m e) (size_new m e) sized
+
   objects' : Objects p h.count h.class h.size c.stands c.address c.section c.fill owner'
   objects' = record {
     given = λ m q. elim (old_or_new m q) [ inl e ↦ omega arith | inr o ↦ (let l = heap.laid.objects.given m o in omega arith) ];
     shaped = λ m l q. elim (old_or_new m q) [
-      | inl e ↦ (subst (λ z. z < length p.classes) (sym (class_new m e)) known, size_new m e ∙ sym (ap (fields_of p) (class_new m e)))
-      | inr o ↦ let i = heap.laid.objects.shaped m l o in (subst (λ z. z < length p.classes) (sym (class_old m o)) i.0, size_old m o ∙ i.1 ∙ sym (ap (fields_of p) (class_old m o)))
+      | inl e ↦ (subst (λ z. z < length p.classes) (sym (class_new m e)) known, sized_at m e)
+      | inr o ↦ let i = heap.laid.objects.shaped m l o in (subst (λ z. z < length p.classes) (sym (class_old m o)) i.0, sized_as m (g.class m) (g.size m) (class_old m o) (size_old m o) i.1)
     ];
     owns = λ m y q i d. elim (old_or_new m q) [
       | inl e ↦ let u = at_new m e in let v = size_new m e in range-in owner x (x + words_for n) (Of new) y (omega arith) (omega arith) ∙ ap Of (sym e)

@@ -5,8 +5,8 @@ use Rattle.sg_words.specs.Tags.{plain_word}
 use Rattle.sg_graph.specs.declared.program.Class.{Class}
 use Rattle.sg_graph.specs.declared.program.Program.{Program}
 use Rattle.sg_desc.specs.Shapes.{holds_reference}
-use Rattle.sg_graph.specs.Scripts.{kind_of, fields_of, words_for}
-use Rattle.sg_graph.specs.Graph.{Entry, Ref, Int, Graph}
+use Rattle.sg_graph.specs.Scripts.{kind_of, IsSizeOf, words_for}
+use Rattle.sg_graph.specs.Graph.{Entry, Ref, Int, Inner, Graph}
 use Rattle.sg_graph.specs.Book.{Book, Section, Young, Old, nursery_base, nursery_end, old_end, word_of}
 use Rattle.sg_space.specs.declared.layout.Layout.{Layout}
 use Rattle.sg_space.specs.Sections.{globals_base, ready_base, words_end}
@@ -31,6 +31,7 @@ IsKnown w g b n = (b.stands n ≡ true) × ((n ≡ 0) ⊎ IsHeaded w g b n)
 abbrev pub IsKnownEntry : (ℕ → ℕ) → Graph → Book → Entry → Type 0
 IsKnownEntry w g b (Ref n) = IsKnown w g b n
 IsKnownEntry w g b (Int v) = Unit {0}
+IsKnownEntry w g b (Inner n offset) = IsKnown w g b n
 
 -- a field of this sort holds a reference or a number
 abbrev pub IsOfSort : Bool → Entry → Type 0
@@ -38,6 +39,7 @@ IsOfSort true (Ref n) = Unit {0}
 IsOfSort true (Int v) = ⊥
 IsOfSort false (Ref n) = ⊥
 IsOfSort false (Int v) = Unit {0}
+IsOfSort sort (Inner n offset) = ⊥
 
 -- nothing, at address 0 and without a field, stands always
 pub record Nothing (stands : ℕ → Bool) (address size : ℕ → ℕ) : Type 0 where
@@ -49,7 +51,7 @@ pub record Nothing (stands : ℕ → Bool) (address size : ℕ → ℕ) : Type 0
 -- major heap, in which each word is some object's.
 pub record Objects (p : Program) (count : ℕ) (class size : ℕ → ℕ) (stands : ℕ → Bool) (address : ℕ → ℕ) (section : ℕ → Section) (fill : ℕ) (owner : ℕ → Owner) : Type 0 where
   pub given : (n : ℕ) → stands n ≡ true → n ≤ count
-  pub shaped : (n : ℕ) → 1 ≤ n → stands n ≡ true → (class n < length p.classes) × (size n ≡ fields_of p (class n))
+  pub shaped : (n : ℕ) → 1 ≤ n → stands n ≡ true → (class n < length p.classes) × IsSizeOf p (class n) (size n)
   pub owns : (n x : ℕ) → stands n ≡ true → address n ≤ x → x < address n + words_for (size n) → owner x ≡ Of n
   pub owned : (n x : ℕ) → owner x ≡ Of n → (stands n ≡ true) × (address n ≤ x) × (x < address n + words_for (size n))
   pub inside : (n : ℕ) → 1 ≤ n → stands n ≡ true →

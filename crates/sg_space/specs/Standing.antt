@@ -1,10 +1,10 @@
 -- Which objects stand in a space, read off its words, and when the space is sound.
-use Rattle.std.specs.Prelude.{◌≡◌, ◌≢◌, ℕ, ◌+◌, ◌*◌, ◌%◌, ◌<◌, ◌≤◌, ◌⊎◌, true, Option, Some, None, List, length, slice_index, slice_get, map}
+use Rattle.std.specs.Prelude.{◌≡◌, ◌≢◌, ℕ, ◌+◌, ◌*◌, ◌%◌, ◌<◌, ◌≤◌, ◌⊎◌, true, false, Option, Some, None, List, length, slice_index, slice_get, map}
 use Rattle.std.specs.List.Sorted.{IsStrictlyIncreasing}
 use Rattle.sg_words.specs.Address.{byte_at, word_at}
 use Rattle.sg_words.specs.Tags.{plain_word}
 use Rattle.sg_desc.specs.declared.shapes.Shape.{Shape}
-use Rattle.sg_desc.specs.Shapes.{holds_reference}
+use Rattle.sg_desc.specs.Shapes.{holds_reference, is_vector}
 use Rattle.sg_space.specs.declared.objects.Object.{Object}
 use Rattle.sg_space.specs.Sections.{nursery_base, old_base, large_base, globals_base, words_end, IsYoung}
 use Rattle.sg_space.specs.Space.{Contents}
@@ -17,14 +17,14 @@ word s x = slice_index s.words x
 abbrev pub size_at : Contents → ℕ → ℕ
 size_at s h = word s (h + 1) + 2
 
--- the object whose first word is h has a plain tag of one of the classes, that class's number of fields, at most 64 words, and
--- lies in the nursery or in the major heap
+-- the object whose first word is h has a plain tag of one of the classes, that class's number of fields if the class has one of
+-- its own, at most 64 words, and lies in the nursery or in the major heap
 pub record IsObject (s : Contents) (h : ℕ) : Type 0 where
   pub class : ℕ
   pub shape : Shape
   pub shape_is : slice_get s.shapes class ≡ Some shape
   pub tag : word s h ≡ plain_word class
-  pub size : word s (h + 1) ≡ shape.fields
+  pub size : is_vector shape.kind ≡ false → word s (h + 1) ≡ shape.fields
   pub small : size_at s h ≤ 64
   pub inside : ((nursery_base ≤ h) × (h + size_at s h ≤ old_base s.layout)) ⊎ ((old_base s.layout ≤ h) × (h + size_at s h ≤ large_base s.layout))
   -- that each reference field holds nothing or the address of a standing object is said in RefersSoundly, where the owners are known
@@ -54,7 +54,7 @@ IsSound s = (owner : ℕ → Option ℕ) × IsSoundBy s owner
 
 -- a reference field of a standing object, a global, a link or a ready entry holds nothing or the address of a standing object
 pub record RefersSoundly (s : Contents) (owner : ℕ → Option ℕ) : Type 0 where
-  pub fields : (h i class : ℕ) (shape : Shape) → owner h ≡ Some h → slice_get s.shapes class ≡ Some shape → word s h ≡ plain_word class → i < shape.fields → holds_reference shape.kind i shape.fields ≡ true →
+  pub fields : (h i class : ℕ) (shape : Shape) → owner h ≡ Some h → slice_get s.shapes class ≡ Some shape → word s h ≡ plain_word class → i < word s (h + 1) → holds_reference shape.kind i (word s (h + 1)) ≡ true →
       (word s (h + 2 + i) ≡ 0) ⊎ ((g : ℕ) × (owner g ≡ Some g) × (word s (h + 2 + i) ≡ byte_at g))
   pub rows : (x : ℕ) → globals_base s.layout ≤ x → x < words_end s.layout → (word s x ≡ 0) ⊎ ((g : ℕ) × (owner g ≡ Some g) × (word s x ≡ byte_at g))
 

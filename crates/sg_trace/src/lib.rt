@@ -3,7 +3,7 @@
 
 mod trace;
 
-pub use trace::{append_epoch, append_stop};
+pub use trace::{append_epoch, append_number, append_stop};
 
 #[cfg(test)]
 mod tests;

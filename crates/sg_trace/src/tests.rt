@@ -41,7 +41,7 @@ fn text_of_an_epoch(rt: HostRuntime) -> Result<(), Fail> {
     let mut parts = Vec::new(rt.alloc());
     parts.push(part(rt.alloc(), 0, 9, &found)?)?;
     parts.push(part(rt.alloc(), 12, u32::MAX, &[Answer::Number(0), Answer::Fine])?)?;
-    parts.push(part(rt.alloc(), 15, 3, &[])?)?;
+    parts.push(part(rt.alloc(), 15, 3, &[Answer::Yes, Answer::No])?)?;
     parts.push(asking(rt.alloc(), 1, Request::Need { words: 64 }))?;
     parts.push(asking(rt.alloc(), 2, Request::Minor))?;
     let mut report = EpochReport {
@@ -51,7 +51,7 @@ fn text_of_an_epoch(rt: HostRuntime) -> Result<(), Fail> {
     };
     let expected =
         "epoch 30\n0 9 4128\n0 10 nil\n0 11 null\n0 12 18446744073709551615\n0 13 ok\n0 14 field\n0 15 full\n0 done\n\
-        12 4294967295 0\n12 4294967296 ok\n12 done\n15 done\n\
+        12 4294967295 0\n12 4294967296 ok\n12 done\n15 3 yes\n15 4 no\n15 done\n\
         1 need 64\n2 collect minor\n";
     let mut out = Vec::new(rt.alloc());
     append_epoch(rt.alloc(), &mut out, &report)?;

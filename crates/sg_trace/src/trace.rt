@@ -91,6 +91,8 @@ fn append_answer(out: &mut Vec<u8>, answer: Answer) -> Result<(), AllocError>
         Answer::Null => out.extend_from_slice(b"null"),
         Answer::Number(number) => append_number(out, number),
         Answer::Fine => out.extend_from_slice(b"ok"),
+        Answer::Yes => out.extend_from_slice(b"yes"),
+        Answer::No => out.extend_from_slice(b"no"),
         Answer::Field => out.extend_from_slice(b"field"),
         Answer::Full => out.extend_from_slice(b"full"),
     }
@@ -296,7 +298,8 @@ fn append_service(out: &mut Vec<u8>, service: Service) -> Result<(), AllocError>
     out.extend_from_slice(b"\n")
 }
 
-fn append_number(out: &mut Vec<u8>, number: u64) -> Result<(), AllocError>
+/// Appends the number in decimal, without leading zeros. The only error is want of memory.
+pub fn append_number(out: &mut Vec<u8>, number: u64) -> Result<(), AllocError>
     ensures { IfOk result (λ _. out.new.items ≡ out.old.items ++ decimal number) }
 {
     let mut buffer = Buffer::new();

@@ -1,5 +1,5 @@
--- The law is proved in `proofs/Counts.antt`.
-use Rattle.sg_graph.proofs.Counts.{names_are_pairs}
+-- The law is proved in `proofs/Allocations.antt`.
+use Rattle.sg_graph.proofs.Allocations.{names_are_pairs}
 use Rattle.sg_graph.proofs.names.names_are_pairs.Goals as goal
 
 pub returns : goal.returns

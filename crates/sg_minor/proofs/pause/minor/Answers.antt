@@ -114,14 +114,14 @@ returns c =
     let filled = is_filled h.0 s h.1 h.2 h.3 contents c.args.ambiguous.now bytes c.in_ok-pins.ensures (map word_at slots) tagged (c.in_ok-slots.ensures h.0 h.1 h.2 h.3) c.tag.ensures.still tags in
     let still = still_through s tagged round.space swept c.tag.ensures.still (c.in_ok-round.ensures h.2.fill filled).still c.in_ok-kept.ensures.still in
     record {
-      paused = λ p g b heap.
+      paused = λ p g b heap plain.
           let seeds = c.in_ok-slots.ensures p g b heap in
           let filled_here = is_filled p s g b heap contents c.args.ambiguous.now bytes c.in_ok-pins.ensures (map word_at slots) tagged seeds c.tag.ensures.still tags in
           let copied = seen_copied tagged _ slots _ bytes round.space round.moves.items round.fails.items round.front c.deref.ensures.value c.as_slice-2.ensures b.fill (c.in_ok-round.ensures b.fill filled_here) in
           subst (λ (z : List Move). HasPaused p g b c.args.ambiguous.now c.set_fragments.new.self (record { pins = bytes; moves = z; fails = c.from_vec-2.result; spares = 0; pieces = c.in_ok-pieces.pieces })) (sym c.from_vec.ensures)
           (subst (λ (z : List ℕ). HasPaused p g b c.args.ambiguous.now c.set_fragments.new.self (record { pins = bytes; moves = lists.moves.items; fails = z; spares = 0; pieces = c.in_ok-pieces.pieces })) (sym c.from_vec-2.ensures)
           (is_paused p s g b heap contents c.args.ambiguous.now bytes c.in_ok-pins.ensures (map word_at slots) tagged seeds c.tag.ensures.still tags c.in_ok-told.told c.in_ok-told.ensures round.space round.moves.items round.fails.items round.front copied
-          swept c.in_ok-kept.ensures.still lists.standing.items lists.moves.items lists.fails.items kept cleaned c.join_law.ensures c.pause_law.ensures c.in_ok-pieces.pieces pieces c.set_fragments.new.self final));
+          swept c.in_ok-kept.ensures.still lists.standing.items lists.moves.items lists.fails.items kept cleaned c.join_law.ensures c.pause_law.ensures plain c.in_ok-pieces.pieces pieces c.set_fragments.new.self final));
       contents = c.sections-2.ensures.contents;
       stop = ap (λ (z : Contents). z.stop) c.set_fragments.ensures ∙ ap (λ (z : Contents). z.stop) still.0;
       layout = ap (λ (z : Contents). z.layout) c.set_fragments.ensures ∙ ap (λ (z : Contents). z.layout) still.0;

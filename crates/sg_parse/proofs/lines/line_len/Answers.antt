@@ -1,7 +1,7 @@
 use Rattle.std.proofs.Common.{sym, arith, length}
 use Rattle.std.proofs.lemmas.Bool.{eq-eqb}
 use Rattle.std.proofs.lemmas.List.Sums.{position_or_len_is}
-use Rattle.sg_parse.specs.Text.{is_line_feed}
+use Rattle.sg_parse.specs.Words.{is_line_feed}
 use Rattle.sg_parse.proofs.lines.line_len.Goals as goal
 
 pub returns-then-byte-eq10-clause-value : goal.returns-then-byte-eq10-clause-value

@@ -1,5 +1,5 @@
 use Rattle.std.proofs.Common.{◌≡◌, ℕ, ◌<◌, false, get_or}
-use Rattle.sg_parse.specs.Text.{is_blank}
+use Rattle.sg_parse.specs.Words.{is_blank}
 use Rattle.sg_parse.proofs.lines.word_len.Given as goal
 
 abbrev pub invariant-loop-at : goal.invariant-loop-at

@@ -1,5 +1,5 @@
 use Rattle.std.proofs.Common.{◌≡◌, ◌++◌, map, length}
-use Rattle.sg_parse.specs.Reading.{words_in}
+use Rattle.sg_parse.specs.Steps.{words_in}
 use Rattle.sg_parse.proofs.lines.words_in.Given as goal
 
 abbrev pub invariant-loop-rest : goal.invariant-loop-rest

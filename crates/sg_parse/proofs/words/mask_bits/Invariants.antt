@@ -1,5 +1,5 @@
 use Rattle.std.proofs.Common.{◌≡◌, ◌<◌, ◌^◌, ◌-◌, ◌≤◌, length, drop}
-use Rattle.sg_parse.specs.Text.{mask_bits}
+use Rattle.sg_parse.specs.Words.{mask_bits}
 use Rattle.sg_parse.proofs.words.mask_bits.Given as goal
 
 abbrev pub invariant-loop-at : goal.invariant-loop-at

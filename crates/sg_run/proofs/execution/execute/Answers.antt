@@ -1,39 +1,57 @@
-use Rattle.std.proofs.Common.{[], ◌∷◌, ◌++◌, List, ℕ, ap, ◌∙◌, arith}
+use Rattle.std.proofs.Common.{[], ◌∷◌, ◌++◌, sym, ◌∙◌, arith}
 use Rattle.sg_graph.specs.Run.{Epoch}
-use Rattle.sg_graph.specs.Trace.{epoch_text, stop_text}
+use Rattle.sg_run.proofs.Fronts.{empty_run, took_nothing}
 use Rattle.sg_run.proofs.Rounds.{whole_of, at_stop_of, asking_there}
-use Rattle.sg_run.proofs.Texts.{text_epoch, text_stop}
+use Rattle.sg_run.proofs.Texts.{text_epoch, text_stop, front_further, any_error}
 use Rattle.sg_run.proofs.execution.execute.Goals as goal
 
-pub returns-then-epoch : goal.returns-then-epoch
-returns-then-epoch c =
+-- no memory to begin
+pub returns-in_default-clause-front : goal.returns-in_default-clause-front
+returns-in_default-clause-front g c = ([], empty_run c.args.program.now, took_nothing (g.O.Sink.taken c.args.sink.now) [])
+
+-- it broke off at an epoch
+pub returns-in_err-last-clause-front : goal.returns-in_err-last-clause-front
+returns-in_err-last-clause-front g c =
     let i = c.loop-world.invariant in
-    let report = c.in_ok-epoch.epoch in (
-      i.0 ++ Epoch report ∷ [],
-      whole_of c.args.program.now i.0 report c.epoch.new.self (c.in_ok-epoch.ensures.comes i.0 i.1) c.if-epoch.true,
-      text_epoch i.0 report c.args.trace.now.items c.append_epoch.new.out.items (c.in_ok-append_epoch.ensures.appended ∙ ap (λ (ts : List ℕ). ts ++ epoch_text report) i.2),
+    any_error c.from_residual.result
+    (front_further c.args.program.now i.0 (g.O.Sink.taken c.args.sink.now) (g.O.Sink.taken c.loop-world.sink) (g.O.Sink.taken c.write_epoch.new.sink) i.2 (c.in_err-last.ensures.front i.0 i.1))
+
+-- the epoch was the last one
+pub returns-then-last-clause-whole : goal.returns-then-last-clause-whole
+returns-then-last-clause-whole g c =
+    let i = c.loop-world.invariant in
+    let w = c.in_ok-last.ensures.written in (
+      i.0 ++ Epoch w.0 ∷ [],
+      whole_of c.args.program.now i.0 w.0 c.write_epoch.new.world (w.2 i.0 i.1) (sym w.1 ∙ c.if-last.true),
+      text_epoch (g.O.Sink.taken c.args.sink.now) (g.O.Sink.taken c.loop-world.sink) (g.O.Sink.taken c.write_epoch.new.sink) i.0 w.0 i.2 w.3,
     )
 
-pub stop-requires-clause-at_stop : goal.stop-requires-clause-at_stop
-stop-requires-clause-at_stop c =
+-- it broke off at the stop
+pub returns-in_err-world-clause-front : goal.returns-in_err-world-clause-front
+returns-in_err-world-clause-front g c =
     let i = c.loop-world.invariant in
-    let report = c.in_ok-epoch.epoch in
-    (i.0, report, at_stop_of c.args.program.now i.0 report c.epoch.new.self (c.in_ok-epoch.ensures.comes i.0 i.1) c.if-epoch.false)
+    let w = c.in_ok-last.ensures.written in
+    let t = at_stop_of c.args.program.now i.0 w.0 c.write_epoch.new.world (w.2 i.0 i.1) (sym w.1 ∙ c.if-last.false) in
+    any_error c.from_residual-in_err-world.result
+    (front_further c.args.program.now (i.0 ++ Epoch w.0 ∷ []) (g.O.Sink.taken c.args.sink.now) (g.O.Sink.taken c.write_epoch.new.sink) (g.O.Sink.taken c.write_stop.new.sink)
+    (text_epoch (g.O.Sink.taken c.args.sink.now) (g.O.Sink.taken c.loop-world.sink) (g.O.Sink.taken c.write_epoch.new.sink) i.0 w.0 i.2 w.3) (c.in_err-world.ensures.front i.0 w.0 t))
 
 pub loop-world-smaller : goal.loop-world-smaller
-loop-world-smaller c =
+loop-world-smaller g c =
     let i = c.loop-world.invariant in
-    let report = c.in_ok-epoch.epoch in
-    let t = at_stop_of c.args.program.now i.0 report c.epoch.new.self (c.in_ok-epoch.ensures.comes i.0 i.1) c.if-epoch.false in
-    omega (arith, asking_there c.args.program.now i.0 report c.epoch.new.self t, c.in_ok-epoch.ensures.ahead, c.in_ok-next.ensures.ahead)
+    let w = c.in_ok-last.ensures.written in
+    let t = at_stop_of c.args.program.now i.0 w.0 c.write_epoch.new.world (w.2 i.0 i.1) (sym w.1 ∙ c.if-last.false) in
+    omega (arith, asking_there c.args.program.now i.0 w.0 c.write_epoch.new.world t, c.in_ok-last.ensures.ahead, c.in_ok-world.ensures.ahead)
 
 pub loop-world-preserved : goal.loop-world-preserved
-loop-world-preserved c =
+loop-world-preserved g c =
     let i = c.loop-world.invariant in
-    let report = c.in_ok-epoch.epoch in
-    let t = at_stop_of c.args.program.now i.0 report c.epoch.new.self (c.in_ok-epoch.ensures.comes i.0 i.1) c.if-epoch.false in (
+    let w = c.in_ok-last.ensures.written in
+    let s = c.in_ok-world.ensures.written in
+    let t = at_stop_of c.args.program.now i.0 w.0 c.write_epoch.new.world (w.2 i.0 i.1) (sym w.1 ∙ c.if-last.false) in (
       _,
-      c.in_ok-next.ensures.between i.0 report t,
-      text_stop i.0 report c.in_ok-next.stop c.args.trace.now.items c.append_stop.new.out.items
-          (c.in_ok-append_stop.ensures.appended ∙ ap (λ (ts : List ℕ). ts ++ stop_text c.in_ok-next.stop) (c.in_ok-append_epoch.ensures.appended ∙ ap (λ (ts : List ℕ). ts ++ epoch_text report) i.2)),
+      s.1 i.0 w.0 t,
+      text_stop (g.O.Sink.taken c.args.sink.now) (g.O.Sink.taken c.write_epoch.new.sink) (g.O.Sink.taken c.write_stop.new.sink) i.0 w.0 s.0
+          (text_epoch (g.O.Sink.taken c.args.sink.now) (g.O.Sink.taken c.loop-world.sink) (g.O.Sink.taken c.write_epoch.new.sink) i.0 w.0 i.2 w.3) s.2,
+      omega (arith, i.3, c.in_ok-last.ensures.never_falls, c.in_ok-world.ensures.never_falls),
     )

@@ -1,14 +1,14 @@
 use Rattle.std.proofs.Common.{ℕ, Bool, List, [], ◌∷◌, ◌≡◌, ap, refl, ◌∙◌, rules, arith}
 use Rattle.sg_graph.specs.declared.reports.Answer.{Answer}
 use Rattle.sg_graph.specs.declared.reports.Part.{Part}
-use Rattle.sg_parse.proofs.Counted.{few_statements}
+use Rattle.sg_run.proofs.Classes.{few_statements}
 use Rattle.sg_run.proofs.Epochs.{report_of}
 use Rattle.sg_run.specs.Worlds.{is_end}
 use Rattle.sg_run.proofs.Rounds.{comes}
 use Rattle.sg_run.proofs.world.World.epoch.Goals as goal
 
 pub overflow_cast-first : goal.overflow_cast-first
-overflow_cast-first c = omega (arith, c.requires.between.1.within_it, few_statements c.requires.accepted.0 c.args.program.now c.requires.accepted.1)
+overflow_cast-first c = omega (arith, c.requires.between.1.within_it, few_statements c.args.program.now c.requires.accepted)
 
 pub returns-clause-comes : goal.returns-clause-comes
 returns-clause-comes c phases between =
@@ -22,4 +22,4 @@ returns-clause-comes c phases between =
     ap (λ (n : ℕ). record { number = n; last = c.has_ended.result; parts = c.from_vec-2.result }) c.go-leave.ensures.gone.number
     ∙ ap (λ (l : Bool). record { number = old.number; last = l; parts = c.from_vec-2.result }) c.has_ended.ensures
     ∙ ap (λ (ps : List Part). record { number = old.number; last = is_end leave; parts = ps }) parts in
-    comes p c.requires.accepted phases old between gone _ leave _ c.go-leave.ensures.gone c.go-leave.ensures.leaves c.in_ok-answers.ensures.emptied refl refl refl is
+    comes p c.requires.accepted phases old between gone _ leave _ c.go-leave.ensures.gone c.go-leave.ensures.leaves c.in_ok-answers.ensures.emptied refl refl refl refl is

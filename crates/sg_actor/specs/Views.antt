@@ -1,0 +1,253 @@
+-- The code's values as the rules see them, and what the code asks of them.
+use Rattle.std.specs.Prelude.{◌≡◌, ◌≢◌, ℕ, ◌+◌, ◌/◌, ◌-◌, ◌%◌, ◌<◌, ◌≤◌, ◌⊎◌, Bool, true, false, List, [], ◌∷◌, length, slice_index, slice_set, vec_len, vec_capacity, map, reverse}
+use Rattle.sg_words.specs.Address.{IsAddress, byte_at, word_at}
+use Rattle.sg_words.specs.Tags.{plain_word}
+use Rattle.sg_words.specs.Words.{put, Words}
+use Rattle.sg_graph.specs.declared.program.Program.{Program}
+use Rattle.sg_graph.specs.declared.program.Statement.{Statement}
+use Rattle.sg_graph.specs.declared.program.Statement.TheVariants.{New, NewV, Put, Get, PutD, GetD, Num, Move, Hide, Unhide, Drop, Push, Pop, Same, Collect}
+use Rattle.sg_graph.specs.declared.reports.Answer.TheVariants.{At}
+use Rattle.sg_graph.specs.declared.reports.Request.{Request}
+use Rattle.sg_graph.specs.declared.reports.Request.TheVariants.{Need, Minor}
+use Rattle.sg_desc.specs.Shapes.{Sort, Reference, Plain, has_field}
+use Rattle.sg_graph.specs.Scripts.{kind_of, words_for, IsMaking, made_in, made_class, made_fields, made_words}
+use Rattle.sg_graph.specs.Book.{nursery_base}
+use Rattle.sg_space.specs.declared.layout.Layout.{Layout as Sections}
+use Rattle.sg_space.specs.Sections.{old_base, words_end, IsInSection}
+use Rattle.sg_space.specs.Space.{Contents, words_of, IsContents}
+use Rattle.sg_actor.specs.declared.mutator.Held.{Held}
+use Rattle.sg_actor.specs.declared.mutator.Mutator.{Mutator}
+use Rattle.sg_actor.specs.declared.mutator.Tested.{Tested}
+use Rattle.sg_actor.specs.declared.mutator.Tested.TheVariants.{NoObject, NoField, At as FieldAt}
+use Rattle.sg_order.specs.Rules.{Layout, Slot, Idle, Look, Claim, StoreLength, Ask, Left, Actor, fresh, within, over, Went}
+
+-- how many fragments a space has, and before which word each ends
+abbrev pub layout_of : Contents → Layout
+layout_of s = record { fragments = length s.ends; limit = λ f. word_at (slice_index s.ends f) }
+
+abbrev pub slot_of : Held → Slot
+slot_of held = record { word = held.word; offset = held.offset }
+
+-- between two statements, before this script; the code's stack has its top last
+abbrev pub actor_of : Mutator → List Statement → Actor
+actor_of m script = record { reg = λ r. slice_index m.registers r; offset = λ r. slice_index m.offsets r; stack = reverse (map slot_of m.stack.items); from = m.from; to = m.to; script = script; told = m.answers.items; mid = Idle }
+
+-- what a mutator asks of a space: each fragment ends in the nursery
+pub record IsSpace (s : Contents) : Type 0 where
+  pub contents : IsContents s
+  pub ends : (f : ℕ) → f < length s.ends → word_at (slice_index s.ends f) ≤ old_base s.layout
+
+-- what no step changes of a space
+pub record KeepsSpace (s t : Contents) : Type 0 where
+  pub layout : t.layout ≡ s.layout
+  pub shapes : t.shapes ≡ s.shapes
+  pub next : length t.next ≡ length s.next
+  pub ends : t.ends ≡ s.ends
+  pub words : length t.words ≡ length s.words
+
+-- the same, and nobody has asked for a stop
+pub record KeepsGoing (s t : Contents) : Type 0 where
+  pub space : KeepsSpace s t
+  pub stop : t.stop ≡ s.stop
+
+-- the next words are byte addresses of words from the nursery's first one on
+abbrev pub HasByteAddresses : Contents → Type 0
+HasByteAddresses s = (f : ℕ) → f < length s.ends → (byte_at nursery_base ≤ slice_index s.next f) × (slice_index s.next f % 8 ≡ 0)
+
+-- fragment f has n words left
+abbrev pub HasWords : Contents → ℕ → ℕ → Type 0
+HasWords s n f = slice_index s.next f + byte_at n ≤ slice_index s.ends f
+
+-- fragment f has fewer than n words left
+abbrev pub LacksWords : Contents → ℕ → ℕ → Type 0
+LacksWords s n f = slice_index s.ends f < slice_index s.next f + byte_at n
+
+-- Any mutator that looks for n words from fragment f on comes to this, and no word changes.
+abbrev pub LooksFrom : Contents → ℕ → ℕ → (Actor → List Statement → Statement → Actor) → Type 0
+LooksFrom s n f to = (p : Program) (a : Actor) (rest : List Statement) (making : Statement) → made_words p making ≡ n →
+    Went p (layout_of s) (within a rest (Look making f)) (words_of s) (to a rest making) (words_of s)
+
+-- no fragment has n words left: who looks for them, where there is a fragment, comes to ask for a stop
+pub record FindsNone (s : Contents) (n : ℕ) : Type 0 where
+  pub went : 0 < length s.ends → LooksFrom s n 0 (λ a rest making. within a rest (Ask making))
+  pub none : (f : ℕ) → f < length s.ends → LacksWords s n f
+
+-- fragment f, whose next word is `next`, is the lowest with n words left, and who looks for them finds it
+pub record FindsRoom (s : Contents) (n f next : ℕ) : Type 0 where
+  pub went : LooksFrom s n 0 (λ a rest making. within a rest (Claim making f next))
+  pub there : f < length s.ends
+  pub is : slice_index s.next f ≡ byte_at next
+  pub above : nursery_base ≤ next
+  pub room : next + n ≤ word_at (slice_index s.ends f)
+  pub lowest : (j : ℕ) → j < f → LacksWords s n j
+
+-- Any mutator whose new object has the word x stores its header.
+abbrev pub StoresHeader : Contents → Contents → ℕ → ℕ → ℕ → Type 0
+StoresHeader s t x class fields = (p : Program) (lay : Layout) (a : Actor) (rest : List Statement) (making : Statement) → made_class making ≡ class → made_fields p making ≡ fields →
+    Went p lay (within a rest (StoreLength making x)) (words_of s) (over a rest (put a.reg (made_in making) (byte_at x)) (At (byte_at x))) (words_of t)
+
+-- the space with the header of an object of this class, and with so many fields, at the word x
+abbrev pub headed : Contents → ℕ → ℕ → ℕ → Contents
+headed s x class fields = record s { words = slice_set (slice_set s.words (x + 1) fields) x (plain_word class) }
+
+-- how far the search is before it looks at fragment f, or behind the last one
+pub record Searches (s : Contents) (n f : ℕ) : Type 0 where
+  pub looks : f < length s.ends → LooksFrom s n 0 (λ a rest making. within a rest (Look making f))
+  pub ends : 0 < f → f ≡ length s.ends → LooksFrom s n 0 (λ a rest making. within a rest (Ask making))
+  pub passed : (j : ℕ) → j < f → LacksWords s n j
+
+-- there is room for one more answer, and for 64 words on the stack
+pub record HasRoom (m : Mutator) : Type 0 where
+  pub answers : vec_len m.answers < vec_capacity m.answers
+  pub stack : 64 ≤ vec_capacity m.stack
+
+-- before any script it has empty registers, no buffer and no answer, and there is room for n answers
+pub record IsFresh (m : Mutator) (n : ℕ) : Type 0 where
+  pub begins : (script : List Statement) → actor_of m script ≡ fresh script
+  pub none : vec_len m.answers ≡ 0
+  pub room : vec_capacity m.answers ≡ n
+  pub stack : 64 ≤ vec_capacity m.stack
+
+-- it has one more answer, and there is room for as many as before
+pub record IsNext (m n : Mutator) : Type 0 where
+  pub one : vec_len n.answers ≡ vec_len m.answers + 1
+  pub room : vec_capacity m.answers ≤ vec_capacity n.answers
+  pub stack : vec_capacity m.stack ≤ vec_capacity n.stack
+
+abbrev pub sort_of : Bool → Sort
+sort_of true = Reference
+sort_of false = Plain
+
+-- the class in the tag of the object with the word x
+abbrev pub class_at : Words → ℕ → ℕ
+class_at w x = w.word x / 8 - 1
+
+-- a word of a reference: none, or an address
+abbrev pub IsReference : ℕ → Type 0
+IsReference v = (v ≡ 0) ⊎ IsAddress v
+
+-- the word x is the first one of an object of the program, among the words below n
+pub record IsObject (p : Program) (w : Words) (n x : ℕ) : Type 0 where
+  pub tag : w.word x ≡ plain_word (class_at w x)
+  pub class : class_at w x < length p.classes
+  pub above : nursery_base ≤ x
+  pub inside : x + 2 + w.word (x + 1) ≤ n
+  pub references : (i : ℕ) → has_field Reference (kind_of p (class_at w x)) (w.word (x + 1)) i ≡ true → IsReference (w.word (x + 2 + i))
+
+-- register r holds an object or none
+abbrev pub HoldsObject : Program → Contents → Mutator → ℕ → Type 0
+HoldsObject p s m r = (r < 16) × (length p.classes ≤ 256) × (slice_index m.registers r ≢ 0 → IsObject p (words_of s) (words_end s.layout) (word_at (slice_index m.registers r)))
+
+-- the object in a register that holds `held` has such a field, or not
+pub record IsMeasured (p : Program) (w : Words) (held field : ℕ) (sort : Sort) (has : Bool) : Type 0 where
+  pub some : held ≢ 0
+  pub tag : w.word (word_at held) ≡ plain_word (class_at w (word_at held))
+  pub finds : has_field sort (kind_of p (class_at w (word_at held))) (w.word (word_at held + 1)) field ≡ has
+
+-- what an object test finds, in a space with these sections
+abbrev pub IsTested : Program → Words → ℕ → ℕ → Sort → Sections → Tested → Type 0
+IsTested p w held field sort sections NoObject = held ≡ 0
+IsTested p w held field sort sections NoField = IsMeasured p w held field sort false
+IsTested p w held field sort sections (FieldAt place) = IsMeasured p w held field sort true × (place ≡ word_at held + 2 + field) × IsInSection sections place
+
+-- the buffer's words lie in the nursery
+abbrev pub IsBufferIn : Contents → Mutator → Type 0
+IsBufferIn s m = m.from < m.to → (nursery_base ≤ m.from) × (m.to ≤ old_base s.layout)
+
+-- the statement makes an object of a class of the program, with at most 62 fields
+pub record CanMake (p : Program) (s : Statement) : Type 0 where
+  pub making : IsMaking s
+  pub register : made_in s < 16
+  pub there : made_class s < length p.classes
+  pub few : length p.classes ≤ 256
+  pub small : made_fields p s ≤ 62
+
+-- register r is empty, or holds an address at some bytes behind that of an object
+abbrev pub HoldsInner : Mutator → ℕ → Type 0
+HoldsInner m r = slice_index m.registers r ≢ 0 → (slice_index m.offsets r ≤ slice_index m.registers r) × IsAddress (slice_index m.registers r - slice_index m.offsets r)
+
+-- what a statement asks of the words and its mutator; what isn't run yet is asked for by no program
+abbrev pub CanDo : Program → Contents → Mutator → Statement → Type 0
+CanDo p s m (New r class) = CanMake p (New r class) × HasByteAddresses s × IsBufferIn s m
+CanDo p s m (NewV r class count) = CanMake p (NewV r class count) × HasByteAddresses s × IsBufferIn s m
+CanDo p s m (Put r i v) = HoldsObject p s m r × (v < 16)
+CanDo p s m (Get d r i) = HoldsObject p s m r × (d < 16)
+CanDo p s m (PutD r i v) = HoldsObject p s m r × (v < 16)
+CanDo p s m (GetD d r i) = HoldsObject p s m r × (d < 16)
+CanDo p s m (Num d n) = d < 16
+CanDo p s m (Move d v) = (d < 16) × (v < 16)
+CanDo p s m (Hide d v offset) = HoldsObject p s m v × (d < 16)
+CanDo p s m (Unhide d v) = (d < 16) × (v < 16) × HoldsInner m v
+CanDo p s m (Drop r) = r < 16
+CanDo p s m (Push r) = (r < 16) × (length m.stack.items < 64)
+CanDo p s m (Pop r) = (r < 16) × (0 < length m.stack.items)
+CanDo p s m (Same r v) = (r < 16) × (v < 16)
+CanDo p s m (Collect false) = Unit {0}
+CanDo p s m statement = ⊥
+
+-- the statement may begin
+abbrev pub CanGo : Program → Contents → Mutator → Statement → Type 0
+CanGo p s m statement = (s.stop ≡ 0) × CanDo p s m statement
+
+-- which request a statement makes
+abbrev pub IsRequestOf : Program → Statement → Request → Type 0
+IsRequestOf p (New r class) (Need words) = words ≡ made_words p (New r class)
+IsRequestOf p (NewV r class count) (Need words) = words ≡ made_words p (NewV r class count)
+IsRequestOf p (Collect false) Minor = Unit {0}
+IsRequestOf p s request = ⊥
+
+-- the statement is answered, and nobody has asked for a stop
+pub record IsAnswered (p : Program) (s : Contents) (m : Mutator) (statement : Statement) (t : Contents) (o : Mutator) : Type 0 where
+  pub went : (rest : List Statement) → Went p (layout_of s) (actor_of m (statement ∷ rest)) (words_of s) (actor_of o rest) (words_of t)
+  pub answers : IsNext m o
+  pub keeps : KeepsGoing s t
+
+-- the mutator has asked for a stop and left: its statement waits for the answer, and nothing but the stop word has changed
+pub record IsAsked (p : Program) (s : Contents) (m : Mutator) (statement : Statement) (t : Contents) (o : Mutator) (request : Request) : Type 0 where
+  pub went : (rest : List Statement) → Went p (layout_of s) (actor_of m (statement ∷ rest)) (words_of s) (within (actor_of o rest) rest (Left statement)) (words_of t)
+  pub fits : IsRequestOf p statement request
+  pub space : t ≡ record s { stop = 1 }
+  pub mutator : o ≡ m
+
+-- the mutator has the word x for a new object of n words, and no new answer
+pub record GetsRoom (p : Program) (s : Contents) (m : Mutator) (n : ℕ) (t : Contents) (o : Mutator) (x : ℕ) : Type 0 where
+  pub went : (rest : List Statement) (making : Statement) → IsMaking making → made_words p making ≡ n →
+      Went p (layout_of s) (actor_of m (making ∷ rest)) (words_of s) (within (actor_of o rest) rest (StoreLength making x)) (words_of t)
+  pub above : nursery_base ≤ x
+  pub inside : x + n ≤ old_base s.layout
+  pub answers : o.answers ≡ m.answers
+  pub stack : o.stack ≡ m.stack
+
+-- there is no room, and nothing has changed
+pub record GetsNone (p : Program) (s : Contents) (m : Mutator) (n : ℕ) (t : Contents) (o : Mutator) : Type 0 where
+  pub went : (rest : List Statement) (making : Statement) → IsMaking making → made_words p making ≡ n →
+      Went p (layout_of s) (actor_of m (making ∷ rest)) (words_of s) (within (actor_of o rest) rest (Ask making)) (words_of t)
+  pub space : t ≡ s
+  pub mutator : o ≡ m
+
+-- the exchange for n words at the word `next` of fragment f
+abbrev pub Claims : Program → Contents → Mutator → ℕ → ℕ → ℕ → Contents → Mutator → Type 0
+Claims p s m n f next t o = (rest : List Statement) (making : Statement) → made_words p making ≡ n →
+    Went p (layout_of s) (within (actor_of m rest) rest (Claim making f next)) (words_of s) (within (actor_of o rest) rest (StoreLength making next)) (words_of t)
+
+-- Fragment f is the lowest one with room for a new object of this class, and with so many fields. It gives its front, whose
+-- byte address is a: its next word is the one behind the object, whose header is written, and nothing else changes.
+pub record IsPlaced (s : Contents) (class fields : ℕ) (t : Contents) (a : ℕ) : Type 0 where
+  pub fragment : ℕ
+  pub there : fragment < length s.ends
+  pub room : HasWords s (words_for fields) fragment
+  pub lowest : (j : ℕ) → j < fragment → LacksWords s (words_for fields) j
+  pub at : a ≡ slice_index s.next fragment
+  pub after : t ≡ headed (record s { next = slice_set s.next fragment (a + byte_at (words_for fields)) }) (word_at a) class fields
+
+-- no fragment has n words left, and nothing has changed
+pub record HasNowhere (s : Contents) (n : ℕ) (t : Contents) : Type 0 where
+  pub none : (f : ℕ) → f < length s.ends → LacksWords s n f
+  pub space : t ≡ s
+
+-- the answers were taken, and there is room for as many as before
+pub record IsEmptied (m o : Mutator) : Type 0 where
+  pub is : (script : List Statement) → actor_of o script ≡ record (actor_of m script) { told = [] }
+  pub none : vec_len o.answers ≡ 0
+  pub room : vec_capacity m.answers ≤ vec_capacity o.answers
+  pub stack : o.stack ≡ m.stack

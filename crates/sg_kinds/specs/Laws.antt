@@ -1,0 +1,9 @@
+-- What is fixed by the rules of kinds.
+use Rattle.std.specs.Prelude.{◌≡◌, ℕ}
+use Rattle.sg_graph.specs.declared.program.Program.{Program}
+use Rattle.sg_graph.specs.Kinds.{IsFirstMisuse}
+
+-- no program has two first misuses: the mutator is fixed, and so is the statement
+pub record HasOneMisuse : Type 0 where
+  pub mutator : (p : Program) (m n s t : ℕ) → IsFirstMisuse p m s → IsFirstMisuse p n t → m ≡ n
+  pub statement : (p : Program) (m n s t : ℕ) → IsFirstMisuse p m s → IsFirstMisuse p n t → s ≡ t

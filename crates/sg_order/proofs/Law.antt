@@ -1,0 +1,289 @@
+-- From the atomic steps of the mutators to one order of whole statements, from an epoch's opening on.
+use Rattle.std.proofs.Common.{◌≡◌, ℕ, ◌+◌, ◌<◌, ◌≤◌, ◌==◌, true, List, [], ◌∷◌, map, inl, inr, sym, refl, ap, ◌∙◌, subst, le_refl, zero-le, arith}
+use Rattle.std.proofs.Math.Path.{fun_ext}
+use Rattle.std.proofs.lemmas.Bool.{cases_eq, eqb-true}
+use Rattle.std.specs.List.{AllByRecursion}
+use Rattle.sg_words.specs.Words.{put, Words, after}
+use Rattle.sg_words.specs.Events.{ticks, by_one}
+use Rattle.sg_graph.specs.declared.program.Statement.{Statement}
+use Rattle.sg_graph.specs.declared.program.Program.{Program}
+use Rattle.sg_graph.specs.declared.reports.Answer.{Answer}
+use Rattle.sg_graph.specs.Scripts.{script_of, IsMaking, made_words}
+use Rattle.sg_graph.specs.Kinds.{first_kinds, FindKinds}
+use Rattle.sg_graph.specs.Graph.{Entry, Graph, Ref, Int, Inner, no_objects}
+use Rattle.sg_graph.specs.Book.{Book, empty_book, word_of, Young, Old, nursery_base, nursery_end, HasNoPlace, IsApart}
+use Rattle.sg_graph.specs.Epoch.{Said, Explains, Pairwise, answers_of, by_address}
+use Rattle.sg_space.specs.Heap.{Owner, Of, Frag, Nobody, IsKnownEntry, IsHeap}
+use Rattle.sg_order.specs.Rules.{Layout, Slot, Mid, Left, Actor, fresh, Went}
+use Rattle.sg_order.specs.Rest.{Holds, IsReady, IsHeld, IsEpochOpening, IsRunnable, before_it, IsOver, kinds_in}
+use Rattle.sg_order.specs.Rest.{Stands as StandsAt}
+use Rattle.sg_order.specs.Opening.{IsFirstLayout, IsOpening}
+use Rattle.sg_order.specs.OneOrder.{OneOrder}
+use Rattle.sg_words.proofs.Puts.{put-same, within_range, range-in, range-below}
+use Rattle.sg_order.proofs.Events.{range-was, ticks-own}
+use Rattle.sg_order.proofs.Cases.{by_making}
+use Rattle.sg_order.proofs.Relation.{Ground, IsMutator, Tight, IsAsked, AtMid, Stacked, Stands, IsHeading, World}
+use Rattle.sg_order.proofs.Loads.{same_object}
+use Rattle.sg_order.proofs.Whole.{one_by_one, by_one_mutator}
+
+-- What one order of whole statements says of the words w in the midst of an epoch that opened with g and b, and of the mutators.
+pub record SoFar (p : Program) (lay : Layout) (g : Graph) (b : Book) (w : Words) (actors : ℕ → Actor) : Type 0 where
+  pub order : List Said
+  pub graph : Graph
+  pub book : Book
+  pub explains : Explains p g b order graph book
+  pub world : World p lay w graph book (λ k. answers_of k order) actors
+
+-- an epoch opens with every object headed and every mutator between two statements
+pub at_opening : (p : Program) (lay : Layout) (w : Words) (g : Graph) (b : Book) (actors : ℕ → Actor) → IsEpochOpening p lay w g b actors → World p lay w g b (λ _. []) actors
+at_opening p lay w g b actors o = record {
+  owner = o.held.owner;
+  ground = record { laid = o.held.heap.laid; plain = o.held.plain; number = o.held.number; limits = o.held.limits; words = o.held.nexts };
+  stands = λ k. let ready = o.ready k in record {
+    entry = (g.mutator k).register;
+    answers = [];
+    regs = λ r. (ready.regs r).word_is;
+    known = λ r. known (a_offset k r) ((g.mutator k).register r) (ready.regs r).stands;
+    offsets = λ r. (ready.regs r).stands;
+    stack = stacked (actors k).stack (g.mutator k).stack ready.stack;
+    told = o.untold k;
+    given = tt;
+    from_is = ready.from_is;
+    to_is = ready.to_is;
+    at = subst (λ (mid : Mid). AtMid p lay w g b (λ _. []) k (g.mutator k).register [] (actors k).script mid) (sym (o.idle k))
+        (record { register_is = refl; script_is = ready.script_is; awake = ready.awake; says = refl });
+    fits = subst (λ script. FindKinds (kinds_in (g.mutator k)) script) (sym ready.script_is) ready.kinds;
+    runnable = subst (λ script. AllByRecursion (IsRunnable p) script) (sym ready.script_is) ready.runnable;
+  };
+  headed = λ n l q. inl (o.held.heap.headed n l q);
+}
+  where
+    a_offset : ℕ → ℕ → ℕ
+    a_offset k r = (actors k).offset r
+
+    known : (offset : ℕ) (e : Entry) → StandsAt g b offset e → IsKnownEntry w.word g b e
+    known offset (Ref n) q = (
+      q,
+      elim (cases_eq n 0) [ inl z ↦ inl z | inr some ↦ inr (o.held.heap.headed n (omega arith) q) ],
+    )
+    known offset (Int v) q = tt
+    known offset (Inner n i) q = (
+      q.0,
+      elim (cases_eq n 0) [ inl z ↦ inl z | inr some ↦ inr (o.held.heap.headed n (omega arith) q.0) ],
+    )
+
+    stacked : (slots : List Slot) (entries : List Entry) → Pairwise (λ (slot : Slot) (entry : Entry). Holds g b slot.word slot.offset entry) slots entries → Stacked w.word g b slots entries
+    stacked [] [] q = tt
+    stacked [] (y ∷ ys) q = absurd q
+    stacked (x ∷ xs) [] q = absurd q
+    stacked (x ∷ xs) (y ∷ ys) q = (record { holds = q.0; known = known x.offset y q.0.stands }, stacked xs ys q.1)
+
+-- mutator k has taken next steps of its program from an epoch's opening on
+pub so_far : (p : Program) (lay : Layout) (w0 : Words) (g : Graph) (b : Book) (actors : ℕ → Actor) (k : ℕ) (a : Actor) (w : Words) → IsEpochOpening p lay w0 g b actors → Went p lay (actors k) w0 a w →
+    SoFar p lay g b w (put actors k a)
+so_far p lay w0 g b actors k a w opening went =
+    let x = by_one_mutator p lay k went.ticks w0 g b (λ _. []) actors a (at_opening p lay w0 g b actors opening) went.legal went.follows in
+    let e : after w0 (ticks (by_one k went.ticks)) ≡ w = ap (after w0) (ticks-own k went.ticks) ∙ sym went.after in
+    let s : x.says ≡ (λ j. answers_of j x.order) = fun_ext x.said_is in
+    record {
+      order = x.order;
+      graph = x.graph;
+      book = x.book;
+      explains = x.explains;
+      world = subst (λ v. World p lay v x.graph x.book (λ j. answers_of j x.order) (put actors k a)) e
+          (subst (λ (says : ℕ → List Answer). World p lay (after w0 (ticks (by_one k went.ticks))) x.graph x.book says (put actors k a)) s x.world);
+    }
+
+-- the words and mutator k itself, in the midst of an epoch
+pub ground_so_far : (p : Program) (lay : Layout) (g : Graph) (b : Book) (w : Words) (actors : ℕ → Actor) (so : SoFar p lay g b w actors) → Ground p lay w so.graph so.book so.world.owner
+ground_so_far p lay g b w actors so = so.world.ground
+
+pub stands_so_far : (p : Program) (lay : Layout) (g : Graph) (b : Book) (w : Words) (actors : ℕ → Actor) (k : ℕ) (a : Actor) (so : SoFar p lay g b w (put actors k a)) → Stands p lay w so.graph so.book (λ j. answers_of j so.order) k a
+stands_so_far p lay g b w actors k a so = subst (λ x. Stands p lay w so.graph so.book (λ j. answers_of j so.order) k x) (put-same actors k a) (so.world.stands k)
+
+-- a mutator that is over is where the graph's mutator is
+pub at_rest : (p : Program) (lay : Layout) (w : Words) (g : Graph) (b : Book) (said : ℕ → List Answer) (k : ℕ) (a : Actor) (s : Stands p lay w g b said k a) → IsOver a.mid → IsMutator g said k s.entry (before_it a.mid a.script) s.answers
+at_rest p lay w g b said k a s over = go a.mid over s.at
+  where
+    go : (mid : Mid) → IsOver mid → AtMid p lay w g b said k s.entry s.answers a.script mid → IsMutator g said k s.entry (before_it mid a.script) s.answers
+    go mid over = elim over [
+      | inl e ↦ subst (λ mid. AtMid p lay w g b said k s.entry s.answers a.script mid → IsMutator g said k s.entry (before_it mid a.script) s.answers) (sym e) (λ m. m)
+      | inr e ↦ subst (λ mid. AtMid p lay w g b said k s.entry s.answers a.script mid → IsMutator g said k s.entry (before_it mid a.script) s.answers) (sym e.1) (λ m. m.1)
+    ]
+
+-- the places of a stack hold what they keep
+held_stack : (w : ℕ → ℕ) (g : Graph) (b : Book) (slots : List Slot) (entries : List Entry) → Stacked w g b slots entries → Pairwise (λ (slot : Slot) (entry : Entry). Holds g b slot.word slot.offset entry) slots entries
+held_stack w g b [] [] q = tt
+held_stack w g b [] (y ∷ ys) q = absurd q
+held_stack w g b (x ∷ xs) [] q = absurd q
+held_stack w g b (x ∷ xs) (y ∷ ys) q = (q.0.holds, held_stack w g b xs ys q.1)
+
+pub ready_at_rest : (p : Program) (lay : Layout) (w : Words) (g : Graph) (b : Book) (said : ℕ → List Answer) (k : ℕ) (a : Actor) (s : Stands p lay w g b said k a) → IsOver a.mid → IsReady p g b k a (before_it a.mid a.script)
+ready_at_rest p lay w g b said k a s over =
+    let m = at_rest p lay w g b said k a s over in
+    let entry : (r : ℕ) → (g.mutator k).register r ≡ s.entry r = λ r. ap (λ (register : ℕ → Entry). register r) m.register_is in
+    record {
+      regs = λ r. record {
+        word_is = s.regs r ∙ ap (word_of b.address) (sym (entry r));
+        stands = subst (λ x. StandsAt g b (a.offset r) x) (sym (entry r)) (s.offsets r);
+      };
+      stack = held_stack w.word g b a.stack (g.mutator k).stack s.stack;
+      script_is = m.script_is;
+      awake = m.awake;
+      from_is = s.from_is;
+      to_is = s.to_is;
+      kinds = subst (λ script. FindKinds (kinds_in (g.mutator k)) script) m.script_is s.fits;
+      runnable = subst (λ script. AllByRecursion (IsRunnable p) script) m.script_is s.runnable;
+    }
+
+-- who asks for a new object is short of room
+asked_tight : (p : Program) (lay : Layout) (b : Book) (k : ℕ) (s : Statement) → IsMaking s → IsAsked p lay b k s → Tight b k (made_words p s) lay.fragments
+asked_tight p lay b k s making = by_making (λ s. IsAsked p lay b k s → Tight b k (made_words p s) lay.fragments) (λ r class t. t) (λ r class count t. t) s making
+
+-- who left with a new object has no place for it
+pub no_place : (p : Program) (lay : Layout) (w : Words) (g : Graph) (b : Book) (said : ℕ → List Answer) (owner : ℕ → Owner) → Ground p lay w g b owner → (k : ℕ) (a : Actor) (st : Stands p lay w g b said k a) (s : Statement) →
+    IsMaking s → a.mid ≡ Left s → HasNoPlace b k (made_words p s)
+no_place p lay w g b said owner t k a st s making e =
+    let m = subst (λ (mid : Mid). AtMid p lay w g b said k st.entry st.answers a.script mid) e st.at in
+    let tight = asked_tight p lay b k s making m.0 in
+    record { short = tight.short; none = λ f l. tight.below f (let n = t.number in omega arith) }
+
+-- who is over writes no header
+over_makes_none : (x : ℕ) (mid : Mid) → IsOver mid → IsHeading x mid → ⊥
+over_makes_none x mid over = elim over [
+  | inl e ↦ subst (λ mid. IsHeading x mid → ⊥) (sym e) (λ m. m)
+  | inr e ↦ subst (λ mid. IsHeading x mid → ⊥) (sym e.1) (λ m. m)
+]
+
+-- where all are over, the words hold the graph
+pub held_at_rest : (p : Program) (lay : Layout) (w : Words) (g : Graph) (b : Book) (said : ℕ → List Answer) (actors : ℕ → Actor) → World p lay w g b said actors → ((k : ℕ) → IsOver (actors k).mid) → IsHeld p lay w g b
+held_at_rest p lay w g b said actors wo over = record {
+  owner = wo.owner;
+  heap = record {
+    laid = wo.ground.laid;
+    headed = λ n l q. elim (wo.headed n l q) [ inl h ↦ h | inr m ↦ absurd (over_makes_none (b.address n) (actors m.0).mid (over m.0) m.1) ];
+  };
+  plain = wo.ground.plain;
+  number = wo.ground.number;
+  limits = wo.ground.limits;
+  nexts = wo.ground.words;
+}
+
+pub apart_by : (p : Program) (lay : Layout) (w : Words) (g : Graph) (b : Book) (owner : ℕ → Owner) → Ground p lay w g b owner → IsApart p g b
+apart_by p lay w g b owner t = record {
+  apart = λ m n x q r. same_object p lay w g b (λ _. []) 0 owner t m n x q.stands r.stands q.above q.below r.above r.below;
+  inside = λ n x q y. let u = q.above in let v = q.below in elim (t.laid.objects.inside n q.some q.stands) [
+    | inl i ↦ let lo = i.1 in let hi = i.2 in (omega arith, omega arith)
+    | inr i ↦ absurd (let e : Young ≡ Old = sym y ∙ i.0 in cc)
+  ];
+}
+
+pub is_one_order : OneOrder
+is_one_order p lay w g b es actors last opening legal follows =
+    let x = one_by_one p lay es w g b (λ _. []) actors last (at_opening p lay w g b actors opening) legal follows in
+    let v = after w (ticks es) in
+    record {
+      order = x.order;
+      graph = x.graph;
+      book = x.book;
+      explains = x.explains;
+      deciding = x.order_is;
+      apart = apart_by p lay v x.graph x.book x.world.owner x.world.ground;
+      answers = λ k over. let s = x.world.stands k in s.told ∙ ap (map (by_address x.book)) (sym (at_rest p lay v x.graph x.book x.says k (last k) s over).says ∙ x.said_is k);
+      ready = λ k over. ready_at_rest p lay v x.graph x.book x.says k (last k) (x.world.stands k) over;
+      tight = λ k s making e. no_place p lay v x.graph x.book x.says x.world.owner x.world.ground k (last k) (x.world.stands k) s making e;
+      held = held_at_rest p lay v x.graph x.book x.says last x.world;
+    }
+
+-- before any step: the two words at address 0 stand for nothing, and the nursery is the fragment's
+first_owner : Program → ℕ → Owner
+first_owner p = within_range (within_range (λ _. Nobody) 0 2 (Of 0)) nursery_base (nursery_end p) (Frag 0)
+
+module _ (p : Program) (lay : Layout) (w : Words) (kinds : (k : ℕ) → FindKinds first_kinds (script_of p k)) (runnable : (k : ℕ) → AllByRecursion (IsRunnable p) (script_of p k)) (first : IsFirstLayout p lay) (opening : IsOpening w) where
+  nil : (n : ℕ) → (n == 0) ≡ true → n ≡ 0
+  nil n q = eqb-true n 0 q
+
+  owns_nil : (n x : ℕ) → (n == 0) ≡ true → 0 ≤ x → x < 0 + (0 + 2) → first_owner p x ≡ Of n
+  unfolding first_owner
+  owns_nil n x q l m = range-below _ nursery_base (nursery_end p) (Frag 0) x (omega arith) ∙ range-in _ 0 2 (Of 0) x zero-le (omega arith) ∙ ap Of (sym (nil n q))
+
+  owned_nil : (n x : ℕ) → first_owner p x ≡ Of n → ((n == 0) ≡ true) × (0 ≤ x) × (x < 0 + (0 + 2))
+  unfolding first_owner
+  owned_nil n x q = elim (range-was (within_range (λ _. Nobody) 0 2 (Of 0)) nursery_base (nursery_end p) (Frag 0) (Of n) x q) [
+    | inl h ↦ absurd (let e : Of n ≡ Frag 0 = h.0 in cc)
+    | inr e ↦ elim (range-was (λ _. Nobody) 0 2 (Of 0) (Of n) x e) [
+      | inl h ↦ let e : Of n ≡ Of 0 = h.0 in let z : n ≡ 0 = cc in (ap (λ m. m == 0) z, h.1, h.2)
+      | inr e ↦ absurd (let e : Nobody ≡ Of n = e in cc)
+    ]
+  ]
+
+  owns_frag : (f x : ℕ) → f < 1 → nursery_base ≤ x → x < nursery_end p → first_owner p x ≡ Frag f
+  unfolding first_owner
+  owns_frag f x l q r = range-in _ nursery_base (nursery_end p) (Frag 0) x q r ∙ ap Frag (let e : 0 ≡ f = omega arith in e)
+
+  first_heap : IsHeap p w.word (no_objects p) (empty_book p) (first_owner p)
+  first_heap = record {
+    laid = record {
+      nothing = record { stands_nil = refl; at_nil = refl; no_size = refl };
+      objects = record {
+        given = λ n q. let e = nil n q in omega arith;
+        shaped = λ n l q. let e = nil n q in absurd (omega arith);
+        owns = owns_nil;
+        owned = owned_nil;
+        inside = λ n l q. let e = nil n q in absurd (omega arith);
+        filled = (le_refl _, omega arith);
+        packed = λ x l r. absurd (omega arith);
+      };
+      fields = record {
+        holds = λ n i q l. absurd (omega arith);
+        known = λ n i q l. absurd (omega arith);
+        sorted = λ n i q l. absurd (omega arith);
+      };
+      globals = record {
+        holds = λ x l. opening.word _;
+        stand = λ x l. refl;
+        empty = λ x l r. opening.word x;
+      };
+      clear = record { clear = λ x l r none. opening.word x };
+      fragments = record {
+        owns = owns_frag;
+        inside = λ f l. (le_refl _, omega arith, le_refl _);
+        ordered = λ f j l r. absurd (omega arith);
+      };
+      buffers = record {
+        owns = λ k x q r. absurd (omega arith);
+        inside = λ k l. absurd (omega arith);
+      };
+    };
+    headed = λ n l q. let e = nil n q in absurd (omega arith);
+  }
+
+  -- the first epoch of a program
+  pub first_opening : IsEpochOpening p lay w (no_objects p) (empty_book p) (λ k. fresh (script_of p k))
+  first_opening = record {
+    held = record {
+      owner = first_owner p;
+      heap = first_heap;
+      plain = record {
+        links = λ n. refl;
+        registered = refl;
+        ready = refl;
+        pairs = λ n l m. absurd (omega arith);
+      };
+      number = sym first.fragments;
+      limits = λ f l. let e : 0 ≡ f = omega arith in sym first.limit ∙ ap lay.limit e;
+      nexts = λ f l. let e : f ≡ 0 = omega arith in ap w.next e ∙ opening.next;
+    };
+    ready = λ k. record {
+      regs = λ r. record { word_is = refl; stands = refl };
+      stack = tt;
+      script_is = refl;
+      awake = refl;
+      from_is = refl;
+      to_is = refl;
+      kinds = kinds k;
+      runnable = runnable k;
+    };
+    idle = λ k. refl;
+    untold = λ k. refl;
+  }

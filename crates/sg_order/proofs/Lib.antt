@@ -1,0 +1,13 @@
+pub mod Relation
+pub mod Events
+pub mod Frame
+pub mod Cases
+pub mod Moves
+pub mod Loads
+pub mod Registers
+pub mod Accesses
+pub mod Makes
+pub mod Places
+pub mod Whole
+pub mod Law
+pub mod Small

@@ -1,0 +1,185 @@
+-- How the words, and the mutators in mid-statement, stand to the graph, the book and the answers by names.
+use Rattle.std.proofs.Common.{◌≡◌, ◌≢◌, ℕ, ◌+◌, ◌<◌, ◌≤◌, Bool, true, false, Some, List, [], ◌∷◌, ◌++◌, ◌⊎◌, map}
+use Rattle.std.specs.List.{AllByRecursion}
+use Rattle.sg_words.specs.Address.{byte_at}
+use Rattle.sg_words.specs.Words.{put, Words}
+use Rattle.sg_graph.specs.declared.program.Statement.{Statement}
+use Rattle.sg_graph.specs.declared.program.Statement.TheVariants.{New, NewV, Collect}
+use Rattle.sg_graph.specs.declared.program.Program.{Program}
+use Rattle.sg_graph.specs.declared.reports.Answer.{Answer}
+use Rattle.sg_graph.specs.declared.reports.Answer.TheVariants.{At, Nil, Null, Number, Fine, Yes, No, Field, Full}
+use Rattle.sg_desc.specs.Shapes.{has_field}
+use Rattle.sg_graph.specs.Scripts.{kind_of, words_for, IsMaking, made_in, made_class, made_fields, made_words}
+use Rattle.sg_graph.specs.Kinds.{FindKinds}
+use Rattle.sg_graph.specs.Graph.{Entry, Ref, Inner, Graph}
+use Rattle.sg_graph.specs.Statements.{Test, test_of, emptied}
+use Rattle.sg_graph.specs.Book.{Book, IsShort, LacksRoom, word_of}
+use Rattle.sg_graph.specs.Epoch.{Turn, Pairwise, by_address}
+use Rattle.sg_graph.specs.Pause.{IsPlain}
+use Rattle.sg_space.specs.Heap.{Owner, IsHeaded, IsKnown, IsKnownEntry, IsLaid}
+use Rattle.sg_order.specs.Rules.{Layout, Slot, Mid, Idle, TestTag, TestLength, FailTag, FailLength, Access, Look, Claim, StoreLength, StoreTag, HideFits, HideMisses, Ask, Left, Actor}
+use Rattle.sg_order.specs.Rest.{kinds_in, Holds, IsRunnable}
+use Rattle.sg_order.specs.Rest.{Stands as StandsAt}
+
+-- what no mutator's private state enters into: the words hold the graph, and the fragments are the book's
+pub record Ground (p : Program) (lay : Layout) (w : Words) (g : Graph) (b : Book) (owner : ℕ → Owner) : Type 0 where
+  pub laid : IsLaid p w.word g b owner
+  pub plain : IsPlain p g
+  pub number : b.fragments ≡ lay.fragments
+  pub limits : (f : ℕ) → f < b.fragments → b.limit f ≡ lay.limit f
+  pub words : (f : ℕ) → f < b.fragments → w.next f ≡ byte_at (b.next f)
+
+-- the object in this answer stands
+abbrev pub IsGiven : (ℕ → Bool) → Answer → Type 0
+IsGiven stands (At n) = stands n ≡ true
+IsGiven stands Nil = Unit {0}
+IsGiven stands Null = Unit {0}
+IsGiven stands (Number v) = Unit {0}
+IsGiven stands Fine = Unit {0}
+IsGiven stands Yes = Unit {0}
+IsGiven stands No = Unit {0}
+IsGiven stands Field = Unit {0}
+IsGiven stands Full = Unit {0}
+
+abbrev pub AreGiven : (ℕ → Bool) → List Answer → Type 0
+AreGiven stands [] = Unit {0}
+AreGiven stands (answer ∷ said) = IsGiven stands answer × AreGiven stands said
+
+-- mutator k of the graph, and what it has said
+pub record IsMutator (g : Graph) (said : ℕ → List Answer) (k : ℕ) (register : ℕ → Entry) (script : List Statement) (answers : List Answer) : Type 0 where
+  pub register_is : (g.mutator k).register ≡ register
+  pub script_is : (g.mutator k).script ≡ script
+  pub awake : (g.mutator k).ended ≡ false
+  pub says : said k ≡ answers
+
+-- k's buffer and the fragments below f have fewer than n words left
+pub record Tight (b : Book) (k n f : ℕ) : Type 0 where
+  pub short : IsShort b k n
+  pub below : (j : ℕ) → j < f → LacksRoom b n j
+
+-- a statement that asks: a new object, for which neither the buffer nor any fragment has room, or a collection
+abbrev pub IsAsked : Program → Layout → Book → ℕ → Statement → Type 0
+IsAsked p lay b k (New r class) = Tight b k (made_words p (New r class)) lay.fragments
+IsAsked p lay b k (NewV r class count) = Tight b k (made_words p (NewV r class count)) lay.fragments
+IsAsked p lay b k (Collect false) = Unit {0}
+IsAsked p lay b k s = ⊥
+
+-- the tested register holds the object with this name, and it has such a field
+pub record Tested (p : Program) (g : Graph) (entry : ℕ → Entry) (s : Statement) (test : Test) : Type 0 where
+  pub tests : test_of s ≡ Some test
+  pub name : ℕ
+  pub holds : entry test.register ≡ Ref name
+  pub some : name ≢ 0
+  pub finds : has_field test.sort (kind_of p (g.class name)) (g.size name) test.field ≡ true
+
+-- the new object with this name has its place, and mutator k of the graph is ahead: it has its answer
+pub record Placed (p : Program) (g : Graph) (b : Book) (said : ℕ → List Answer) (k : ℕ) (entry : ℕ → Entry) (answers : List Answer) (rest : List Statement) (s : Statement) (x : ℕ) : Type 0 where
+  pub name : ℕ
+  pub some : name ≢ 0
+  pub stands : b.stands name ≡ true
+  pub address : b.address name ≡ x
+  pub size : g.size name ≡ made_fields p s
+  pub class_is : g.class name ≡ made_class s
+  pub ahead : IsMutator g said k (put entry (made_in s) (Ref name)) rest (answers ++ At name ∷ [])
+
+-- the address of a byte of the object in a register is about to be hidden: mutator k of the graph is ahead
+pub record Hidden (g : Graph) (said : ℕ → List Answer) (k : ℕ) (entry : ℕ → Entry) (answers : List Answer) (rest : List Statement) (d s offset : ℕ) : Type 0 where
+  pub name : ℕ
+  pub holds : entry s ≡ Ref name
+  pub some : name ≢ 0
+  pub below : offset < byte_at (words_for (g.size name))
+  pub ahead : IsMutator g said k (put entry d (Inner name offset)) rest (answers ++ Fine ∷ [])
+
+-- The graph's mutator, by where the mutator of the program stands in its statement. From the deciding step on it is ahead.
+abbrev pub AtMid : Program → Layout → Words → Graph → Book → (ℕ → List Answer) → ℕ → (ℕ → Entry) → List Answer → List Statement → Mid → Type 0
+AtMid p lay w g b said k entry answers rest Idle = IsMutator g said k entry rest answers
+AtMid p lay w g b said k entry answers rest (TestTag s test) = Tested p g entry s test × IsMutator g said k entry (s ∷ rest) answers
+AtMid p lay w g b said k entry answers rest (TestLength s test class) = Tested p g entry s test × IsMutator g said k entry (s ∷ rest) answers
+AtMid p lay w g b said k entry answers rest (Access s) = (test : Test) × Tested p g entry s test × IsMutator g said k entry (s ∷ rest) answers
+AtMid p lay w g b said k entry answers rest (FailTag s test) = (test_of s ≡ Some test) × IsMutator g said k (emptied s entry) rest (answers ++ Field ∷ [])
+AtMid p lay w g b said k entry answers rest (FailLength s test class) = (test_of s ≡ Some test) × IsMutator g said k (emptied s entry) rest (answers ++ Field ∷ [])
+AtMid p lay w g b said k entry answers rest (Look s f) =
+    IsMaking s × (f < lay.fragments) × Tight b k (made_words p s) f × IsMutator g said k entry (s ∷ rest) answers
+AtMid p lay w g b said k entry answers rest (Claim s f next) =
+    IsMaking s × (f < lay.fragments) × Tight b k (made_words p s) f × (next + made_words p s ≤ lay.limit f) × IsMutator g said k entry (s ∷ rest) answers
+AtMid p lay w g b said k entry answers rest (StoreLength s x) = Placed p g b said k entry answers rest s x
+AtMid p lay w g b said k entry answers rest (StoreTag s x) = Placed p g b said k entry answers rest s x × (w.word (x + 1) ≡ made_fields p s)
+AtMid p lay w g b said k entry answers rest (HideFits d s offset) = Hidden g said k entry answers rest d s offset
+AtMid p lay w g b said k entry answers rest (HideMisses d s offset) = IsMutator g said k (put entry d (Inner 0 0)) rest (answers ++ Field ∷ [])
+AtMid p lay w g b said k entry answers rest (Ask s) = IsAsked p lay b k s × IsMutator g said k entry (s ∷ rest) answers
+AtMid p lay w g b said k entry answers rest (Left s) = IsAsked p lay b k s × IsMutator g said k entry (s ∷ rest) answers
+
+-- the word and the offset are those of the entry, which is known
+pub record Keeps (w : ℕ → ℕ) (g : Graph) (b : Book) (word offset : ℕ) (entry : Entry) : Type 0 where
+  pub holds : Holds g b word offset entry
+  pub known : IsKnownEntry w g b entry
+
+-- the places of a stack keep these entries
+abbrev pub Stacked : (ℕ → ℕ) → Graph → Book → List Slot → List Entry → Type 0
+Stacked w g b slots entries = Pairwise (λ (slot : Slot) (entry : Entry). Keeps w g b slot.word slot.offset entry) slots entries
+
+pub record Stands (p : Program) (lay : Layout) (w : Words) (g : Graph) (b : Book) (said : ℕ → List Answer) (k : ℕ) (a : Actor) : Type 0 where
+  pub entry : ℕ → Entry
+  pub answers : List Answer
+  pub regs : (r : ℕ) → a.reg r ≡ word_of b.address (entry r)
+  pub known : (r : ℕ) → IsKnownEntry w.word g b (entry r)
+  pub offsets : (r : ℕ) → StandsAt g b (a.offset r) (entry r)
+  pub stack : Stacked w.word g b a.stack (g.mutator k).stack
+  pub told : a.told ≡ map (by_address b) answers
+  pub given : AreGiven b.stands answers
+  pub from_is : a.from ≡ b.from k
+  pub to_is : a.to ≡ b.to k
+  pub at : AtMid p lay w g b said k entry answers a.script a.mid
+  pub fits : FindKinds (kinds_in (g.mutator k)) (g.mutator k).script
+  pub runnable : AllByRecursion (IsRunnable p) (g.mutator k).script
+
+-- what a step of mutator k leaves of what the others rest on
+pub record Later (w : Words) (g : Graph) (b : Book) (said : ℕ → List Answer) (v : Words) (h : Graph) (c : Book) (said' : ℕ → List Answer) (k : ℕ) : Type 0 where
+  pub stands : (n : ℕ) → b.stands n ≡ true → c.stands n ≡ true
+  pub known : (n : ℕ) → IsKnown w.word g b n → IsKnown v.word h c n
+  pub address : (n : ℕ) → b.stands n ≡ true → c.address n ≡ b.address n
+  pub size : (n : ℕ) → b.stands n ≡ true → h.size n ≡ g.size n
+  pub class : (n : ℕ) → b.stands n ≡ true → h.class n ≡ g.class n
+  pub next : (f : ℕ) → b.next f ≤ c.next f
+  pub limit : (f : ℕ) → c.limit f ≡ b.limit f
+  pub length_word : (n : ℕ) → b.stands n ≡ true → n ≢ 0 → w.word (b.address n + 1) ≡ g.size n → v.word (b.address n + 1) ≡ g.size n
+  pub mutator : (j : ℕ) → j ≢ k → h.mutator j ≡ g.mutator j
+  pub says : (j : ℕ) → j ≢ k → said' j ≡ said j
+  pub from : (j : ℕ) → j ≢ k → c.from j ≡ b.from j
+  pub to : (j : ℕ) → j ≢ k → c.to j ≡ b.to j
+
+-- the graph's part of a step: a whole statement at a deciding step, else nothing
+abbrev pub Moves : Program → Graph → Book → (ℕ → List Answer) → ℕ → Bool → Graph → Book → (ℕ → List Answer) → Type 0
+Moves p g b said k true h c said' = (answer : Answer) × Turn p g b (record { by = k; answer = answer }) h c × (said' ≡ put said k (said k ++ answer ∷ []))
+Moves p g b said k false h c said' = (h ≡ g) × (c ≡ b) × (said' ≡ said)
+
+-- the mutator is about to write the header of the new object at x
+abbrev pub IsHeading : ℕ → Mid → Type 0
+IsHeading x (StoreLength s y) = x ≡ y
+IsHeading x (StoreTag s y) = x ≡ y
+IsHeading x mid = ⊥
+
+-- What a step of a mutator leaves to do: what stands new is about to get its header, and what was about to get it has it or is
+-- still about to.
+pub record Heads (w : Words) (g : Graph) (b : Book) (mid : Mid) (v : Words) (h : Graph) (c : Book) (mid' : Mid) : Type 0 where
+  pub begun : (n : ℕ) → c.stands n ≡ true → (b.stands n ≡ true) ⊎ IsHeading (c.address n) mid'
+  pub done : (n : ℕ) → b.stands n ≡ true → IsHeading (b.address n) mid → IsHeaded v.word h c n ⊎ IsHeading (c.address n) mid'
+
+-- what a step of mutator k, which stood at `mid`, gives
+pub record Kept (p : Program) (lay : Layout) (w : Words) (g : Graph) (b : Book) (said : ℕ → List Answer) (k : ℕ) (mid : Mid) (decides : Bool) (v : Words) (a : Actor) : Type 0 where
+  pub h : Graph
+  pub c : Book
+  pub said' : ℕ → List Answer
+  pub owner : ℕ → Owner
+  pub moves : Moves p g b said k decides h c said'
+  pub later : Later w g b said v h c said' k
+  pub heads : Heads w g b mid v h c a.mid
+  pub ground : Ground p lay v h c owner
+  pub stands : Stands p lay v h c said' k a
+
+-- the relation for all mutators: each object is headed, or a mutator is about to write its header
+pub record World (p : Program) (lay : Layout) (w : Words) (g : Graph) (b : Book) (said : ℕ → List Answer) (actors : ℕ → Actor) : Type 0 where
+  pub owner : ℕ → Owner
+  pub ground : Ground p lay w g b owner
+  pub stands : (k : ℕ) → Stands p lay w g b said k (actors k)
+  pub headed : (n : ℕ) → 1 ≤ n → b.stands n ≡ true → IsHeaded w.word g b n ⊎ ((k : ℕ) × IsHeading (b.address n) (actors k).mid)

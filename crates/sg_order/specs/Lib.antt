@@ -1,0 +1,4 @@
+pub mod Rules
+pub mod Opening
+pub mod Rest
+pub mod OneOrder

@@ -1,0 +1,35 @@
+-- The law of one order: what the atomic steps of any number of mutators, in any legal list, say of whole statements.
+use Rattle.std.specs.Prelude.{◌≡◌, ℕ, List, map}
+use Rattle.sg_words.specs.Words.{Words, after, Legal}
+use Rattle.sg_words.specs.Events.{Event, ticks, part, order_of}
+use Rattle.sg_graph.specs.declared.program.Statement.{Statement}
+use Rattle.sg_graph.specs.declared.program.Program.{Program}
+use Rattle.sg_graph.specs.Graph.{Graph}
+use Rattle.sg_graph.specs.Scripts.{IsMaking, made_words}
+use Rattle.sg_graph.specs.Book.{Book, HasNoPlace, IsApart}
+use Rattle.sg_graph.specs.Epoch.{Said, Explains, answers_of, by_address}
+use Rattle.sg_order.specs.Rules.{Layout, Actor, Left, Follows}
+use Rattle.sg_order.specs.Rest.{IsReady, IsHeld, IsEpochOpening, before_it, IsOver}
+
+-- Whole statements, in the order of the deciding steps of the list, lead to a graph and a book; the standing objects are
+-- apart; each mutator that is between two statements or has left has the answers of the graph, read through the book, and
+-- stands where the graph's mutator stands. Who left with a new object had no room in its buffer and in no fragment. Where all
+-- are so, the words hold the graph by the book.
+pub record IsOneOrder (p : Program) (lay : Layout) (w : Words) (g : Graph) (b : Book) (es : List Event) (last : ℕ → Actor) : Type 0 where
+  pub order : List Said
+  pub graph : Graph
+  pub book : Book
+  pub explains : Explains p g b order graph book
+  pub deciding : map (λ (s : Said). s.by) order ≡ order_of es
+  pub apart : IsApart p graph book
+  pub answers : (k : ℕ) → IsOver (last k).mid → (last k).told ≡ map (by_address book) (answers_of k order)
+  pub ready : (k : ℕ) → IsOver (last k).mid → IsReady p graph book k (last k) (before_it (last k).mid (last k).script)
+  pub tight : (k : ℕ) (s : Statement) → IsMaking s → (last k).mid ≡ Left s → HasNoPlace book k (made_words p s)
+  pub held : ((k : ℕ) → IsOver (last k).mid) → IsHeld p lay (after w (ticks es)) graph book
+
+-- every legal list of steps of mutators that follow their programs from an epoch's opening on has one order
+abbrev pub OneOrder : Type 0
+OneOrder =
+    (p : Program) (lay : Layout) (w : Words) (g : Graph) (b : Book) (es : List Event) (actors last : ℕ → Actor) →
+    IsEpochOpening p lay w g b actors → Legal w (ticks es) → ((k : ℕ) → Follows p lay (actors k) (part k es) (last k)) →
+    IsOneOrder p lay w g b es last

@@ -1,0 +1,179 @@
+-- A program that is read from lines of which none isn't run yet: all its statements are run, and it has one mutator at most.
+use Rattle.std.proofs.Common.{◌≡◌, ℕ, ◌≤◌, inl, inr, true, false, cond, Option, Some, List, [], ◌∷◌, ◌++◌, length, take, slice_get, refl, sym, ap, subst, ◌∙◌, arith, append_assoc}
+use Rattle.std.specs.List.{AllByRecursion, count_by}
+use Rattle.std.proofs.lemmas.Bool.{cases_lt}
+use Rattle.std.proofs.lemmas.Grind.{flat_map-append}
+use Rattle.std.proofs.lemmas.List.{append-nil}
+use Rattle.std.proofs.lemmas.List.Sums.{sum_by-cons}
+use Rattle.std.proofs.Math.Seq.{take-append_seam}
+use Rattle.sg_graph.specs.declared.program.Class.{Class}
+use Rattle.sg_graph.specs.declared.program.Statement.{Statement}
+use Rattle.sg_graph.specs.declared.program.Statement.TheVariants.{New, NewV, Mature, GPut, GGet, WSet, WGet, Final, NextFin, Collect, Sections}
+use Rattle.sg_graph.specs.declared.program.Item.{Item}
+use Rattle.sg_graph.specs.declared.program.Script.{Script}
+use Rattle.sg_graph.specs.declared.program.Program.{Program}
+use Rattle.sg_graph.specs.Epoch.{Pairwise}
+use Rattle.sg_graph.specs.Scripts.{shape_at, item_text, written}
+use Rattle.sg_graph.proofs.Items.{text_one, text_repeat}
+use Rattle.sg_parse.specs.Lines.{Maker, AsNew, AsVector, AsMature, made_by, Sentence, Heads, Begins, Repeats, Ends, Makes, Says, IsLine}
+use Rattle.sg_parse.specs.Text.{AreItems, NoItem, OneSays, OneMakes, NoRepeat, OneRepeat, AreScripts, IsClass, IsSetting, IsProgram, StandsFor}
+use Rattle.sg_parse.specs.Faults.{class_in, classes_in, is_begin, IsPairClass, IsLater, Another}
+use Rattle.sg_graph.specs.Limits.{IsRun}
+use Rattle.sg_parse.specs.Names.{IsLaterBy}
+use Rattle.sg_parse.specs.Reading.{HasNoneIn}
+use Rattle.sg_parse.proofs.Naming.{name_of_class}
+use Rattle.sg_parse.proofs.LaterLemmas.{get_front, later_front}
+
+-- ---- lists
+
+get_middle : {A : Type 0} (xs ys : List A) (x : A) → slice_get (xs ++ x ∷ ys) (length xs) ≡ Some x
+get_middle [] ys x = refl
+get_middle (z ∷ zs) ys x = get_middle zs ys x
+
+pub all_append : {A : Type 0} (P : A → Type 0) (xs ys : List A) → AllByRecursion P xs → AllByRecursion P ys → AllByRecursion P (xs ++ ys)
+all_append P [] ys a b = b
+all_append P (x ∷ xs) ys a b = (a.0, all_append P xs ys a.1 b)
+
+pub all_front : {A : Type 0} (P : A → Type 0) (xs ys : List A) → AllByRecursion P (xs ++ ys) → AllByRecursion P xs
+all_front P [] ys h = tt
+all_front P (x ∷ xs) ys h = (h.0, all_front P xs ys h.1)
+
+pub all_back : {A : Type 0} (P : A → Type 0) (xs ys : List A) → AllByRecursion P (xs ++ ys) → AllByRecursion P ys
+all_back P [] ys h = h
+all_back P (x ∷ xs) ys h = all_back P xs ys h.1
+
+pub none_split : (Fault : List Sentence → Sentence → Type 0) (lines before after : List Sentence) (line : Sentence) → HasNoneIn Fault lines → lines ≡ before ++ line ∷ after → ¬ Fault before line
+none_split Fault lines before after line none e fault =
+    let at : slice_get lines (length before) ≡ Some line = rw e (get_middle before after line) in
+    let front : take (length before) lines ≡ before = ap (λ (all : List Sentence). take (length before) all) e ∙ take-append_seam before (line ∷ after) in
+    none (length before) line at (subst (λ (b : List Sentence). Fault b line) (sym front) fault)
+
+-- ---- one statement
+
+-- some words say the sentence
+abbrev pub IsSaid : Sentence → Type 0
+IsSaid line = (words : List (List ℕ)) × IsLine words line
+
+-- the sentence is some line's, and it is run where the classes are these
+abbrev IsFine : Program → Sentence → Type 0
+IsFine p line = IsSaid line × ¬ IsLaterBy p.classes false line
+
+run_says : (p : Program) (s : Statement) → IsFine p (Says s) → IsRun p s
+run_says p (New r class) fine = absurd fine.0.1
+run_says p (NewV r class count) fine = absurd fine.0.1
+run_says p (Mature r class) fine = absurd fine.0.1
+run_says p (GPut g r) fine = absurd (fine.1 tt)
+run_says p (GGet r g) fine = absurd (fine.1 tt)
+run_says p (WSet w r long) fine = absurd (fine.1 tt)
+run_says p (WGet r w) fine = absurd (fine.1 tt)
+run_says p (Final r) fine = absurd (fine.1 tt)
+run_says p (NextFin r) fine = absurd (fine.1 tt)
+run_says p (Collect true) fine = absurd (fine.1 refl)
+run_says p (Collect false) fine = tt
+run_says p Sections fine = absurd (fine.1 tt)
+run_says p s fine = tt
+
+run_makes : (p : Program) (maker : Maker) (r class : ℕ) (name : List ℕ) → StandsFor p.classes name class → IsFine p (Makes maker r name) → IsRun p (made_by maker r class)
+run_makes p AsNew r class name stands fine =
+    let k = name_of_class p.classes class name stands.named in
+    λ pair. fine.1 (class, k.0, k.1, k.2, sym (ap (λ (o : Option Class). (shape_at o).kind) k.1) ∙ pair)
+run_makes p (AsVector count) r class name stands fine = elim (cases_lt 62 count) [ inl wide ↦ absurd (fine.1 wide) | inr few ↦ few ]
+run_makes p AsMature r class name stands fine = absurd (fine.1 tt)
+
+-- ---- the statements of items and of scripts
+
+run_more : (p : Program) (text : List Statement) (item : Item) (items : List Item) → item_text item ≡ text → AllByRecursion (IsRun p) text → AllByRecursion (IsRun p) (written items) → AllByRecursion (IsRun p) (written (item ∷ items))
+run_more p text item items e one rest = all_append (IsRun p) (item_text item) (written items) (rw e one) rest
+
+-- what stands inside a repeat, and behind it
+inside : (p : Program) (first : Sentence) (body rest whole : List Sentence) → whole ≡ first ∷ body ++ Ends ∷ rest → AllByRecursion (IsFine p) whole → AllByRecursion (IsFine p) body × AllByRecursion (IsFine p) rest
+inside p first body rest whole e fine =
+    let all : AllByRecursion (IsFine p) (first ∷ body ++ Ends ∷ rest) = subst (AllByRecursion (IsFine p)) e fine in
+    (all_front (IsFine p) body (Ends ∷ rest) all.1, (all_back (IsFine p) body (Ends ∷ rest) all.1).1)
+
+run_items : (p : Program) (lines : List Sentence) (items : List Item) → AreItems (StandsFor p.classes) lines items → AllByRecursion (IsFine p) lines → AllByRecursion (IsRun p) (written items)
+run_items p lines items NoItem fine = tt
+run_items p lines items (OneSays s rest item more out h) fine = run_more p (s ∷ []) item more (text_one item s out) (run_says p s fine.0, tt) (run_items p rest more h fine.1)
+run_items p lines items (OneMakes maker r class name rest item more stands out h) fine =
+    run_more p (made_by maker r class ∷ []) item more (text_one item (made_by maker r class) out) (run_makes p maker r class name stands fine.0, tt) (run_items p rest more h fine.1)
+run_items p lines items (NoRepeat times body rest whole more e b h) fine = run_items p rest more h (inside p (Repeats times) body rest whole e fine).1
+run_items p lines items (OneRepeat times body rest whole item inner more e b some out h) fine =
+    let parts = inside p (Repeats times) body rest whole e fine in
+    run_more p (written inner) item more (text_repeat item times inner out) (run_items p body inner b parts.0) (run_items p rest more h parts.1)
+
+run_scripts : (p : Program) (lines : List Sentence) (scripts : List Script) → AreScripts (StandsFor p.classes) lines scripts → AllByRecursion (IsFine p) lines
+    → AllByRecursion (λ (script : Script). AllByRecursion (IsRun p) (written script.items)) scripts
+run_scripts p lines [] h fine = tt
+run_scripts p lines (script ∷ scripts) h fine =
+    let parts = inside p Begins h.0 h.1 lines h.2 fine in
+    (run_items p h.0 script.items h.3 parts.0, run_scripts p h.1 scripts h.4 parts.1)
+
+-- ---- the lines behind the classes
+
+settings_no_class : (lines : List Sentence) → AllByRecursion IsSetting lines → classes_in lines ≡ []
+settings_no_class [] h = refl
+settings_no_class (line ∷ lines) h = ap (λ (l : Sentence). classes_in (l ∷ lines)) h.0.2 ∙ settings_no_class lines h.1
+
+classes_of_lines : (lines : List Sentence) (classes : List Class) → Pairwise IsClass lines classes → classes_in lines ≡ classes
+classes_of_lines [] [] h = refl
+classes_of_lines [] (c ∷ cs) h = absurd h
+classes_of_lines (line ∷ lines) [] h = absurd h
+classes_of_lines (line ∷ lines) (c ∷ cs) h = ap (λ (l : Sentence). classes_in (l ∷ lines)) h.0 ∙ ap (λ (more : List Class). c ∷ more) (classes_of_lines lines cs h.1)
+
+-- the lines before the scripts
+abbrev pub head_of : List Sentence → List Sentence → List Sentence
+head_of settings classes = Heads ∷ settings ++ classes
+
+pub classes_of_head : (settings classes : List Sentence) (cs : List Class) → AllByRecursion IsSetting settings → Pairwise IsClass classes cs → classes_in (head_of settings classes) ≡ cs
+classes_of_head settings classes cs are_settings are_classes =
+    flat_map-append class_in settings classes ∙ ap (λ (more : List Class). more ++ classes_in classes) (settings_no_class settings are_settings) ∙ classes_of_lines classes cs are_classes
+
+fine_from : (p : Program) (lines before after : List Sentence) → HasNoneIn IsLater lines → AllByRecursion IsSaid after → lines ≡ before ++ after → (more : List Class) → classes_in before ≡ p.classes ++ more → AllByRecursion (IsFine p) after
+fine_from p lines before [] none said e more classes = tt
+fine_from p lines before (line ∷ after) none said e more classes =
+    let later = none_split IsLater lines before after line none e in
+    let pairs : (name : List ℕ) → IsPairClass p.classes name → IsPairClass (classes_in before) name = λ name pair. (pair.0, pair.1, rw classes (get_front p.classes more pair.1 pair.0 pair.2), pair.3, pair.4) in (
+      (said.0, λ h. later (later_front before p.classes line pairs h)),
+      fine_from p lines (before ++ line ∷ []) after none said.1 (e ∙ sym (append_assoc before (line ∷ []) after)) (more ++ classes_in (line ∷ []))
+          (flat_map-append class_in before (line ∷ []) ∙ ap (λ (cs : List Class). cs ++ classes_in (line ∷ [])) classes ∙ append_assoc p.classes more (classes_in (line ∷ []))),
+    )
+
+-- ---- how many mutators there are
+
+abbrev begins : Sentence → ℕ
+begins line = cond (is_begin line) 1 0
+
+begins_at : (before after : List Sentence) → 1 ≤ count_by is_begin (before ++ Begins ∷ after)
+begins_at [] after = omega (arith, sum_by-cons begins Begins after)
+begins_at (line ∷ before) after = omega (arith, begins_at before after, sum_by-cons begins line (before ++ Begins ∷ after))
+
+-- a second mutator would be another one
+alone : (names : List ℕ → ℕ → Type 0) (lines before scripts : List Sentence) (mutators : List Script) → lines ≡ before ++ scripts → AreScripts names scripts mutators → HasNoneIn IsLater lines → length mutators ≤ 1
+alone names lines before scripts [] e h none = omega arith
+alone names lines before scripts (one ∷ []) e h none = omega arith
+alone names lines before scripts (one ∷ two ∷ more) e h none =
+    let body = h.0 in
+    let rest = h.1 in
+    let second = h.4 in
+    let front : List Sentence = before ++ (Begins ∷ body ++ Ends ∷ []) in
+    let after : List Sentence = second.0 ++ Ends ∷ second.1 in
+    let begun : 1 ≤ count_by is_begin front = begins_at before (body ++ Ends ∷ []) in
+    let whole : lines ≡ front ++ Begins ∷ after =
+    e ∙ ap (λ (l : List Sentence). before ++ l) (h.2 ∙ ap (λ (l : List Sentence). Begins ∷ body ++ Ends ∷ l) second.2 ∙ sym (append_assoc (Begins ∷ body) (Ends ∷ []) (Begins ∷ after))) ∙ sym (append_assoc before (Begins ∷ body ++ Ends ∷ []) (Begins ∷ after)) in
+    absurd (none_split IsLater lines front after Begins none whole (Another begun))
+
+pub said_each : (words : List (List (List ℕ))) (lines : List Sentence) → Pairwise IsLine words lines → AllByRecursion IsSaid lines
+said_each [] [] h = tt
+said_each [] (line ∷ lines) h = absurd h
+said_each (w ∷ ws) [] h = absurd h
+said_each (w ∷ ws) (line ∷ lines) h = ((w, h.0), said_each ws lines h.1)
+
+-- The sentences have to be those of lines: no line says a statement that makes an object of a class by its number.
+pub run_now : (lines : List Sentence) (p : Program) → IsProgram (StandsFor p.classes) lines p → AllByRecursion IsSaid lines → HasNoneIn IsLater lines
+    → AllByRecursion (λ (script : Script). AllByRecursion (IsRun p) (written script.items)) p.mutators × (length p.mutators ≤ 1)
+run_now lines p program said none =
+    let before : List Sentence = head_of program.settings program.classes in
+    let told : AllByRecursion IsSaid (before ++ program.scripts) = subst (AllByRecursion IsSaid) program.in_order said in
+    let classes : classes_in before ≡ p.classes ++ [] = classes_of_head program.settings program.classes p.classes program.are_settings.settings program.are_classes ∙ sym (append-nil p.classes) in
+    let fine = fine_from p lines before program.scripts none (all_back IsSaid before program.scripts told) program.in_order [] classes in
+    (run_scripts p program.scripts p.mutators program.are_scripts fine, alone (StandsFor p.classes) lines before program.scripts p.mutators program.in_order program.are_scripts none)

@@ -1,0 +1,142 @@
+-- What the steps of the building answer: statements of lines, items of bodies, scripts, settings, classes, and the whole.
+use Rattle.std.specs.Prelude.{◌≡◌, ℕ, suc, ◌+◌, ◌<◌, ◌≤◌, ◌==◌, Option, Some, None, if◌then◌else◌, List, [], ◌∷◌, ◌++◌, length, take, slice_get}
+use Rattle.std.specs.List.{AllByRecursion, sum_by, count_by, fold}
+use Rattle.sg_graph.specs.declared.program.Config.{Config}
+use Rattle.sg_graph.specs.declared.program.Class.{Class}
+use Rattle.sg_graph.specs.declared.program.Statement.{Statement}
+use Rattle.sg_graph.specs.declared.program.Statement.TheVariants.{GPut, GGet, WSet, WGet}
+use Rattle.sg_graph.specs.declared.program.Item.{Item}
+use Rattle.sg_graph.specs.declared.program.Script.{Script}
+use Rattle.sg_graph.specs.Scripts.{is_final, written_out}
+use Rattle.sg_graph.specs.Limits.{MayHave, IsWithinLimits}
+use Rattle.sg_parse.specs.declared.refusal.Which.{Which}
+use Rattle.sg_parse.specs.declared.refusal.Which.TheVariants.{Statements, Finals}
+use Rattle.sg_parse.specs.declared.scripts.Body.{Body}
+use Rattle.sg_parse.specs.declared.scripts.Scripts.{Scripts}
+use Rattle.sg_parse.specs.declared.scripts.Scripts.TheVariants.{Read, Heavy}
+use Rattle.sg_parse.specs.declared.build.Built.{Built}
+use Rattle.sg_parse.specs.declared.build.Built.TheVariants.{Program as Made, Over, NoMutator}
+use Rattle.sg_parse.specs.Lines.{AsVector, made_by, Sentence, Sets, Declares, Begins, Repeats, Ends, Makes, Says, IsLine}
+use Rattle.sg_parse.specs.Text.{AreItems, AreScripts, IsProgram, StandsFor}
+use Rattle.sg_parse.specs.Faults.{BreaksFirst, BreaksSome}
+use Rattle.sg_parse.specs.Reading.{IsFirstIn, HasNoneIn}
+
+-- the numbers of the line fit the fields of a program
+abbrev pub HasSmallPlace : Statement → Type 0
+HasSmallPlace (GPut g r) = g ≤ 63
+HasSmallPlace (GGet r g) = g ≤ 63
+HasSmallPlace (WSet w r long) = w ≤ 63
+HasSmallPlace (WGet r w) = w ≤ 63
+HasSmallPlace s = Unit {0}
+
+abbrev pub IsSmall : Sentence → Type 0
+IsSmall (Sets at n) = at < 6 → n ≤ 65536
+IsSmall (Declares name shape) = MayHave shape.kind shape.fields
+IsSmall (Repeats times) = times ≤ 1048576
+IsSmall (Makes (AsVector count) r name) = count ≤ 131070
+IsSmall (Says s) = HasSmallPlace s
+IsSmall line = Unit {0}
+
+-- there are few enough classes, and all numbers of the lines are small enough
+abbrev pub AreSmall : List Class → List Sentence → Type 0
+AreSmall classes lines = (length classes ≤ 256) × AllByRecursion IsSmall lines
+
+-- the statement of a line, where it has one
+abbrev pub IsStatement : List Class → Sentence → Option Statement → Type 0
+IsStatement classes (Says s) o = HasSmallPlace s → o ≡ Some s
+IsStatement classes (Makes maker r name) o = (c : ℕ) → length classes ≤ 256 → IsSmall (Makes maker r name) → StandsFor classes name c → o ≡ Some (made_by maker r c)
+IsStatement classes line o = Unit {0}
+
+-- Where the lines, with what follows them, begin with the body of a mutator or a repeat and with its end: these are the body's items,
+-- and so many lines they are, with the end; or the body doesn't end within the lines.
+abbrev pub IsBody : List Class → List Sentence → Option Body → Type 0
+IsBody classes lines (Some b) =
+    (more body rest : List Sentence) (items : List Item) → AreSmall classes lines → lines ++ more ≡ body ++ Ends ∷ rest → AreItems (StandsFor classes) body items →
+    (b.items ≡ items) × (b.lines ≡ suc (length body))
+IsBody classes lines None =
+    (more body rest : List Sentence) (items : List Item) → AreSmall classes lines → lines ++ more ≡ body ++ Ends ∷ rest → AreItems (StandsFor classes) body items →
+    length lines ≤ length body
+
+abbrev pub total_of : List Script → ℕ
+total_of scripts = sum_by (λ (script : Script). length (written_out script.items)) scripts
+
+abbrev pub finals_of : List Script → ℕ
+finals_of scripts = sum_by (λ (script : Script). count_by is_final (written_out script.items)) scripts
+
+-- The first scripts of these are `scripts`, which keep the limits of what is counted; the next script, if there is one, doesn't end
+-- before line `until`.
+pub record AreFront (classes : List Class) (lines : List Sentence) (all scripts : List Script) (until : ℕ) : Type 0 where
+  pub done : List Sentence
+  pub todo : List Sentence
+  pub left : List Script
+  pub parts : lines ≡ done ++ todo
+  pub first : AreScripts (StandsFor classes) done scripts
+  pub rest : AreScripts (StandsFor classes) todo left
+  pub whole : all ≡ scripts ++ left
+  pub statements : total_of scripts ≤ 1048576
+  pub finals : finals_of scripts ≤ 1024
+  pub next : (body tail : List Sentence) (items : List Item) → todo ≡ Begins ∷ body ++ Ends ∷ tail → AreItems (StandsFor classes) body items →
+      until ≤ length done + (length body + 1)
+
+-- the limit of what is counted that these scripts break
+abbrev pub IsTooMuch : Which → List Script → Type 0
+IsTooMuch Statements scripts = 1048576 < total_of scripts
+IsTooMuch Finals scripts = (total_of scripts ≤ 1048576) × (1024 < finals_of scripts)
+IsTooMuch which scripts = ⊥
+
+-- the script behind the first ones ends at this line, and with it this limit is broken
+pub record IsHeavy (classes : List Class) (lines : List Sentence) (all : List Script) (index : ℕ) (which : Which) : Type 0 where
+  pub scripts : List Script
+  pub front : AreFront classes lines all scripts index
+  pub body : List Sentence
+  pub tail : List Sentence
+  pub script : Script
+  pub here : front.todo ≡ Begins ∷ body ++ Ends ∷ tail
+  pub items : AreItems (StandsFor classes) body script.items
+  pub at : index ≡ length front.done + (length body + 1)
+  pub much : IsTooMuch which (scripts ++ script ∷ [])
+
+-- the scripts that end within the lines
+abbrev pub AreRead : List Class → List Sentence → Scripts → Type 0
+AreRead classes lines (Read scripts) =
+    (more : List Sentence) (all : List Script) → AreSmall classes lines → AreScripts (StandsFor classes) (lines ++ more) all →
+    AreFront classes (lines ++ more) all scripts (length lines)
+AreRead classes lines (Heavy index which) =
+    (more : List Sentence) (all : List Script) → AreSmall classes lines → AreScripts (StandsFor classes) (lines ++ more) all →
+    (index < length lines) × IsHeavy classes (lines ++ more) all index which
+
+-- the line that is told is one of the first n
+abbrev pub IsToldWithin : ℕ → Scripts → Type 0
+IsToldWithin n (Read scripts) = Unit {0}
+IsToldWithin n (Heavy index which) = index < n
+
+-- the settings after a line, and after lines
+abbrev pub config_with : Config → Sentence → Config
+config_with c (Sets at n) =
+    if at == 0 then record c { nursery = n }
+    else if at == 1 then record c { blocks = n }
+    else if at == 2 then record c { pages = n }
+    else if at == 3 then record c { buffer = n }
+    else if at == 4 then record c { workers = n }
+    else if at == 5 then record c { cement = n }
+    else c
+config_with c line = c
+
+abbrev pub first_config : Config
+first_config = record { nursery = 4096; blocks = 64; pages = 64; buffer = 64; workers = 1; cement = 4 }
+
+abbrev pub config_of : List Sentence → Config
+config_of lines = fold config_with first_config lines
+
+-- each sentence is that of some line
+abbrev pub AreLines : List Sentence → Type 0
+AreLines sentences = AllByRecursion (λ sentence. (words : List (List ℕ)) × IsLine words sentence) sentences
+
+-- The program of the sentences, which is within the limits; or the first line that breaks a limit, and the first limit that it
+-- breaks; or no line does, and there is no mutator.
+abbrev pub IsBuilt : List Sentence → Built → Type 0
+IsBuilt lines (Made p) =
+    IsProgram (StandsFor p.classes) lines p × HasNoneIn BreaksSome lines × IsWithinLimits p × ((j : ℕ) × (slice_get lines j ≡ Some Begins))
+IsBuilt lines (Over index which) =
+    IsFirstIn BreaksSome lines index × ((line : Sentence) × (slice_get lines index ≡ Some line) × BreaksFirst which (take index lines) line)
+IsBuilt lines NoMutator = HasNoneIn BreaksSome lines × ((j : ℕ) → ¬ (slice_get lines j ≡ Some Begins))

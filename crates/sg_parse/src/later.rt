@@ -1,0 +1,176 @@
+//! What is of the language and isn't run yet.
+ghost use Rattle.std.specs.Prelude.{◌≡◌, ◌↔◌, ℕ, IsTrue, true, false, map, IfSome, IfNone};
+ghost use Rattle.std.specs.List.{count_by};
+ghost use Rattle.sg_desc.specs.declared.shapes.Descriptor.TheVariants.{Ephemeron};
+ghost use Rattle.sg_parse.specs.Faults.{is_begin, classes_in, IsLater, IsMisnamed, IsPairClass};
+ghost use Rattle.sg_parse.specs.Names.{classes_of, AreNames, IsMadeLater, IsDoneLater, IsLaterBy};
+ghost use Rattle.sg_parse.specs.Reading.{maker_of, shape_in, sentence_of, HasNoneIn, IsFirstIn};
+
+use crate::line::{Form, Line, Maker};
+use crate::names::Names;
+use sg_graph::Statement;
+
+/// Whether a class of this form is one of pairs.
+fn has_pairs(form: &Form<'_>) -> bool
+    ensures { IsTrue result ↔ ((shape_in form.now).kind ≡ Ephemeron) }
+{
+    match form {
+        Form::Pair => true,
+        Form::Plain { .. } | Form::Run { .. } | Form::Map { .. } | Form::Refs | Form::Words => {
+            false
+        }
+    }
+}
+
+/// Whether the class of this name is one of pairs.
+fn is_pair(names: &Names<'_>, name: &[u8]) -> bool
+    ensures { IsTrue result ↔ IsPairClass (classes_of names.now) name.now }
+{
+    match names.form(name) {
+        Some(form) => has_pairs(&form),
+        None => false,
+    }
+}
+
+/// Whether a line that makes an object so isn't run yet.
+fn is_made_later(maker: &Maker, name: &[u8], names: &Names<'_>) -> bool
+    ensures { IsTrue result ↔ IsMadeLater (classes_of names.now) (maker_of maker.now) name.now }
+{
+    match maker {
+        Maker::Fixed => is_pair(names, name),
+        Maker::Vector { count } => *count > 62,
+        Maker::Mature => true,
+    }
+}
+
+/// Whether a statement that names no class isn't run yet.
+fn is_done_later(statement: &Statement) -> bool
+    ensures { IsTrue result ↔ IsDoneLater statement.now }
+{
+    match statement {
+        Statement::GPut { .. }
+        | Statement::GGet { .. }
+        | Statement::WSet { .. }
+        | Statement::WGet { .. }
+        | Statement::Final { .. }
+        | Statement::NextFin { .. }
+        | Statement::Sections => true,
+        Statement::Collect { major } => *major,
+        _ => false,
+    }
+}
+
+/// Whether the line isn't run yet; `begun` says whether one above it begins a mutator.
+fn is_later(line: &Line<'_>, names: &Names<'_>, begun: bool) -> bool
+    ensures { IsTrue result ↔ IsLaterBy (classes_of names.now) begun (sentence_of line.now) }
+{
+    match line {
+        Line::Mutator => begun,
+        Line::Make { maker, name, .. } => is_made_later(maker, *name, names),
+        Line::At { .. } => true,
+        Line::Do(statement) => is_done_later(statement),
+        _ => false,
+    }
+}
+
+/// Whether the line begins a mutator.
+fn is_begin(line: &Line<'_>) -> bool
+    ensures { result ≡ is_begin (sentence_of line.now) }
+{
+    match line {
+        Line::Mutator => true,
+        _ => false,
+    }
+}
+
+/// The first line that isn't run yet.
+pub(crate) fn later(lines: &[Line<'_>], names: &Names<'_>) -> Option<usize>
+    requires names { AreNames names.now (classes_in (map sentence_of lines.now)) }
+    requires named { HasNoneIn IsMisnamed (map sentence_of lines.now) }
+    ensures found { IfSome result (IsFirstIn IsLater (map sentence_of lines.now)) }
+    ensures none { IfNone result (HasNoneIn IsLater (map sentence_of lines.now)) }
+{
+    let mut begun = false;
+    for (index, line) in lines.iter().enumerate() {
+        if is_later(line, names, begun) {
+            return Some(index);
+        }
+        begun = begun | is_begin(line);
+    }
+    None
+}
+
+#[cfg(test)]
+mod tests {
+    use super::*;
+    use crate::names::{Named, name_classes};
+    use std::alloc::{AllocError, Global};
+
+    // The first line that misnames a class, or else the first one that isn't run yet.
+    fn told(
+        alloc: Global,
+        lines: &[Line<'_>],
+    ) -> Result<(Option<usize>, Option<usize>), AllocError> {
+        match name_classes(alloc, lines)? {
+            Named::Misnamed { index } => Ok((Some(index), None)),
+            Named::Classes(names) => Ok((None, later(lines, &names))),
+        }
+    }
+
+    fn make(maker: Maker, name: &[u8]) -> Line<'_> {
+        Line::Make { maker, r: 0, name }
+    }
+
+    #[test]
+    fn first_lines_that_are_refused(rt: HostRuntime) -> Result<(), AllocError> {
+        let plain = Line::Class {
+            name: b"a",
+            form: Form::Plain { fields: 3 },
+        };
+        let refs = Line::Class {
+            name: b"v",
+            form: Form::Refs,
+        };
+        let pair = Line::Class {
+            name: b"p",
+            form: Form::Pair,
+        };
+        let fixed = make(Maker::Fixed, b"a");
+        let vector = make(Maker::Vector { count: 62 }, b"v");
+        let wide = make(Maker::Vector { count: 63 }, b"v");
+        let major = Line::Do(Statement::Collect { major: true });
+        let minor = Line::Do(Statement::Collect { major: false });
+        let begin = Line::Mutator;
+        let table = [
+            (
+                &[plain, refs, pair, begin, fixed, vector, minor][..],
+                None,
+                None,
+            ),
+            (&[plain, refs, plain, refs], Some(2), None),
+            (&[begin, fixed, plain], Some(1), None),
+            (
+                &[plain, begin, make(Maker::Vector { count: 1 }, b"a")],
+                Some(2),
+                None,
+            ),
+            (&[refs, begin, make(Maker::Mature, b"v")], Some(2), None),
+            (
+                &[pair, begin, make(Maker::Fixed, b"p"), major],
+                None,
+                Some(2),
+            ),
+            (
+                &[plain, begin, make(Maker::Mature, b"a"), major],
+                None,
+                Some(2),
+            ),
+            (&[refs, begin, vector, wide, major], None, Some(3)),
+            (&[begin, minor, Line::End, begin, major], None, Some(3)),
+        ];
+        for (lines, misnamed, late) in table {
+            assert!(rt; told(rt.alloc(), lines)? == (misnamed, late));
+        }
+        Ok(())
+    }
+}

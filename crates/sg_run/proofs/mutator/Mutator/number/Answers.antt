@@ -1,7 +1,0 @@
-use Rattle.std.proofs.Common.{[]}
-use Rattle.sg_run.specs.Views.{actor_of}
-use Rattle.sg_run.proofs.Steps.{went_num}
-use Rattle.sg_run.proofs.mutator.Mutator.number.Goals as goal
-
-pub returns-clause-went : goal.returns-clause-went
-returns-clause-went c p lay w rest going = went_num p lay (actor_of c.args.self.now []) rest w going c.args.d c.args.n _ (c.tell.ensures.told rest)

@@ -1,0 +1,18 @@
+-- How a run stops early, and what was taken of its text then.
+use Rattle.std.specs.Prelude.{ℕ, Option, List, ◌++◌}
+use Rattle.sg_io.specs.Faults.{Rose}
+use Rattle.sg_io.specs.Progress.{TakesSome}
+use Rattle.sg_graph.specs.declared.program.Program.{Program}
+use Rattle.sg_graph.specs.Run.{Phase, IsRun}
+use Rattle.sg_graph.specs.Trace.{text}
+use Rattle.sg_run.specs.declared.execution.RunError.{RunError}
+use Rattle.sg_run.specs.declared.execution.RunError.TheVariants.{Sink, Memory}
+
+-- a run stops early where the sink's faults rose, or for want of memory
+abbrev pub StopsRunning : RunError → ℕ → ℕ → Type 0
+StopsRunning Sink before now = Rose before now
+StopsRunning Memory before now = Unit {0}
+
+-- behind these phases the run went on as far as some more, possibly none, and a front of the text of those was taken
+abbrev pub BreaksOff : Program → List Phase → Option (List ℕ) → Option (List ℕ) → Type 0
+BreaksOff p phases old new = (more : List Phase) × IsRun p (phases ++ more) × TakesSome old new (text more)
