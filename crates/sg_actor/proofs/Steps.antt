@@ -4,7 +4,7 @@ use Rattle.std.proofs.Math.Path.{fun_ext}
 use Rattle.std.proofs.lemmas.List.{map-append, reverse-append}
 use Rattle.std.proofs.lemmas.Bool.{cases_eq, cases_lt, true≢false}
 use Rattle.sg_words.specs.Address.{byte_at, word_at}
-use Rattle.sg_words.specs.Tags.{plain_word, Reads}
+use Rattle.sg_words.specs.Tags.{plain_word, ReadsTag}
 use Rattle.sg_words.specs.declared.tags.Tag.{Tag}
 use Rattle.sg_words.specs.declared.tags.Tag.TheVariants.{Plain, Forwarded, Pinned, Cemented}
 use Rattle.sg_words.specs.declared.steps.Place.TheVariants.{Stop, Next, Word}
@@ -12,16 +12,16 @@ use Rattle.sg_words.specs.declared.steps.Step.{Step}
 use Rattle.sg_words.specs.declared.steps.Step.TheVariants.{Begin, Load, Store}
 use Rattle.sg_words.specs.declared.steps.Tick.{Tick}
 use Rattle.sg_words.specs.Words.{put, Words, write, Saw, after_step, after, Legal}
-use Rattle.sg_graph.specs.declared.program.Program.{Program}
-use Rattle.sg_graph.specs.declared.program.Statement.{Statement}
-use Rattle.sg_graph.specs.declared.program.Statement.TheVariants.{New, NewV, Put, Get, PutD, GetD, Hide, Collect}
-use Rattle.sg_graph.specs.declared.reports.Answer.TheVariants.{At, Null, Number, Fine, Yes, No, Field}
-use Rattle.sg_graph.specs.declared.reports.Request.TheVariants.{Need}
-use Rattle.sg_graph.specs.Scripts.{words_for, IsMaking, made_in, made_class, made_fields, made_words}
-use Rattle.sg_graph.specs.Statements.{Test, test_of}
+use Rattle.sg_program.specs.declared.program.Program.{Program}
+use Rattle.sg_program.specs.declared.program.Statement.{Statement}
+use Rattle.sg_program.specs.declared.program.Statement.TheVariants.{New, NewV, Put, Get, PutD, GetD, Hide, Collect}
+use Rattle.sg_program.specs.declared.answers.Answer.TheVariants.{At, Null, Number, Fine, Yes, No, Field}
+use Rattle.sg_program.specs.declared.answers.Request.TheVariants.{Need}
+use Rattle.sg_program.specs.Scripts.{words_for, IsMaking, made_in, made_class, made_fields, made_words}
+use Rattle.sg_program.specs.Tests.{Test, test_of}
 use Rattle.sg_space.specs.Space.{Contents, words_of}
-use Rattle.sg_order.specs.Rules.{Layout, Actor, Access, Look, Claim, StoreLength, Ask, Left, before, within, over, over_with, owning, cleared, hides_none, reference_answer, taken, object_in, unhidden, Comes, Follows, Went}
-use Rattle.sg_order.specs.Rules.Comes.{test_null, test_begins, test_fails, loads_tag, loads_length, fails_tag, fails_length, put_stores, putd_stores, get_loads, getd_loads, hide_begins, hide_fails, hide_fits, hide_misses, new_bumps, new_looks, new_asks, minor_asks, asks, look_finds, look_goes_on, look_ends, claim_wins, stores_length, stores_tag}
+use Rattle.sg_rules.specs.Rules.{Layout, Actor, Access, Look, Claim, StoreLength, Ask, Left, before, within, over, over_with, owning, cleared, hides_none, reference_answer, taken, object_in, unhidden, Comes, Follows, Went}
+use Rattle.sg_rules.specs.Rules.Comes.{test_null, test_begins, test_fails, loads_tag, loads_length, fails_tag, fails_length, put_stores, putd_stores, get_loads, getd_loads, hide_begins, hide_fails, hide_fits, hide_misses, new_bumps, new_looks, new_asks, minor_asks, asks, look_finds, look_goes_on, look_ends, claim_wins, stores_length, stores_tag}
 use Rattle.sg_actor.specs.declared.mutator.Held.{Held}
 use Rattle.sg_actor.specs.Views.{layout_of, slot_of, IsRequestOf, class_at, IsMeasured, LacksWords, LooksFrom, Searches}
 use Rattle.sg_words.proofs.Puts.{put-at, put-other}
@@ -41,14 +41,14 @@ is_plain (Some (Pinned c)) = false
 is_plain (Some (Cemented c)) = false
 
 -- what reads the word of a plain object is its plain tag
-plain_read : (o : Option Tag) (word class : ℕ) → class < 256 → plain_word class ≡ word → Reads o word → is_plain o ≡ true
+plain_read : (o : Option Tag) (word class : ℕ) → class < 256 → plain_word class ≡ word → ReadsTag o word → is_plain o ≡ true
 plain_read None word class l e r = absurd (r (Plain class) l e)
 plain_read (Some (Plain c)) word class l e r = refl
 plain_read (Some (Forwarded a)) word class l e r = absurd (omega (arith, r.0, r.1, e))
 plain_read (Some (Pinned c)) word class l e r = absurd (omega (arith, r.1, e))
 plain_read (Some (Cemented c)) word class l e r = absurd (omega (arith, r.1, e))
 
-module _ (o : Option Tag) (word class : ℕ) (l : class < 256) (e : plain_word class ≡ word) (r : Reads o word) where
+module _ (o : Option Tag) (word class : ℕ) (l : class < 256) (e : plain_word class ≡ word) (r : ReadsTag o word) where
   pub not_no_tag : o ≡ None → ⊥
   not_no_tag q = let p = plain_read o word class l e r in true≢false (sym p ∙ ap is_plain q)
 

@@ -1,6 +1,6 @@
 -- The statements that need no step on a word, but for the load of an object's length.
-use Rattle.sg_graph.specs.declared.program.Statement.{Statement}
-use Rattle.sg_graph.specs.declared.program.Statement.TheVariants.{Num, Move, Hide, Unhide, Drop, Push, Pop, Same}
+use Rattle.sg_program.specs.declared.program.Statement.{Statement}
+use Rattle.sg_program.specs.declared.program.Statement.TheVariants.{Num, Move, Hide, Unhide, Drop, Push, Pop, Same}
 
 abbrev pub IsDirect : Statement → Type 0
 IsDirect (Num d n) = Unit {0}

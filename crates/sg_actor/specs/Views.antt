@@ -3,23 +3,22 @@ use Rattle.std.specs.Prelude.{◌≡◌, ◌≢◌, ℕ, ◌+◌, ◌/◌, ◌-�
 use Rattle.sg_words.specs.Address.{IsAddress, byte_at, word_at}
 use Rattle.sg_words.specs.Tags.{plain_word}
 use Rattle.sg_words.specs.Words.{put, Words}
-use Rattle.sg_graph.specs.declared.program.Program.{Program}
-use Rattle.sg_graph.specs.declared.program.Statement.{Statement}
-use Rattle.sg_graph.specs.declared.program.Statement.TheVariants.{New, NewV, Put, Get, PutD, GetD, Num, Move, Hide, Unhide, Drop, Push, Pop, Same, Collect}
-use Rattle.sg_graph.specs.declared.reports.Answer.TheVariants.{At}
-use Rattle.sg_graph.specs.declared.reports.Request.{Request}
-use Rattle.sg_graph.specs.declared.reports.Request.TheVariants.{Need, Minor}
+use Rattle.sg_program.specs.declared.program.Program.{Program}
+use Rattle.sg_program.specs.declared.program.Statement.{Statement}
+use Rattle.sg_program.specs.declared.program.Statement.TheVariants.{New, NewV, Put, Get, PutD, GetD, Num, Move, Hide, Unhide, Drop, Push, Pop, Same, Collect}
+use Rattle.sg_program.specs.declared.answers.Answer.TheVariants.{At}
+use Rattle.sg_program.specs.declared.answers.Request.{Request}
+use Rattle.sg_program.specs.declared.answers.Request.TheVariants.{Need, Minor}
 use Rattle.sg_desc.specs.Shapes.{Sort, Reference, Plain, has_field}
-use Rattle.sg_graph.specs.Scripts.{kind_of, words_for, IsMaking, made_in, made_class, made_fields, made_words}
-use Rattle.sg_graph.specs.Book.{nursery_base}
-use Rattle.sg_space.specs.declared.layout.Layout.{Layout as Sections}
-use Rattle.sg_space.specs.Sections.{old_base, words_end, IsInSection}
+use Rattle.sg_program.specs.Scripts.{kind_of, words_for, IsMaking, made_in, made_class, made_fields, made_words}
+use Rattle.sg_words.specs.Sections.{nursery_base, old_base, words_end, IsInSection}
+use Rattle.sg_words.specs.declared.layout.Layout.{Layout as Sections}
 use Rattle.sg_space.specs.Space.{Contents, words_of, IsContents}
 use Rattle.sg_actor.specs.declared.mutator.Held.{Held}
 use Rattle.sg_actor.specs.declared.mutator.Mutator.{Mutator}
 use Rattle.sg_actor.specs.declared.mutator.Tested.{Tested}
 use Rattle.sg_actor.specs.declared.mutator.Tested.TheVariants.{NoObject, NoField, At as FieldAt}
-use Rattle.sg_order.specs.Rules.{Layout, Slot, Idle, Look, Claim, StoreLength, Ask, Left, Actor, fresh, within, over, Went}
+use Rattle.sg_rules.specs.Rules.{Layout, Slot, Idle, Look, Claim, StoreLength, Ask, Left, Actor, fresh, within, over, Went}
 
 -- how many fragments a space has, and before which word each ends
 abbrev pub layout_of : Contents → Layout

@@ -1,17 +1,17 @@
 ghost use Rattle.std.specs.Prelude.{◌≡◌, ◌+◌, ◌^◌, ◌<◌, ◌≤◌, true, false, List, ◌∷◌, [], ◌++◌, map, reverse, length, slice_index, IfOk, OnErr, MatchOption};
 ghost use Rattle.sg_words.specs.Words.{put, Words};
-ghost use Rattle.sg_graph.specs.declared.program.Program.{Program};
-ghost use Rattle.sg_graph.specs.declared.program.Statement.{Statement};
-ghost use Rattle.sg_graph.specs.Scripts.{IsMaking, made_in, made_class, made_fields, shape_of};
+ghost use Rattle.sg_program.specs.declared.program.Program.{Program};
+ghost use Rattle.sg_program.specs.declared.program.Statement.{Statement};
+ghost use Rattle.sg_program.specs.Scripts.{IsMaking, made_in, made_class, made_fields, shape_of};
 ghost use Rattle.sg_desc.specs.Shapes.{has_field as field_of_sort};
 ghost use Rattle.sg_space.specs.Space.{Contents, words_of, IsContents};
-ghost use Rattle.sg_order.specs.Rules.{Layout, reference_answer, over, over_with, owning, Went};
+ghost use Rattle.sg_rules.specs.Rules.{Layout, reference_answer, over, over_with, owning, Went};
 ghost use Rattle.sg_actor.specs.Direct.{IsDirect};
 ghost use Rattle.sg_actor.specs.Views.{layout_of, actor_of, IsSpace, KeepsSpace, KeepsGoing, HasByteAddresses, FindsRoom, sort_of, IsTested, IsBufferIn, IsReference, IsNext, HasRoom, CanGo, CanMake, HoldsObject, HoldsInner, IsFresh, IsEmptied, IsAnswered, IsAsked, GetsRoom, GetsNone, Claims};
 
 use crate::shared::{Room, address, end, exchange_next, find, load_word, store_header, store_word};
 use sg_desc::{Descriptor, Shape};
-use sg_graph::{Answer, Program, Request, Statement};
+use sg_program::{Answer, Program, Request, Statement};
 use sg_space::Space;
 use sg_words::{Tag, read_tag};
 use std::alloc::{AllocError, Global};

@@ -4,8 +4,8 @@ ghost use Rattle.sg_words.specs.Address.{byte_at, IsAddress};
 ghost use Rattle.sg_words.specs.declared.steps.Place.{Place};
 ghost use Rattle.sg_words.specs.declared.steps.Step.{Step};
 ghost use Rattle.sg_words.specs.Words.{read, write, Saw, after_step};
-ghost use Rattle.sg_graph.specs.Scripts.{words_for};
-ghost use Rattle.sg_space.specs.Sections.{IsInSection};
+ghost use Rattle.sg_program.specs.Scripts.{words_for};
+ghost use Rattle.sg_words.specs.Sections.{IsInSection};
 ghost use Rattle.sg_space.specs.Space.{Contents, words_of, IsContents};
 ghost use Rattle.sg_actor.specs.Views.{layout_of, IsSpace, KeepsSpace, KeepsGoing, HasByteAddresses, FindsRoom, FindsNone, StoresHeader, headed, IsPlaced, HasNowhere};
 

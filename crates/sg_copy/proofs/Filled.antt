@@ -1,6 +1,6 @@
 -- A walk over the objects of the major heap.
 use Rattle.std.proofs.Common.{◌≡◌, ◌≢◌, ℕ, ◌+◌, ◌<◌, ◌≤◌, arith}
-use Rattle.sg_space.specs.Sections.{large_base}
+use Rattle.sg_words.specs.Sections.{large_base}
 use Rattle.sg_space.specs.Space.{Contents}
 use Rattle.sg_space.specs.Standing.{word}
 use Rattle.sg_copy.specs.Area.{size_of}

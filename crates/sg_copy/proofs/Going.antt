@@ -3,7 +3,7 @@ use Rattle.std.proofs.Common.{◌≡◌, ◌≢◌, ℕ, ◌+◌, ◌≤◌, ◌
 use Rattle.std.proofs.lemmas.Bool.{cond-true, cond-false, cases_eq, cases_lt, cases_Bool, ne_eqb}
 use Rattle.sg_words.specs.Address.{byte_at}
 use Rattle.sg_words.specs.Tags.{plain_word}
-use Rattle.sg_graph.specs.Reach.Reached.{Root, Next}
+use Rattle.sg_words.specs.Reach.Reached.{Root, Next}
 use Rattle.sg_copy.specs.Area.{Area, has, In, IsYoung, size_of, Traces, sent}
 use Rattle.sg_copy.specs.Round.{Round, IsOpening, Slot, Item, Copied, Failed, IsSettled, IsGoing}
 use Rattle.sg_copy.proofs.Members.{has-cases, in-here, in-there, out, sent-at, sent-fixed, placed-grows, placed-in}

@@ -8,7 +8,7 @@ use Rattle.sg_words.specs.declared.tags.Tag.{Tag}
 use Rattle.sg_words.specs.declared.tags.Tag.TheVariants.{Plain, Forwarded, Pinned}
 use Rattle.sg_desc.specs.declared.shapes.Shape.{Shape}
 use Rattle.sg_desc.specs.Shapes.{is_strong}
-use Rattle.sg_space.specs.Sections.{old_base}
+use Rattle.sg_words.specs.Sections.{old_base}
 use Rattle.sg_space.specs.Space.{Contents}
 use Rattle.sg_space.specs.Standing.{word}
 use Rattle.sg_copy.specs.Area.{Area, IsYoung, size_of}

@@ -5,7 +5,7 @@ use Rattle.sg_words.specs.Address.{IsAddress, byte_at, word_at}
 use Rattle.sg_words.specs.Tags.{plain_word, IsTag, tag_word}
 use Rattle.sg_words.specs.declared.tags.Tag.{Tag}
 use Rattle.sg_words.specs.declared.tags.Tag.TheVariants.{Plain, Forwarded, Pinned, Cemented}
-use Rattle.sg_space.specs.Sections.{old_base, large_base}
+use Rattle.sg_words.specs.Sections.{old_base, large_base}
 use Rattle.sg_space.specs.Space.{Contents}
 use Rattle.sg_space.specs.Standing.{word}
 use Rattle.sg_copy.specs.Area.{IsYoung}

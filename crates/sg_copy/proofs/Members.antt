@@ -2,7 +2,7 @@
 use Rattle.std.proofs.Common.{◌≡◌, ◌≢◌, ℕ, zero, suc, ◌+◌, ◌-◌, ◌*◌, ◌/◌, ◌≤◌, ◌<◌, ◌⊎◌, eqb, cond, Bool, true, false, List, [], ◌∷◌, ◌++◌, length, drop, sym, refl, ap, ◌∙◌, subst, inl, inr, arith, zero-le}
 use Rattle.std.proofs.lemmas.Bool.{cond-true, cond-false, cases_eq, cases_Bool, eq-eqb, ne_eqb}
 use Rattle.sg_words.specs.Address.{byte_at, word_at}
-use Rattle.sg_graph.specs.Reach.{IsFreshIn, AreDistinct, AreAmong}
+use Rattle.sg_words.specs.Reach.{IsFreshIn, AreDistinct, AreAmong}
 use Rattle.sg_copy.specs.Area.{Area, has, In, size_of, is_strong, sent, Placed}
 use Rattle.sg_copy.specs.Round.{slots, slots_by}
 

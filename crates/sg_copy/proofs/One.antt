@@ -4,9 +4,9 @@ use Rattle.std.proofs.lemmas.List.{get_or-replicate}
 use Rattle.sg_words.specs.Address.{byte_at, word_at}
 use Rattle.sg_desc.specs.declared.shapes.Shape.{Shape}
 use Rattle.sg_desc.specs.declared.shapes.Descriptor.TheVariants.{PtrFree}
-use Rattle.sg_graph.specs.Reach.Reached.{Root, Next}
-use Rattle.sg_space.specs.declared.layout.Layout.{Layout}
-use Rattle.sg_space.specs.Sections.{old_base, globals_base, words_end}
+use Rattle.sg_words.specs.Reach.Reached.{Root, Next}
+use Rattle.sg_words.specs.declared.layout.Layout.{Layout}
+use Rattle.sg_words.specs.Sections.{old_base, globals_base, words_end}
 use Rattle.sg_space.specs.Space.{Contents, IsContents, clear_space}
 use Rattle.sg_space.specs.Standing.{word}
 use Rattle.sg_copy.specs.Area.{class_of, is_strong, Traces}

@@ -4,7 +4,7 @@ use Rattle.std.proofs.lemmas.Bool.{cond-true, cond-false, cases_Bool, eq-eqb, eq
 use Rattle.std.proofs.lemmas.List.{append-nil, append_assoc, map-append}
 use Rattle.sg_words.specs.Address.{byte_at, word_at}
 use Rattle.sg_words.specs.Tags.{plain_word}
-use Rattle.sg_graph.specs.Reach.{AreDistinct}
+use Rattle.sg_words.specs.Reach.{AreDistinct}
 use Rattle.sg_copy.specs.Area.{Area, has, In, IsYoung, class_of, size_of, is_strong}
 use Rattle.sg_copy.specs.Round.{Round, slots, slots_by, IsOpening, Slot, Item, Copied, Failed, IsSettled, IsGoing, started, Handles, HoldsNone, FindsPinned, FindsForwarded, Copies, Fails, IsAfter}
 use Rattle.sg_copy.specs.Order.{is_plain, target, targets, slots_of, firsts, Fits, IsInOrder}

@@ -4,8 +4,8 @@ use Rattle.std.proofs.lemmas.Bool.{cases_Bool}
 use Rattle.std.proofs.lemmas.List.{length-map, map-append}
 use Rattle.sg_words.specs.Address.{byte_at, word_at}
 use Rattle.sg_words.specs.declared.pieces.Move.{Move}
-use Rattle.sg_graph.specs.Reach.{AreDistinct}
-use Rattle.sg_space.specs.Sections.{old_base, IsInSection}
+use Rattle.sg_words.specs.Reach.{AreDistinct}
+use Rattle.sg_words.specs.Sections.{old_base, IsInSection}
 use Rattle.sg_space.specs.Space.{Contents}
 use Rattle.sg_space.specs.Standing.{word}
 use Rattle.sg_copy.specs.declared.copier.Copier.{Copier}

@@ -4,11 +4,11 @@ use Rattle.std.proofs.lemmas.Bool.{cond-false, cases_Bool}
 use Rattle.std.proofs.lemmas.List.{append-nil, length-append}
 use Rattle.sg_words.specs.Address.{byte_at}
 use Rattle.sg_words.specs.Tags.{plain_word}
-use Rattle.sg_graph.specs.Reach.{AreDistinct}
-use Rattle.sg_graph.specs.Reach.Reached.{Root, Next}
+use Rattle.sg_words.specs.Reach.{AreDistinct}
+use Rattle.sg_words.specs.Reach.Reached.{Root, Next}
 use Rattle.sg_copy.specs.Area.{Area, has, In, IsYoung, size_of, Traces, sent}
 use Rattle.sg_copy.specs.Round.{Round, slots, slots_by, IsOpening, Slot, Item, Copied, Failed, IsSettled, IsGoing, started, Handles, HoldsNone, FindsPinned, FindsForwarded, Copies, Fails, IsAfter}
-use Rattle.sg_graph.proofs.Distinct.{few}
+use Rattle.sg_words.proofs.Distinct.{few}
 use Rattle.sg_copy.proofs.Members.{in-here, in-left, in-cases, in-right, out, not-in, distinct-more, in-last, among-all, sent-at, slots-same, slots-few, in-one, sends, sends-at, sends-other}
 use Rattle.sg_copy.proofs.Going.{young-below, slot-run, slot-apart, slot-word, plain-words, traced, found, quiet, settle}
 use Rattle.sg_copy.proofs.Grows.{from_range, from-out, grow, fail}

@@ -1,7 +1,7 @@
 -- What a round works on, and what the words of an area refer to. Words are functions of their numbers.
 use Rattle.std.specs.Prelude.{◌≡◌, ℕ, ◌+◌, ◌-◌, ◌/◌, ◌<◌, ◌≤◌, ◌==◌, Bool, true, false, if◌then◌else◌, List, [], ◌∷◌}
 use Rattle.sg_words.specs.Address.{byte_at, word_at}
-use Rattle.sg_graph.specs.Reach.{Reached}
+use Rattle.sg_words.specs.Reach.{Reached}
 
 -- The nursery is from the word `low` to before `high`, the major heap ends before `limit`; field i of an object of class c
 -- holds a strong reference where `strong c i`.

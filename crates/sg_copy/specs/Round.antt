@@ -2,7 +2,7 @@
 use Rattle.std.specs.Prelude.{◌≡◌, ◌≢◌, ℕ, zero, suc, ◌+◌, ◌-◌, ◌*◌, ◌≤◌, ◌<◌, ◌⊎◌, true, false, if◌then◌else◌, List, [], ◌∷◌, ◌++◌, length}
 use Rattle.sg_words.specs.Address.{byte_at}
 use Rattle.sg_words.specs.Tags.{plain_word}
-use Rattle.sg_graph.specs.Reach.{AreDistinct}
+use Rattle.sg_words.specs.Reach.{AreDistinct}
 use Rattle.sg_copy.specs.Area.{Area, In, has, IsYoung, size_of, is_strong, Traces, sent, Placed}
 use Rattle.sg_copy.specs.Image.{IsImage}
 

@@ -1,7 +1,7 @@
 ghost use Rattle.std.specs.Prelude.{◌≡◌, ◌≢◌, ℕ, ◌+◌, ◌*◌, ◌<◌, ◌≤◌, ◌++◌, IfOk, IfSome, IfNone, map, length, slice_get, Some};
 ghost use Rattle.sg_words.specs.Address.{byte_at, word_at};
 ghost use Rattle.sg_words.specs.Tags.{plain_word};
-ghost use Rattle.sg_space.specs.Sections.{nursery_base, old_base, large_base, IsLayout, IsInSection};
+ghost use Rattle.sg_words.specs.Sections.{nursery_base, old_base, large_base, IsLayout, IsInSection};
 ghost use Rattle.sg_space.specs.Space.{IsContents};
 ghost use Rattle.sg_space.specs.Standing.{word};
 ghost use Rattle.sg_copy.specs.Area.{IsYoung, size_of};

@@ -1,6 +1,6 @@
 ghost use Rattle.std.specs.Prelude.{◌≡◌, ℕ, ◌++◌, IfOk, map};
 ghost use Rattle.sg_words.specs.Address.{byte_at, word_at};
-ghost use Rattle.sg_space.specs.Sections.{old_base, IsLayout};
+ghost use Rattle.sg_words.specs.Sections.{old_base, IsLayout};
 ghost use Rattle.sg_copy.specs.Copying.{IsFilled, CanCopy, CanCopyAll, HasCopiedTo, fields_of_all};
 
 use crate::copier::Copier;

@@ -2,15 +2,16 @@
 use Rattle.std.proofs.Common.{◌≡◌, ◌≢◌, ℕ, zero, suc, ◌≤◌, ◌↔◌, ◌⊎◌, ◌&&◌, cond, Bool, true, false, not, inl, inr, List, [], ◌++◌, filter, sym, refl, ap, ◌∙◌, subst, arith}
 use Rattle.std.proofs.lemmas.Bool.{cond-true, cond-false, cases_Bool}
 use Rattle.std.specs.List.{Contains}
-use Rattle.sg_graph.specs.declared.program.Program.{Program}
+use Rattle.sg_program.specs.declared.program.Program.{Program}
 use Rattle.sg_desc.specs.declared.shapes.Descriptor.{Descriptor}
 use Rattle.sg_desc.specs.declared.shapes.Descriptor.TheVariants.{PtrFree, Run, Bitmap, VectorRefs, VectorPlain, Ephemeron}
 use Rattle.sg_desc.specs.Shapes.{holds_reference, is_strong}
-use Rattle.sg_graph.specs.Scripts.{kind_of}
+use Rattle.sg_program.specs.Scripts.{kind_of}
 use Rattle.sg_graph.specs.Graph.{Graph, Ref, Link}
-use Rattle.sg_graph.specs.Reach.{Rounds, Reached}
-use Rattle.sg_graph.specs.Pause.{IsTarget, IsPair, Reach, IsReached, is_pair, holds_kept, is_widowed, link_after, IsPause, IsPlain}
-use Rattle.sg_graph.proofs.Closure.{from_rounds}
+use Rattle.sg_words.specs.Reach.{Rounds, Reached}
+use Rattle.sg_graph.specs.Pause.{IsTarget, IsPair, Reach, IsReached, is_pair, holds_kept, is_widowed, link_after, IsPause}
+use Rattle.sg_graph.specs.Invariants.{IsPlain}
+use Rattle.sg_words.proofs.Closure.{from_rounds}
 
 -- which fields are strong doesn't hang on how many there are
 pub strong_any : (kind : Descriptor) (i m n : ℕ) → is_strong kind i m ≡ is_strong kind i n

@@ -1,13 +1,14 @@
 -- The book: which objects stand, and where; the fragments; the buffers.
 use Rattle.std.specs.Prelude.{◌≡◌, ℕ, ◌+◌, ◌-◌, ◌*◌, ◌<◌, ◌≤◌, ◌⊎◌, ◌==◌, min, max, Bool, true}
 use Rattle.sg_words.specs.Words.{put}
-use Rattle.sg_graph.specs.declared.program.Statement.{Statement}
-use Rattle.sg_graph.specs.declared.program.Statement.TheVariants.{New, NewV, Mature, Collect, Sections}
-use Rattle.sg_graph.specs.declared.program.Program.{Program}
-use Rattle.sg_graph.specs.declared.reports.Answer.{Answer}
-use Rattle.sg_graph.specs.declared.reports.Answer.TheVariants.{At}
-use Rattle.sg_graph.specs.Scripts.{fields_of, words_for}
+use Rattle.sg_program.specs.declared.program.Statement.{Statement}
+use Rattle.sg_program.specs.declared.program.Statement.TheVariants.{New, NewV, Mature, Collect, Sections}
+use Rattle.sg_program.specs.declared.program.Program.{Program}
+use Rattle.sg_program.specs.declared.answers.Answer.{Answer}
+use Rattle.sg_program.specs.declared.answers.Answer.TheVariants.{At}
+use Rattle.sg_program.specs.Scripts.{fields_of, words_for, IsSmall}
 use Rattle.sg_words.specs.Address.{byte_at}
+use Rattle.sg_words.specs.Sections.{nursery_base}
 use Rattle.sg_graph.specs.Graph.{Graph, Entry, Ref, Int, Inner}
 
 -- where an object stands: in the nursery, in a block of the major heap, or in pages of its own
@@ -30,10 +31,7 @@ pub record Book : Type 0 where
   pub from : ℕ → ℕ
   pub to : ℕ → ℕ
 
--- the nursery's first word, and the word behind its last one
-abbrev pub nursery_base : ℕ
-nursery_base = 512
-
+-- the word behind the nursery's last one
 abbrev pub nursery_end : Program → ℕ
 nursery_end p = nursery_base + p.config.nursery
 
@@ -101,9 +99,10 @@ pub record HasNoPlace (b : Book) (k n : ℕ) : Type 0 where
 abbrev pub words_of_class : Program → ℕ → ℕ
 words_of_class p c = words_for (fields_of p c)
 
--- a small object of n words stands at the front of its mutator's buffer, or in the lowest fragment with room
+-- A small object of n words stands at the front of its mutator's buffer, or in the lowest fragment with room. No place is
+-- given to a large one yet.
 abbrev pub IsPlaced : Program → Book → ℕ → ℕ → ℕ → Book → Type 0
-IsPlaced p b k n name c = Bumps b k n name c ⊎ ((f : ℕ) × Claims p b k n name f c)
+IsPlaced p b k n name c = IsSmall n × (Bumps b k n name c ⊎ ((f : ℕ) × Claims p b k n name f c))
 
 -- Where the object of a statement of mutator k with this answer stands; no other statement changes the book. A new object's
 -- want of room is told at a stop alone, and a pause is made there.
@@ -135,3 +134,7 @@ pub record IsWordOf (g : Graph) (b : Book) (name x : ℕ) : Type 0 where
 pub record IsApart (p : Program) (g : Graph) (b : Book) : Type 0 where
   pub apart : (m n x : ℕ) → IsWordOf g b m x → IsWordOf g b n x → m ≡ n
   pub inside : (n x : ℕ) → IsWordOf g b n x → b.section n ≡ Young → (nursery_base ≤ x) × (x < nursery_end p)
+
+-- What holds of the standing objects of a graph by a book, whenever an epoch, a pause or a stop has ended.
+pub record IsSoundBook (p : Program) (g : Graph) (b : Book) : Type 0 where
+  pub apart : IsApart p g b

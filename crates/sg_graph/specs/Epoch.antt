@@ -1,21 +1,22 @@
 -- An epoch: each mutator that hasn't ended does some of its next statements and then leaves.
-use Rattle.std.specs.Prelude.{◌≡◌, ℕ, zero, suc, ◌+◌, ◌<◌, ◌==◌, ◌↔◌, ◌&&◌, nat_lt, Bool, true, false, not, IsTrue, if◌then◌else◌, List, [], ◌∷◌, ◌++◌, length, map, filter}
+use Rattle.std.specs.Prelude.{◌≡◌, ℕ, zero, suc, ◌+◌, ◌<◌, ◌==◌, ◌↔◌, Bool, true, false, not, IsTrue, if◌then◌else◌, List, [], ◌∷◌, ◌++◌, length, map, filter}
 use Rattle.sg_words.specs.Address.{byte_at}
-use Rattle.sg_graph.specs.declared.program.Statement.{Statement}
-use Rattle.sg_graph.specs.declared.program.Statement.TheVariants.{New, NewV, Collect}
-use Rattle.sg_graph.specs.declared.program.Program.{Program}
-use Rattle.sg_graph.specs.declared.reports.Answer.{Answer}
-use Rattle.sg_graph.specs.declared.reports.Answer.TheVariants.{At, Nil, Null, Number, Fine, Yes, No, Field, Full}
+use Rattle.sg_words.specs.Lists.{Pairwise}
+use Rattle.sg_program.specs.declared.program.Statement.{Statement}
+use Rattle.sg_program.specs.declared.program.Statement.TheVariants.{New, NewV, Collect}
+use Rattle.sg_program.specs.declared.program.Program.{Program}
+use Rattle.sg_program.specs.declared.answers.Answer.{Answer}
+use Rattle.sg_program.specs.declared.answers.Answer.TheVariants.{At, Nil, Null, Number, Fine, Yes, No, Field, Full}
 use Rattle.sg_graph.specs.declared.reports.Leave.{Leave}
 use Rattle.sg_graph.specs.declared.reports.Leave.TheVariants.{Ended, Wants}
-use Rattle.sg_graph.specs.declared.reports.Request.{Request}
-use Rattle.sg_graph.specs.declared.reports.Request.TheVariants.{Need, Minor}
+use Rattle.sg_program.specs.declared.answers.Request.{Request}
+use Rattle.sg_program.specs.declared.answers.Request.TheVariants.{Need, Minor}
 use Rattle.sg_graph.specs.declared.reports.Part.{Part}
 use Rattle.sg_graph.specs.declared.reports.EpochReport.{EpochReport}
-use Rattle.sg_graph.specs.Scripts.{script_of, words_for}
+use Rattle.sg_program.specs.Scripts.{script_of, words_for, IsSmall}
 use Rattle.sg_graph.specs.Graph.{Graph}
 use Rattle.sg_graph.specs.Statements.{Does}
-use Rattle.sg_graph.specs.Book.{Book, Books, HasNoPlace, words_of_class, IsApart}
+use Rattle.sg_graph.specs.Book.{Book, Books, HasNoPlace, words_of_class, IsSoundBook}
 
 -- mutator `by` did its next statement and got this answer, in which a name stands for an address
 pub record Said : Type 0 where
@@ -52,11 +53,11 @@ by_address b No = No
 by_address b Field = Field
 by_address b Full = Full
 
--- Which statement asks for what: a new object asks for its words, where neither the buffer nor, as the epoch ends, any
--- fragment has them.
+-- Which statement asks for what: a small new object asks for its words, where neither the buffer nor, as the epoch ends, any
+-- fragment has them. A large one asks for nothing yet.
 abbrev pub Asks : Program → Book → ℕ → Statement → Request → Type 0
-Asks p b k (New r class) (Need words) = (words ≡ words_of_class p class) × HasNoPlace b k words
-Asks p b k (NewV r class count) (Need words) = (words ≡ words_for count) × HasNoPlace b k words
+Asks p b k (New r class) (Need words) = (words ≡ words_of_class p class) × IsSmall words × HasNoPlace b k words
+Asks p b k (NewV r class count) (Need words) = (words ≡ words_for count) × IsSmall words × HasNoPlace b k words
 Asks p b k (Collect false) Minor = Unit {0}
 Asks p b k s request = ⊥
 
@@ -81,34 +82,27 @@ numbers_below (suc n) = numbers_below n ++ n ∷ []
 abbrev pub running : Program → Graph → List ℕ
 running p g = filter (λ k. not (g.mutator k).ended) (numbers_below (length p.mutators))
 
--- the fact holds of the two lists, one pair after another
-abbrev pub Pairwise : {A B : Type 0} → (A → B → Type 0) → List A → List B → Type 0
-Pairwise R [] [] = Unit {0}
-Pairwise R [] (y ∷ ys) = ⊥
-Pairwise R (x ∷ xs) [] = ⊥
-Pairwise R (x ∷ xs) (y ∷ ys) = R x y × Pairwise R xs ys
-
 abbrev pub is_done : List Statement → Bool
 is_done [] = true
 is_done (s ∷ rest) = false
 
--- as an epoch ends, the program's mutators without a statement left have ended
-abbrev pub left : Program → Graph → Graph
-left p g = record g { mutator = λ k. record (g.mutator k) { ended = nat_lt k (length p.mutators) && is_done (g.mutator k).script } }
+-- as an epoch ends, the mutators without a statement left have ended
+abbrev pub left : Graph → Graph
+left g = record g { mutator = λ k. record (g.mutator k) { ended = is_done (g.mutator k).script } }
 
 -- every mutator has ended
 abbrev pub AllEnded : Program → Graph → Type 0
 AllEnded p g = (k : ℕ) → k < length p.mutators → (g.mutator k).ended ≡ true
 
--- Epoch number e leads from g and b to h and c, and this is its report: one order of whole statements explains every
--- answer, each mutator left as it may, and the standing objects are apart.
-pub record IsEpoch (p : Program) (e : ℕ) (g : Graph) (b : Book) (report : EpochReport) (h : Graph) (c : Book) : Type 0 where
+-- Epoch number e leads from g and b to h and c, and this is its report: this order of whole statements explains every answer,
+-- each mutator left as it may, and the book is sound. `swept` are the blocks that were swept in it: none yet.
+pub record IsEpoch (p : Program) (e : ℕ) (g : Graph) (b : Book) (order : List Said) (swept : List ℕ) (report : EpochReport) (h : Graph) (c : Book) : Type 0 where
   pub going : ¬ AllEnded p g
-  pub order : List Said
   pub last : Graph
   pub explains : Explains p g b order last c
-  pub after : h ≡ left p last
+  pub after : h ≡ left last
   pub number : report.number ≡ e
   pub parts : Pairwise (IsPart p g order last c) (running p g) report.parts
   pub ends : IsTrue report.last ↔ AllEnded p h
-  pub apart : IsApart p h c
+  pub none : swept ≡ []
+  pub sound : IsSoundBook p h c

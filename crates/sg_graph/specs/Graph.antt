@@ -1,11 +1,11 @@
 -- The heap of named objects that never move and are never removed.
 use Rattle.std.specs.Prelude.{ℕ, suc, Bool, false, if◌then◌else◌, List, []}
 use Rattle.sg_words.specs.Words.{put}
-use Rattle.sg_graph.specs.declared.program.Statement.{Statement}
-use Rattle.sg_graph.specs.declared.program.Program.{Program}
+use Rattle.sg_program.specs.declared.program.Statement.{Statement}
+use Rattle.sg_program.specs.declared.program.Program.{Program}
 use Rattle.sg_desc.specs.declared.shapes.Descriptor.{Descriptor}
 use Rattle.sg_desc.specs.Shapes.{holds_reference}
-use Rattle.sg_graph.specs.Scripts.{script_of, kind_of}
+use Rattle.sg_program.specs.Scripts.{script_of, kind_of}
 
 -- What a register, a place of a stack or a field holds: the object with this name, where name 0 stands for none; a number; or
 -- the address of the byte `offset` of the object with this name. An entry of the last sort that holds no object has offset 0.
@@ -62,13 +62,9 @@ grown p g k c n = record g {
 abbrev pub stored : Graph → ℕ → ℕ → Entry → Graph
 stored g n i entry = record g { field = put g.field n (put (g.field n) i entry) }
 
--- mutator k has these statements before it, and its registers hold this
-abbrev pub goes_on : Graph → ℕ → List Statement → (ℕ → Entry) → Graph
-goes_on g k rest register = record g { mutator = put g.mutator k (record (g.mutator k) { register = register; script = rest; ended = false }) }
-
--- the same, and its stack is this
-abbrev pub goes_on_with : Graph → ℕ → List Statement → (ℕ → Entry) → List Entry → Graph
-goes_on_with g k rest register stack = record g { mutator = put g.mutator k (record (g.mutator k) { register = register; stack = stack; script = rest; ended = false }) }
+-- mutator k is this now, but that it has these statements before it
+abbrev pub advanced : Graph → ℕ → Mutator → List Statement → Graph
+advanced g k m rest = record g { mutator = put g.mutator k (record m { script = rest }) }
 
 -- before a program: there is no object, each register, global and weak link holds none, nothing is registered, and each mutator
 -- is before its script

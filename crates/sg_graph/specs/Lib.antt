@@ -1,8 +1,4 @@
-pub mod Scripts
-pub mod Limits
-pub mod Kinds
 pub mod Graph
-pub mod Reach
 pub mod Names
 pub mod Statements
 pub mod Book
@@ -12,5 +8,6 @@ pub mod Tiling
 pub mod Minor
 pub mod Stop
 pub mod Run
-pub mod Trace
-pub mod Counts
+pub mod Heap
+pub mod Invariants
+pub mod Laws

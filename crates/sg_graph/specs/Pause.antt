@@ -2,11 +2,11 @@
 use Rattle.std.specs.Prelude.{◌≡◌, ◌≢◌, ℕ, zero, suc, ◌+◌, ◌<◌, ◌≤◌, ◌==◌, ◌&&◌, ◌⊎◌, ◌↔◌, Bool, true, false, not, if◌then◌else◌, List, [], ◌++◌, map, filter}
 use Rattle.std.specs.List.{Contains, flat_map}
 use Rattle.sg_words.specs.Address.{byte_at}
-use Rattle.sg_graph.specs.declared.program.Program.{Program}
+use Rattle.sg_program.specs.declared.program.Program.{Program}
 use Rattle.sg_desc.specs.declared.shapes.Descriptor.{Descriptor}
 use Rattle.sg_desc.specs.declared.shapes.Descriptor.TheVariants.{Ephemeron}
 use Rattle.sg_desc.specs.Shapes.{is_strong}
-use Rattle.sg_graph.specs.Scripts.{kind_of, words_for}
+use Rattle.sg_program.specs.Scripts.{kind_of, words_for}
 use Rattle.sg_graph.specs.Graph.{Graph, Entry, Ref, Int, Inner, Link}
 use Rattle.sg_graph.specs.Book.{Book, Young, Old, Large, word_of}
 use Rattle.sg_graph.specs.Epoch.{numbers_below, running}
@@ -95,10 +95,3 @@ abbrev pub IsRoot : Program → Graph → Book → List ℕ → ℕ → Type 0
 IsRoot p g b ambiguous n =
     (n ≢ 0) × (b.stands n ≡ true)
     × ((b.section n ≡ Old) ⊎ ((b.section n ≡ Large) ⊎ (IsPointedInto g b ambiguous n ⊎ (((x : ℕ) × (x < 64) × (g.global x ≡ n)) ⊎ Contains g.ready n))))
-
--- nothing was registered, no weak link has a target, and no object is a pair
-pub record IsPlain (p : Program) (g : Graph) : Type 0 where
-  pub links : (w : ℕ) → (g.link w).target ≡ 0
-  pub registered : g.registered ≡ []
-  pub ready : g.ready ≡ []
-  pub pairs : (n : ℕ) → 1 ≤ n → n ≤ g.count → is_pair (kind_of p (g.class n)) ≡ false

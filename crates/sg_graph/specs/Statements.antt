@@ -1,38 +1,15 @@
 -- What each statement does to the heap of named objects, by its answer.
 use Rattle.std.specs.Prelude.{◌≡◌, ◌≢◌, ℕ, suc, ◌*◌, ◌<◌, ◌≤◌, true, false, Option, Some, None, List, [], ◌∷◌, ◌++◌}
 use Rattle.sg_words.specs.Words.{put}
-use Rattle.sg_graph.specs.declared.program.Statement.{Statement}
-use Rattle.sg_graph.specs.declared.program.Statement.TheVariants.{New, NewV, Mature, Put, Get, PutD, GetD, Num, Move, Hide, Unhide, Drop, Push, Pop, GPut, GGet, WSet, WGet, Final, NextFin, Same, Collect, Sections}
-use Rattle.sg_graph.specs.declared.program.Program.{Program}
-use Rattle.sg_graph.specs.declared.reports.Answer.{Answer}
-use Rattle.sg_graph.specs.declared.reports.Answer.TheVariants.{At, Nil, Null, Number, Fine, Yes, No, Field, Full}
-use Rattle.sg_desc.specs.Shapes.{Sort, Reference, Plain, has_field}
-use Rattle.sg_graph.specs.Scripts.{kind_of, fields_of, words_for}
-use Rattle.sg_graph.specs.Graph.{Entry, Ref, Int, Inner, Mutator, Graph, grown, stored, goes_on, goes_on_with}
-
--- the object test: which register's object is tested, for which field, and of which sort it has to be
-pub record Test : Type 0 where
-  pub register : ℕ
-  pub field : ℕ
-  pub sort : Sort
-
--- the object test of a statement, where it has one
-abbrev pub test_of : Statement → Option Test
-test_of (Put r i s) = Some (record { register = r; field = i; sort = Reference })
-test_of (Get d r i) = Some (record { register = r; field = i; sort = Reference })
-test_of (PutD r i s) = Some (record { register = r; field = i; sort = Plain })
-test_of (GetD d r i) = Some (record { register = r; field = i; sort = Plain })
-test_of s = None
-
--- the registers after a statement that found no object, no such field or no room: the one that it sets becomes empty
-abbrev pub emptied : Statement → (ℕ → Entry) → ℕ → Entry
-emptied (New r class) register = put register r (Ref 0)
-emptied (NewV r class count) register = put register r (Ref 0)
-emptied (Mature r class) register = put register r (Ref 0)
-emptied (Get d r i) register = put register d (Ref 0)
-emptied (GetD d r i) register = put register d (Int 0)
-emptied (Hide d s offset) register = put register d (Inner 0 0)
-emptied s register = register
+use Rattle.sg_program.specs.declared.program.Statement.{Statement}
+use Rattle.sg_program.specs.declared.program.Statement.TheVariants.{New, NewV, Mature, Put, Get, PutD, GetD, Num, Move, Hide, Unhide, Drop, Push, Pop, GPut, GGet, WSet, WGet, Final, NextFin, Same, Collect, Sections}
+use Rattle.sg_program.specs.declared.program.Program.{Program}
+use Rattle.sg_program.specs.declared.answers.Answer.{Answer}
+use Rattle.sg_program.specs.declared.answers.Answer.TheVariants.{At, Nil, Null, Number, Fine, Yes, No, Field, Full}
+use Rattle.sg_desc.specs.Shapes.{has_field}
+use Rattle.sg_program.specs.Scripts.{kind_of, fields_of, words_for}
+use Rattle.sg_program.specs.Tests.{Test, test_of}
+use Rattle.sg_graph.specs.Graph.{Entry, Ref, Int, Inner, Mutator, Graph, grown, stored, advanced}
 
 -- the tested register holds no object
 pub record FindsNone (m : Mutator) (s : Statement) : Type 0 where
@@ -57,65 +34,124 @@ pub record Finds (p : Program) (g : Graph) (m : Mutator) (s : Statement) (name :
   pub some : name ≢ 0
   pub finds : has_field test.sort (kind_of p (g.class name)) (g.size name) test.field ≡ true
 
--- In g mutator k, which is m, does statement s and gets this answer, in which a name stands for an address; h is the graph then.
--- What isn't named stays.
-abbrev pub Does : Program → Graph → ℕ → Mutator → Statement → List Statement → Answer → Graph → Type 0
--- a new object with empty fields, or no room for it
-Does p g k m (New r class) rest (At name) h = (name ≡ suc g.count) × (h ≡ goes_on (grown p g k class (fields_of p class)) k rest (put m.register r (Ref name)))
-Does p g k m (New r class) rest Full h = h ≡ goes_on g k rest (emptied (New r class) m.register)
-Does p g k m (NewV r class count) rest (At name) h = (name ≡ suc g.count) × (h ≡ goes_on (grown p g k class count) k rest (put m.register r (Ref name)))
-Does p g k m (NewV r class count) rest Full h = h ≡ goes_on g k rest (emptied (NewV r class count) m.register)
-Does p g k m (Mature r class) rest (At name) h = (name ≡ suc g.count) × (h ≡ goes_on (grown p g k class (fields_of p class)) k rest (put m.register r (Ref name)))
-Does p g k m (Mature r class) rest Full h = h ≡ goes_on g k rest (emptied (Mature r class) m.register)
+-- the register holds the object with this name, or none where it is 0
+abbrev pub HoldsName : Mutator → ℕ → ℕ → Type 0
+HoldsName m r name = m.register r ≡ Ref name
+
+-- When a statement of mutator m gets an answer, in which a name stands for an address. No other answer is given.
+abbrev pub Answers : Program → Graph → Mutator → Statement → Answer → Type 0
+-- a new object, or no room for it
+Answers p g m (New r class) (At name) = name ≡ suc g.count
+Answers p g m (New r class) Full = Unit {0}
+Answers p g m (NewV r class count) (At name) = name ≡ suc g.count
+Answers p g m (NewV r class count) Full = Unit {0}
+Answers p g m (Mature r class) (At name) = name ≡ suc g.count
+Answers p g m (Mature r class) Full = Unit {0}
 -- stores and loads
-Does p g k m (Put r i s) rest Fine h =
-    (name : ℕ) × (target : ℕ) × Finds p g m (Put r i s) name × (m.register s ≡ Ref target) × (h ≡ goes_on (stored g name i (Ref target)) k rest m.register)
-Does p g k m (PutD r i s) rest Fine h =
-    (name : ℕ) × (n : ℕ) × Finds p g m (PutD r i s) name × (m.register s ≡ Int n) × (h ≡ goes_on (stored g name i (Int n)) k rest m.register)
-Does p g k m (Get d r i) rest (At target) h =
-    (name : ℕ) × Finds p g m (Get d r i) name × (g.field name i ≡ Ref target) × (target ≢ 0) × (h ≡ goes_on g k rest (put m.register d (Ref target)))
-Does p g k m (Get d r i) rest Nil h = (name : ℕ) × Finds p g m (Get d r i) name × (g.field name i ≡ Ref 0) × (h ≡ goes_on g k rest (put m.register d (Ref 0)))
-Does p g k m (GetD d r i) rest (Number n) h =
-    (name : ℕ) × Finds p g m (GetD d r i) name × (g.field name i ≡ Int n) × (h ≡ goes_on g k rest (put m.register d (Int n)))
+Answers p g m (Put r i s) Fine = (name : ℕ) × (target : ℕ) × Finds p g m (Put r i s) name × HoldsName m s target
+Answers p g m (PutD r i s) Fine = (name : ℕ) × (n : ℕ) × Finds p g m (PutD r i s) name × (m.register s ≡ Int n)
+Answers p g m (Get d r i) (At target) = (name : ℕ) × Finds p g m (Get d r i) name × (g.field name i ≡ Ref target) × (target ≢ 0)
+Answers p g m (Get d r i) Nil = (name : ℕ) × Finds p g m (Get d r i) name × (g.field name i ≡ Ref 0)
+Answers p g m (GetD d r i) (Number n) = (name : ℕ) × Finds p g m (GetD d r i) name × (g.field name i ≡ Int n)
 -- registers and stacks
-Does p g k m (Num d n) rest Fine h = h ≡ goes_on g k rest (put m.register d (Int n))
-Does p g k m (Move d s) rest Fine h = h ≡ goes_on g k rest (put m.register d (m.register s))
-Does p g k m (Drop r) rest Fine h = h ≡ goes_on g k rest (put m.register r (Ref 0))
-Does p g k m (Push r) rest Fine h = h ≡ goes_on_with g k rest m.register (m.register r ∷ m.stack)
-Does p g k m (Pop r) rest Fine h = (top : Entry) × (stack : List Entry) × (m.stack ≡ top ∷ stack) × (h ≡ goes_on_with g k rest (put m.register r top) stack)
--- an address inside an object, at a byte that is the object's
-Does p g k m (Hide d s offset) rest Fine h =
-    (name : ℕ) × (m.register s ≡ Ref name) × (name ≢ 0) × (offset < 8 * words_for (g.size name)) × (h ≡ goes_on g k rest (put m.register d (Inner name offset)))
-Does p g k m (Hide d s offset) rest Field h =
-    (name : ℕ) × (m.register s ≡ Ref name) × (name ≢ 0) × (8 * words_for (g.size name) ≤ offset) × (h ≡ goes_on g k rest (emptied (Hide d s offset) m.register))
-Does p g k m (Unhide d s) rest (At name) h = (offset : ℕ) × (m.register s ≡ Inner name offset) × (name ≢ 0) × (h ≡ goes_on g k rest (put m.register d (Ref name)))
-Does p g k m (Unhide d s) rest Nil h = (offset : ℕ) × (m.register s ≡ Inner 0 offset) × (h ≡ goes_on g k rest (put m.register d (Ref 0)))
+Answers p g m (Num d n) Fine = Unit {0}
+Answers p g m (Move d s) Fine = Unit {0}
+Answers p g m (Drop r) Fine = Unit {0}
+Answers p g m (Push r) Fine = Unit {0}
+Answers p g m (Pop r) Fine = m.stack ≢ []
+-- an address inside an object, at a byte that is the object's or isn't; and back
+Answers p g m (Hide d s offset) Fine = (name : ℕ) × HoldsName m s name × (name ≢ 0) × (offset < 8 * words_for (g.size name))
+Answers p g m (Hide d s offset) Field = (name : ℕ) × HoldsName m s name × (name ≢ 0) × (8 * words_for (g.size name) ≤ offset)
+Answers p g m (Hide d s offset) Null = HoldsName m s 0
+Answers p g m (Unhide d s) (At name) = (offset : ℕ) × (m.register s ≡ Inner name offset) × (name ≢ 0)
+Answers p g m (Unhide d s) Nil = (offset : ℕ) × (m.register s ≡ Inner 0 offset)
 -- globals
-Does p g k m (GPut x r) rest Fine h = (name : ℕ) × (m.register r ≡ Ref name) × (h ≡ goes_on (record g { global = put g.global x name }) k rest m.register)
-Does p g k m (GGet r x) rest (At name) h = (g.global x ≡ name) × (name ≢ 0) × (h ≡ goes_on g k rest (put m.register r (Ref name)))
-Does p g k m (GGet r x) rest Nil h = (g.global x ≡ 0) × (h ≡ goes_on g k rest (put m.register r (Ref 0)))
+Answers p g m (GPut x r) Fine = (name : ℕ) × HoldsName m r name
+Answers p g m (GGet r x) (At name) = (g.global x ≡ name) × (name ≢ 0)
+Answers p g m (GGet r x) Nil = g.global x ≡ 0
 -- weak links
-Does p g k m (WSet w r long) rest Fine h =
-    (name : ℕ) × (m.register r ≡ Ref name) × (h ≡ goes_on (record g { link = put g.link w (record { target = name; long = long }) }) k rest m.register)
-Does p g k m (WGet r w) rest (At name) h = ((g.link w).target ≡ name) × (name ≢ 0) × (h ≡ goes_on g k rest (put m.register r (Ref name)))
-Does p g k m (WGet r w) rest Nil h = ((g.link w).target ≡ 0) × (h ≡ goes_on g k rest (put m.register r (Ref 0)))
+Answers p g m (WSet w r long) Fine = (name : ℕ) × HoldsName m r name
+Answers p g m (WGet r w) (At name) = ((g.link w).target ≡ name) × (name ≢ 0)
+Answers p g m (WGet r w) Nil = (g.link w).target ≡ 0
 -- finalization
-Does p g k m (Final r) rest Fine h =
-    (name : ℕ) × (m.register r ≡ Ref name) × (name ≢ 0)
-    × (h ≡ record g { mutator = put g.mutator k (record m { registered = m.registered ++ name ∷ []; script = rest; ended = false }) })
-Does p g k m (NextFin r) rest (At name) h =
-    (ready : List ℕ) × (g.ready ≡ name ∷ ready) × (h ≡ goes_on (record g { ready = ready }) k rest (put m.register r (Ref name)))
-Does p g k m (NextFin r) rest Nil h = (g.ready ≡ []) × (h ≡ goes_on g k rest (put m.register r (Ref 0)))
+Answers p g m (Final r) Fine = (name : ℕ) × HoldsName m r name × (name ≢ 0)
+Answers p g m (Final r) Null = HoldsName m r 0
+Answers p g m (NextFin r) (At name) = (ready : List ℕ) × (g.ready ≡ name ∷ ready)
+Answers p g m (NextFin r) Nil = g.ready ≡ []
 -- comparing
-Does p g k m (Same r s) rest Yes h = (name : ℕ) × (m.register r ≡ Ref name) × (m.register s ≡ Ref name) × (h ≡ goes_on g k rest m.register)
-Does p g k m (Same r s) rest No h = (name other : ℕ) × (m.register r ≡ Ref name) × (m.register s ≡ Ref other) × (name ≢ other) × (h ≡ goes_on g k rest m.register)
+Answers p g m (Same r s) Yes = (name : ℕ) × HoldsName m r name × HoldsName m s name
+Answers p g m (Same r s) No = (name other : ℕ) × HoldsName m r name × HoldsName m s other × (name ≢ other)
 -- what a stop answers
-Does p g k m (Collect major) rest Fine h = h ≡ goes_on g k rest m.register
-Does p g k m Sections rest Fine h = h ≡ goes_on g k rest m.register
--- a register that holds no object, or a failed object test
-Does p g k m (Hide d s offset) rest Null h = (m.register s ≡ Ref 0) × (h ≡ goes_on g k rest (emptied (Hide d s offset) m.register))
-Does p g k m (Final r) rest Null h = (m.register r ≡ Ref 0) × (h ≡ goes_on g k rest m.register)
-Does p g k m s rest Null h = FindsNone m s × (h ≡ goes_on g k rest (emptied s m.register))
-Does p g k m s rest Field h = Misses p g m s × (h ≡ goes_on g k rest (emptied s m.register))
--- no other answer is given
-Does p g k m s rest answer h = ⊥
+Answers p g m (Collect major) Fine = Unit {0}
+Answers p g m Sections Fine = Unit {0}
+-- a failed object test
+Answers p g m s Null = FindsNone m s
+Answers p g m s Field = Misses p g m s
+Answers p g m s answer = ⊥
+
+-- the object that a register's entry holds, or 0 where it holds none
+abbrev pub name_in : Entry → ℕ
+name_in (Ref name) = name
+name_in (Int number) = 0
+name_in (Inner name offset) = name
+
+-- register r of the mutator holds this
+abbrev pub setting : Mutator → ℕ → Entry → Mutator
+setting m r entry = record m { register = put m.register r entry }
+
+-- register r gets the top of the stack
+abbrev pub popped : Mutator → ℕ → List Entry → Mutator
+popped m r [] = m
+popped m r (top ∷ stack) = record m { register = put m.register r top; stack = stack }
+
+-- What mutator m has in its hands after a statement with this answer, but for its script: most statements set one register.
+abbrev pub hands_after : Mutator → Statement → Answer → Mutator
+hands_after m (New r class) (At name) = setting m r (Ref name)
+hands_after m (New r class) answer = setting m r (Ref 0)
+hands_after m (NewV r class count) (At name) = setting m r (Ref name)
+hands_after m (NewV r class count) answer = setting m r (Ref 0)
+hands_after m (Mature r class) (At name) = setting m r (Ref name)
+hands_after m (Mature r class) answer = setting m r (Ref 0)
+hands_after m (Get d r i) (At target) = setting m d (Ref target)
+hands_after m (Get d r i) answer = setting m d (Ref 0)
+hands_after m (GetD d r i) (Number n) = setting m d (Int n)
+hands_after m (GetD d r i) answer = setting m d (Int 0)
+hands_after m (Num d n) answer = setting m d (Int n)
+hands_after m (Move d s) answer = setting m d (m.register s)
+hands_after m (Hide d s offset) Fine = setting m d (Inner (name_in (m.register s)) offset)
+hands_after m (Hide d s offset) answer = setting m d (Inner 0 0)
+hands_after m (Unhide d s) (At name) = setting m d (Ref name)
+hands_after m (Unhide d s) answer = setting m d (Ref 0)
+hands_after m (Drop r) answer = setting m r (Ref 0)
+hands_after m (Push r) answer = record m { stack = m.register r ∷ m.stack }
+hands_after m (Pop r) answer = popped m r m.stack
+hands_after m (GGet r x) (At name) = setting m r (Ref name)
+hands_after m (GGet r x) answer = setting m r (Ref 0)
+hands_after m (WGet r w) (At name) = setting m r (Ref name)
+hands_after m (WGet r w) answer = setting m r (Ref 0)
+hands_after m (Final r) Fine = record m { registered = m.registered ++ name_in (m.register r) ∷ [] }
+hands_after m (NextFin r) (At name) = setting m r (Ref name)
+hands_after m (NextFin r) answer = setting m r (Ref 0)
+hands_after m s answer = m
+
+-- the row without its oldest entry
+abbrev pub without_first : List ℕ → List ℕ
+without_first [] = []
+without_first (name ∷ ready) = ready
+
+-- What a statement of mutator k, which is m, with this answer leaves of the heap: a new object with empty fields, a field, a
+-- global, a link or the ready row. What isn't named stays.
+abbrev pub heap_after : Program → Graph → ℕ → Mutator → Statement → Answer → Graph
+heap_after p g k m (New r class) (At name) = grown p g k class (fields_of p class)
+heap_after p g k m (NewV r class count) (At name) = grown p g k class count
+heap_after p g k m (Mature r class) (At name) = grown p g k class (fields_of p class)
+heap_after p g k m (Put r i s) Fine = stored g (name_in (m.register r)) i (m.register s)
+heap_after p g k m (PutD r i s) Fine = stored g (name_in (m.register r)) i (m.register s)
+heap_after p g k m (GPut x r) Fine = record g { global = put g.global x (name_in (m.register r)) }
+heap_after p g k m (WSet w r long) Fine = record g { link = put g.link w (record { target = name_in (m.register r); long = long }) }
+heap_after p g k m (NextFin r) (At name) = record g { ready = without_first g.ready }
+heap_after p g k m s answer = g
+
+-- In g mutator k, which is m, does statement s with these before it then, and gets this answer; h is the graph then.
+abbrev pub Does : Program → Graph → ℕ → Mutator → Statement → List Statement → Answer → Graph → Type 0
+Does p g k m s rest answer h = Answers p g m s answer × (h ≡ advanced (heap_after p g k m s answer) k (hands_after m s answer) rest)

@@ -2,23 +2,23 @@
 use Rattle.std.specs.Prelude.{◌≡◌, ℕ, ◌+◌, ◌<◌, ◌||◌, Bool, true, false, Option, Some, None, List, [], ◌∷◌, length}
 use Rattle.std.specs.List.{flat_map}
 use Rattle.sg_words.specs.Words.{put}
-use Rattle.sg_graph.specs.declared.program.Statement.{Statement}
-use Rattle.sg_graph.specs.declared.program.Statement.TheVariants.{New, NewV, Collect}
-use Rattle.sg_graph.specs.declared.program.Program.{Program}
-use Rattle.sg_graph.specs.declared.reports.Answer.{Answer}
-use Rattle.sg_graph.specs.declared.reports.Answer.TheVariants.{At, Fine, Full}
-use Rattle.sg_graph.specs.declared.reports.Request.{Request}
-use Rattle.sg_graph.specs.declared.reports.Request.TheVariants.{Need, Minor}
+use Rattle.sg_program.specs.declared.program.Statement.{Statement}
+use Rattle.sg_program.specs.declared.program.Statement.TheVariants.{New, NewV, Collect}
+use Rattle.sg_program.specs.declared.program.Program.{Program}
+use Rattle.sg_program.specs.declared.answers.Answer.{Answer}
+use Rattle.sg_program.specs.declared.answers.Answer.TheVariants.{At, Fine, Full}
+use Rattle.sg_program.specs.declared.answers.Request.{Request}
+use Rattle.sg_program.specs.declared.answers.Request.TheVariants.{Need, Minor}
 use Rattle.sg_graph.specs.declared.reports.Leave.{Leave}
 use Rattle.sg_graph.specs.declared.reports.Leave.TheVariants.{Ended, Wants}
 use Rattle.sg_graph.specs.declared.reports.Part.{Part}
 use Rattle.sg_graph.specs.declared.reports.MinorReport.{MinorReport}
 use Rattle.sg_graph.specs.declared.reports.Service.{Service}
 use Rattle.sg_graph.specs.declared.reports.StopReport.{StopReport}
-use Rattle.sg_graph.specs.Scripts.{words_for}
+use Rattle.sg_program.specs.Scripts.{words_for, IsSmall}
 use Rattle.sg_graph.specs.Graph.{Graph}
 use Rattle.sg_graph.specs.Statements.{Does}
-use Rattle.sg_graph.specs.Book.{Book, placed, HasRoom, LacksRoom, words_of_class, IsApart}
+use Rattle.sg_graph.specs.Book.{Book, placed, HasRoom, LacksRoom, words_of_class, IsSoundBook}
 use Rattle.sg_graph.specs.Epoch.{by_address}
 use Rattle.sg_graph.specs.Pause.{ambiguous_words}
 use Rattle.sg_graph.specs.Minor.{IsMinorPause}
@@ -65,12 +65,12 @@ pub record Takes (b : Book) (n name f : ℕ) (c : Book) : Type 0 where
 pub record HasNoFragment (b : Book) (n : ℕ) : Type 0 where
   pub none : (f : ℕ) → f < b.fragments → LacksRoom b n f
 
--- where the object of a statement that is answered with this at a stop stands; no other statement changes the book
+-- where the small object of a statement that is answered with this at a stop stands; no other statement changes the book
 abbrev pub Places : Program → Book → Statement → Answer → Book → Type 0
-Places p b (New r class) (At name) c = (f : ℕ) × Takes b (words_of_class p class) name f c
-Places p b (New r class) Full c = HasNoFragment b (words_of_class p class) × (c ≡ b)
-Places p b (NewV r class count) (At name) c = (f : ℕ) × Takes b (words_for count) name f c
-Places p b (NewV r class count) Full c = HasNoFragment b (words_for count) × (c ≡ b)
+Places p b (New r class) (At name) c = IsSmall (words_of_class p class) × ((f : ℕ) × Takes b (words_of_class p class) name f c)
+Places p b (New r class) Full c = IsSmall (words_of_class p class) × HasNoFragment b (words_of_class p class) × (c ≡ b)
+Places p b (NewV r class count) (At name) c = IsSmall (words_for count) × ((f : ℕ) × Takes b (words_for count) name f c)
+Places p b (NewV r class count) Full c = IsSmall (words_for count) × HasNoFragment b (words_for count) × (c ≡ b)
 Places p b (Collect false) Fine c = c ≡ b
 Places p b statement answer c = ⊥
 
@@ -99,4 +99,4 @@ pub record IsStop (p : Program) (e : ℕ) (g : Graph) (b : Book) (requests : Lis
   pub book : Book
   pub pauses : Pauses p g b (want_pause requests) report.minor graph book
   pub serves : Serves p graph book requests report.served h c
-  pub apart : IsApart p h c
+  pub sound : IsSoundBook p h c

@@ -5,9 +5,10 @@ use Rattle.std.specs.List.Sorted.{IsStrictlyIncreasing}
 use Rattle.sg_words.specs.Address.{byte_at}
 use Rattle.sg_words.specs.Pieces.{fronts_of, ends_of, IsPieceOf, place}
 use Rattle.sg_words.specs.declared.pieces.Piece.{Piece}
-use Rattle.sg_graph.specs.declared.program.Program.{Program}
+use Rattle.sg_program.specs.declared.program.Program.{Program}
 use Rattle.sg_graph.specs.Graph.{Graph}
-use Rattle.sg_graph.specs.Book.{Book, Young, nursery_base, nursery_end, IsWordOf}
+use Rattle.sg_graph.specs.Book.{Book, Young, nursery_end, IsWordOf}
+use Rattle.sg_words.specs.Sections.{nursery_base}
 
 -- the word x is a standing young object's
 abbrev pub IsCovered : Graph → Book → ℕ → Type 0

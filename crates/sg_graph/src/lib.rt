@@ -1,15 +1,15 @@
-//! Programs, answers and reports, and the heap of named objects that a run is compared with.
+//! Reports, and the heap of named objects that a run is compared with.
 //!
-//! The definitions of that heap, of its statements, of the book of addresses, of epochs, runs and texts stand in
-//! `specs/`: every other crate cites them.
+//! The definitions of that heap, of its statements, of the book of addresses, of epochs, pauses, stops and runs, and of the
+//! words that hold it, stand in `specs/`.
 #![tactic(auto)]
 
-mod counts;
 mod names;
-mod program;
 mod reports;
 
-pub use counts::{script_finals, script_total, total};
 pub use names::names_are_pairs;
-pub use program::{Class, Config, Item, Name, Program, Script, Statement};
-pub use reports::{Answer, EpochReport, Leave, MinorReport, Part, Request, Service, StopReport};
+pub use reports::{EpochReport, Leave, MinorReport, Part, Service, StopReport};
+pub use sg_program::{
+    Answer, Class, Config, Item, Name, Program, Request, Script, Statement, script_finals,
+    script_total, total,
+};

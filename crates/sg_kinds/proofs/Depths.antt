@@ -1,7 +1,7 @@
 -- How deeply repeats stand inside one another: what falls from a repeat to its body.
 use Rattle.std.proofs.Common.{◌≡◌, ℕ, zero, suc, ◌+◌, ◌*◌, ◌<◌, max, List, [], ◌∷◌, map, length, get_or, ap, ◌∙◌, arith}
-use Rattle.sg_graph.specs.declared.program.Item.{Item, out-Item, map-Item, fold-Item, fold_out-Item}
-use Rattle.sg_graph.specs.declared.program.Item.TheOpen.{Item-F, One, Repeat}
+use Rattle.sg_program.specs.declared.program.Item.{Item, out-Item, map-Item, fold-Item, fold_out-Item}
+use Rattle.sg_program.specs.declared.program.Item.TheOpen.{Item-F, One, Repeat}
 
 pub most : List ℕ → ℕ
 most [] = 0

@@ -3,12 +3,12 @@ use Rattle.std.proofs.Common.{ℕ, zero, suc, ◌≤◌, List, [], ◌∷◌, ma
 use Rattle.std.specs.List.{AllByRecursion, flat_map}
 use Rattle.std.proofs.lemmas.List.{length-append}
 use Rattle.std.proofs.lemmas.List.Folds.{flat_map-map}
-use Rattle.sg_graph.specs.declared.program.Statement.{Statement}
-use Rattle.sg_graph.specs.declared.program.Item.{Item, roll-Item, map-Item, ind-Item, fold-roll-Item}
-use Rattle.sg_graph.specs.declared.program.Item.TheOpen.{Item-F, One, Repeat}
-use Rattle.sg_graph.specs.Scripts.{repeated, statements_of, texts_of, item_out, written_out, item_text, written}
-use Rattle.sg_graph.specs.Limits.{times_step, item_times}
-use Rattle.sg_graph.proofs.Runs.{all_first, all_second}
+use Rattle.sg_program.specs.declared.program.Statement.{Statement}
+use Rattle.sg_program.specs.declared.program.Item.{Item, roll-Item, map-Item, ind-Item, fold-roll-Item}
+use Rattle.sg_program.specs.declared.program.Item.TheOpen.{Item-F, One, Repeat}
+use Rattle.sg_program.specs.Scripts.{repeated, statements_of, texts_of, item_out, written_out, item_text, written}
+use Rattle.sg_program.specs.Invariants.{times_step, item_times}
+use Rattle.sg_program.proofs.Runs.{all_first, all_second}
 
 abbrev IsTimes : ℕ → Type 0
 IsTimes n = (1 ≤ n) × (n ≤ 1048576)

@@ -2,11 +2,11 @@
 use Rattle.std.proofs.Common.{◌≡◌, ℕ, suc, ◌+◌, ◌<◌, List, length, slice_get, inl, inr, refl, sym, ap, ◌∙◌, subst, arith}
 use Rattle.std.proofs.lemmas.Bool.{cases_lt}
 use Rattle.std.proofs.lemmas.Option.{same_Some}
-use Rattle.sg_graph.specs.declared.program.Item.{Item}
-use Rattle.sg_graph.specs.declared.program.Script.{Script}
-use Rattle.sg_graph.specs.declared.program.Program.{Program}
-use Rattle.sg_graph.specs.Scripts.{written}
-use Rattle.sg_graph.specs.Kinds.{Kinds, Needs, kinds_after, first_kinds, AreSame, Leads, Misuses, Here, Behind, Inside, AtItsEnd, BehindIt, IsFirstMisuse}
+use Rattle.sg_program.specs.declared.program.Item.{Item}
+use Rattle.sg_program.specs.declared.program.Script.{Script}
+use Rattle.sg_program.specs.declared.program.Program.{Program}
+use Rattle.sg_program.specs.Scripts.{written}
+use Rattle.sg_program.specs.Kinds.{Kinds, Needs, kinds_after, first_kinds, AreSame, Leads, Misuses, Here, Behind, Inside, AtItsEnd, BehindIt, IsFirstMisuse}
 use Rattle.sg_kinds.specs.Laws.{HasOneMisuse}
 use Rattle.sg_kinds.proofs.Walks.{not_both, one_statement, one_body, one_end, no_way}
 

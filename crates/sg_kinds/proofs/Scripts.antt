@@ -4,13 +4,13 @@ use Rattle.std.specs.List.{AllByRecursion, sum_by}
 use Rattle.std.proofs.lemmas.Bool.{cases_eq}
 use Rattle.std.proofs.lemmas.Option.{get_or_from_slice_get, slice_get-get_or}
 use Rattle.std.proofs.lemmas.List.Sums.{sum_by-cons}
-use Rattle.sg_graph.specs.declared.program.Statement.{Statement}
-use Rattle.sg_graph.specs.declared.program.Item.{Item}
-use Rattle.sg_graph.specs.declared.program.Script.{Script}
-use Rattle.sg_graph.specs.declared.program.Program.{Program}
-use Rattle.sg_graph.specs.Scripts.{written, written_out}
-use Rattle.sg_graph.specs.Limits.{HasOperands, IsGood, IsGoodScript, IsWithinLimits}
-use Rattle.sg_graph.specs.Kinds.{first_kinds, Misuses, HasNoMisuse}
+use Rattle.sg_program.specs.declared.program.Statement.{Statement}
+use Rattle.sg_program.specs.declared.program.Item.{Item}
+use Rattle.sg_program.specs.declared.program.Script.{Script}
+use Rattle.sg_program.specs.declared.program.Program.{Program}
+use Rattle.sg_program.specs.Scripts.{written, written_out}
+use Rattle.sg_program.specs.Invariants.{HasOperands, IsGood, IsGoodScript, IsWithinLimits}
+use Rattle.sg_program.specs.Kinds.{first_kinds, Misuses, HasNoMisuse}
 use Rattle.sg_kinds.proofs.Lengths.{longer}
 use Rattle.sg_kinds.proofs.Walks.{no_way}
 

@@ -6,7 +6,7 @@ use Rattle.std.proofs.lemmas.List.{get_or-set_other}
 use Rattle.std.proofs.lemmas.Grind.{get_or-set_at}
 use Rattle.sg_words.specs.Words.{put}
 use Rattle.sg_words.proofs.Puts.{put-at, put-other}
-use Rattle.sg_graph.specs.Kinds.{Kind, Kinds, pops, AreSame}
+use Rattle.sg_program.specs.Kinds.{Kind, Kinds, pops, AreSame}
 use Rattle.sg_kinds.specs.declared.table.Kind.{Kind as Mark}
 use Rattle.sg_kinds.specs.declared.table.Kind.TheVariants.{Ref, Int, Inner}
 use Rattle.sg_kinds.specs.Table.{kind_of, stack_of}

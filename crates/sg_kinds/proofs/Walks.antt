@@ -3,15 +3,15 @@ use Rattle.std.proofs.Common.{◌≡◌, ℕ, zero, suc, ◌+◌, ◌-◌, ◌<�
 use Rattle.std.specs.List.{AllByRecursion}
 use Rattle.std.proofs.lemmas.List.{length-append, append-nil, take_more, take_all, take-append-drop}
 use Rattle.std.proofs.lemmas.Grind.{flat_map-append}
-use Rattle.sg_graph.specs.declared.program.Statement.{Statement}
-use Rattle.sg_graph.specs.declared.program.Item.{Item, out-Item}
-use Rattle.sg_graph.specs.declared.program.Item as V
-use Rattle.sg_graph.specs.declared.program.Item.TheVariants.{outs-One, outs-Repeat}
-use Rattle.sg_graph.specs.declared.program.Item.TheOpen.{One, Repeat}
-use Rattle.sg_graph.specs.Scripts.{item_text, written}
-use Rattle.sg_graph.specs.Kinds.{Kinds, Needs, kinds_after, AreSame, Leads, Done, Does, Repeats, Misuses, Here, Behind, Inside, AtItsEnd, BehindIt}
-use Rattle.sg_graph.proofs.Items.{text_one, text_repeat}
-use Rattle.sg_graph.proofs.Runs.{all_append, all_first, all_second}
+use Rattle.sg_program.specs.declared.program.Statement.{Statement}
+use Rattle.sg_program.specs.declared.program.Item.{Item, out-Item}
+use Rattle.sg_program.specs.declared.program.Item as V
+use Rattle.sg_program.specs.declared.program.Item.TheVariants.{outs-One, outs-Repeat}
+use Rattle.sg_program.specs.declared.program.Item.TheOpen.{One, Repeat}
+use Rattle.sg_program.specs.Scripts.{item_text, written}
+use Rattle.sg_program.specs.Kinds.{Kinds, Needs, kinds_after, AreSame, Leads, Done, Does, Repeats, Misuses, Here, Behind, Inside, AtItsEnd, BehindIt}
+use Rattle.sg_program.proofs.Items.{text_one, text_repeat}
+use Rattle.sg_program.proofs.Runs.{all_append, all_first, all_second}
 
 -- One after another.
 pub leads_on : (k : Kinds) (xs : List Item) (i : Kinds) (ys : List Item) (j : Kinds) → Leads k xs i → Leads i ys j → Leads k (xs ++ ys) j

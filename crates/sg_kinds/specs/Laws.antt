@@ -1,7 +1,7 @@
 -- What is fixed by the rules of kinds.
 use Rattle.std.specs.Prelude.{◌≡◌, ℕ}
-use Rattle.sg_graph.specs.declared.program.Program.{Program}
-use Rattle.sg_graph.specs.Kinds.{IsFirstMisuse}
+use Rattle.sg_program.specs.declared.program.Program.{Program}
+use Rattle.sg_program.specs.Kinds.{IsFirstMisuse}
 
 -- no program has two first misuses: the mutator is fixed, and so is the statement
 pub record HasOneMisuse : Type 0 where

@@ -1,6 +1,6 @@
 -- The code's table of kinds, as the rules see it.
 use Rattle.std.specs.Prelude.{ℕ, zero, suc, List, [], ◌∷◌, slice_index_or}
-use Rattle.sg_graph.specs.Kinds.{Kind, IsRef, IsInt, IsInner, Kinds}
+use Rattle.sg_program.specs.Kinds.{Kind, IsRef, IsInt, IsInner, Kinds}
 use Rattle.sg_kinds.specs.declared.table.Kind.{Kind as Mark}
 use Rattle.sg_kinds.specs.declared.table.Kind.TheVariants.{Ref, Int, Inner}
 use Rattle.sg_kinds.specs.declared.table.Table.{Table}

@@ -3,11 +3,11 @@
 
 ghost use Rattle.std.specs.Prelude.{IfErr, OnOk};
 ghost use Rattle.std.specs.List.{AllByRecursion};
-ghost use Rattle.sg_graph.specs.declared.program.Script.{Script};
-ghost use Rattle.sg_graph.specs.Limits.{IsWithinLimits};
-ghost use Rattle.sg_graph.specs.Kinds.{HasNoMisuse, IsFirstMisuse};
+ghost use Rattle.sg_program.specs.declared.program.Script.{Script};
+ghost use Rattle.sg_program.specs.Invariants.{IsWithinLimits};
+ghost use Rattle.sg_program.specs.Kinds.{HasNoMisuse, IsFirstMisuse};
 
-use sg_graph::Program;
+use sg_program::Program;
 
 mod law;
 mod places;

@@ -1,10 +1,10 @@
 ghost use Rattle.std.specs.Prelude.{◌≡◌, ℕ, ◌≤◌, ◌↔◌, IsTrue, length, slice_index_or};
-ghost use Rattle.sg_graph.specs.Limits.{HasOperands};
-ghost use Rattle.sg_graph.specs.Kinds.{first_kinds, Needs, sets, kinds_after, AreSame};
-ghost use Rattle.sg_graph.specs.declared.program.Statement.TheVariants.{Push, Pop};
+ghost use Rattle.sg_program.specs.Invariants.{HasOperands};
+ghost use Rattle.sg_program.specs.Kinds.{first_kinds, Needs, sets, kinds_after, AreSame};
+ghost use Rattle.sg_program.specs.declared.program.Statement.TheVariants.{Push, Pop};
 
 use crate::places::agree;
-use sg_graph::Statement;
+use sg_program::Statement;
 
 /// What a register or a place of a stack holds: an object or none, a number, or an address inside an object or none.
 #[derive(Clone, Copy, Debug, PartialEq, Eq)]

@@ -1,11 +1,11 @@
 ghost use Rattle.std.specs.Prelude.{◌≡◌, ◌≤◌, [], ◌∷◌, length, true, IfSome};
 ghost use Rattle.std.specs.List.{AllByRecursion};
-ghost use Rattle.sg_graph.specs.Scripts.{written};
-ghost use Rattle.sg_graph.specs.Limits.{HasOperands};
+ghost use Rattle.sg_program.specs.Scripts.{written};
+ghost use Rattle.sg_program.specs.Invariants.{HasOperands};
 
 use crate::table::Table;
 use crate::walk::walk;
-use sg_graph::{Item, Statement};
+use sg_program::{Item, Statement};
 use sqlite_items::Items;
 use std::alloc::{AllocError, Global};
 use std::test::Fail;

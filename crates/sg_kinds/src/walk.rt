@@ -1,12 +1,12 @@
 ghost use Rattle.std.specs.Prelude.{◌≡◌, ℕ, ◌≤◌, [], ◌∷◌, length, true, false, OnOk, OnErr, IfOk, IfErr};
 ghost use Rattle.std.specs.List.{AllByRecursion};
-ghost use Rattle.sg_graph.specs.Scripts.{written};
-ghost use Rattle.sg_graph.specs.Limits.{HasOperands};
-ghost use Rattle.sg_graph.specs.Kinds.{Needs, kinds_after, Leads, Misuses};
+ghost use Rattle.sg_program.specs.Scripts.{written};
+ghost use Rattle.sg_program.specs.Invariants.{HasOperands};
+ghost use Rattle.sg_program.specs.Kinds.{Needs, kinds_after, Leads, Misuses};
 ghost use Rattle.sg_kinds.specs.Table.{kinds_of};
 
 use crate::table::Table;
-use sg_graph::{Item, Statement};
+use sg_program::{Item, Statement};
 
 /// Goes through the items and says how many statements they are as they are written, or which of them is the first misuse.
 #[cycle(items)]

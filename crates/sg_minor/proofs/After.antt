@@ -3,13 +3,14 @@ use Rattle.std.proofs.Common.{◌≡◌, ◌≢◌, ℕ, ◌+◌, ◌≤◌, ◌
 use Rattle.std.proofs.lemmas.Bool.{cond-true, cond-false, cases_eq, cases_lt, cases_Bool}
 use Rattle.sg_words.specs.declared.pieces.Piece.{Piece}
 use Rattle.sg_words.specs.Pieces.{fronts_of}
-use Rattle.sg_graph.specs.declared.program.Program.{Program}
-use Rattle.sg_graph.specs.Scripts.{words_for}
+use Rattle.sg_program.specs.declared.program.Program.{Program}
+use Rattle.sg_program.specs.Scripts.{words_for}
 use Rattle.sg_graph.specs.Graph.{Graph}
-use Rattle.sg_graph.specs.Book.{Book, Section, Young, Old, nursery_base, nursery_end, old_end}
-use Rattle.sg_graph.specs.Pause.{IsPlain}
+use Rattle.sg_graph.specs.Book.{Book, Section, Young, Old, nursery_end, old_end}
+use Rattle.sg_words.specs.Sections.{nursery_base}
+use Rattle.sg_graph.specs.Invariants.{IsPlain}
 use Rattle.sg_space.specs.declared.objects.Object.{Object}
-use Rattle.sg_space.specs.Heap.{Owner, Of, Frag, Buf, Nobody, IsHeap, layout_of}
+use Rattle.sg_graph.specs.Heap.{Owner, Of, Frag, Buf, Nobody, IsHeap, layout_of}
 use Rattle.sg_copy.specs.Area.{Area, In, has, IsYoung, size_of}
 use Rattle.sg_copy.proofs.Members.{out, placed-grows, placed-in}
 use Rattle.sg_minor.specs.Pieces.{IsTaken, ArePieces}

@@ -4,15 +4,15 @@ use Rattle.std.proofs.Math.Path.{fun_ext}
 use Rattle.std.specs.Option.{option_map}
 use Rattle.std.proofs.lemmas.Option.{slice_get-map}
 use Rattle.std.proofs.lemmas.List.{length-map}
-use Rattle.sg_graph.specs.declared.program.Class.{Class}
-use Rattle.sg_graph.specs.declared.program.Program.{Program}
+use Rattle.sg_program.specs.declared.program.Class.{Class}
+use Rattle.sg_program.specs.declared.program.Program.{Program}
 use Rattle.sg_desc.specs.Shapes.{is_strong as is_strong_by}
-use Rattle.sg_graph.specs.Scripts.{shape_at, kind_of, fields_of}
-use Rattle.sg_graph.specs.Book.{Book, nursery_base, nursery_end, old_end}
-use Rattle.sg_space.specs.declared.layout.Layout.{Layout}
-use Rattle.sg_space.specs.Sections.{old_base, large_base}
+use Rattle.sg_program.specs.Scripts.{shape_at, kind_of, fields_of}
+use Rattle.sg_graph.specs.Book.{Book, nursery_end, old_end}
+use Rattle.sg_words.specs.Sections.{nursery_base, old_base, large_base}
+use Rattle.sg_words.specs.declared.layout.Layout.{Layout}
 use Rattle.sg_space.specs.Space.{Contents}
-use Rattle.sg_space.specs.Heap.{IsSpaceOf}
+use Rattle.sg_minor.specs.Holding.{IsSpaceOf}
 use Rattle.sg_copy.specs.Area.{Area}
 use Rattle.sg_copy.specs.Copying.{is_strong_in, area_of}
 

@@ -1,13 +1,13 @@
 -- The area of a space that has a program's sections and classes.
 use Rattle.std.proofs.Common.{List, slice_get, refl, ap, ◌∙◌, arith}
-use Rattle.sg_graph.specs.declared.program.Program.{Program}
+use Rattle.sg_program.specs.declared.program.Program.{Program}
 use Rattle.sg_desc.specs.declared.shapes.Shape.{Shape}
-use Rattle.sg_graph.specs.Scripts.{kind_of, fields_of}
+use Rattle.sg_program.specs.Scripts.{kind_of, fields_of}
 use Rattle.sg_graph.specs.Book.{Book}
 use Rattle.sg_graph.proofs.Quiet.{strong_any}
-use Rattle.sg_space.specs.declared.layout.Layout.{Layout}
+use Rattle.sg_words.specs.declared.layout.Layout.{Layout}
 use Rattle.sg_space.specs.Space.{Contents}
-use Rattle.sg_space.specs.Heap.{IsSpaceOf}
+use Rattle.sg_minor.specs.Holding.{IsSpaceOf}
 use Rattle.sg_copy.specs.Copying.{area_of, is_strong_in}
 use Rattle.sg_minor.proofs.Names.{IsAreaOf}
 use Rattle.sg_minor.proofs.Areas.{reference_is}

@@ -3,14 +3,15 @@ use Rattle.std.proofs.Common.{◌≡◌, ℕ, zero, suc, ◌+◌, ◌<◌, ◌�
 use Rattle.std.proofs.lemmas.Bool.{cond-true, cond-false, cases_Bool, eqb-true, ltb-true, lt-ltb, le-ltb}
 use Rattle.std.proofs.lemmas.List.{get_or-replicate}
 use Rattle.sg_words.specs.Address.{byte_at}
-use Rattle.sg_graph.specs.declared.program.Class.{Class}
-use Rattle.sg_graph.specs.declared.program.Program.{Program}
+use Rattle.sg_program.specs.declared.program.Class.{Class}
+use Rattle.sg_program.specs.declared.program.Program.{Program}
 use Rattle.sg_graph.specs.Graph.{no_objects}
-use Rattle.sg_graph.specs.Book.{empty_book, nursery_base, nursery_end}
-use Rattle.sg_space.specs.Sections.{globals_base, words_end}
+use Rattle.sg_graph.specs.Book.{empty_book, nursery_end}
+use Rattle.sg_words.specs.Sections.{nursery_base, globals_base, words_end}
 use Rattle.sg_space.specs.Space.{Contents, clear_space}
 use Rattle.sg_space.specs.Standing.{word}
-use Rattle.sg_space.specs.Heap.{Owner, Of, Frag, Nobody, IsLaid, HoldsHeap, layout_of}
+use Rattle.sg_graph.specs.Heap.{Owner, Of, Frag, Nobody, IsLaid, layout_of}
+use Rattle.sg_minor.specs.Holding.{HoldsHeap}
 use Rattle.sg_minor.specs.Parts.{HoldsSome}
 use Rattle.sg_minor.proofs.Names.{of-same}
 

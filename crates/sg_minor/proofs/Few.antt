@@ -8,9 +8,9 @@ use Rattle.std.proofs.lemmas.List.Elements.{Contains-append_right}
 use Rattle.sg_words.specs.declared.pieces.Piece.{Piece}
 use Rattle.sg_words.specs.declared.pieces.Piece.TheVariants.{Frag, Waste}
 use Rattle.sg_words.specs.Pieces.{IsPieceOf, place, fronts_of}
-use Rattle.sg_space.specs.declared.layout.Layout.{Layout}
+use Rattle.sg_words.specs.declared.layout.Layout.{Layout}
 use Rattle.sg_space.specs.declared.objects.Object.{Object}
-use Rattle.sg_space.specs.Sections.{IsLayout, nursery_base, old_base}
+use Rattle.sg_words.specs.Sections.{IsLayout, nursery_base, old_base}
 use Rattle.sg_minor.specs.Pieces.{IsGap, ArePieces}
 use Rattle.sg_minor.proofs.Gaps.{place_is}
 use Rattle.sg_pins.proofs.Merging.{sorted_far}

@@ -1,13 +1,13 @@
 -- The major heap is filled with objects one behind another, and its rest is zero.
 use Rattle.std.proofs.Common.{◌≡◌, ◌≢◌, ℕ, zero, suc, ◌+◌, ◌≤◌, ◌<◌, true, List, sym, ap, ◌∙◌, subst, inl, inr, arith, length}
 use Rattle.std.proofs.lemmas.Bool.{cases_eq, cases_lt}
-use Rattle.sg_graph.specs.declared.program.Program.{Program}
+use Rattle.sg_program.specs.declared.program.Program.{Program}
 use Rattle.sg_graph.specs.Graph.{Graph}
 use Rattle.sg_graph.specs.Book.{Book, nursery_end, old_end}
-use Rattle.sg_space.specs.Sections.{old_base, large_base}
+use Rattle.sg_words.specs.Sections.{old_base, large_base}
 use Rattle.sg_space.specs.Space.{Contents}
 use Rattle.sg_space.specs.Standing.{word}
-use Rattle.sg_space.specs.Heap.{Owner, Of, layout_of, IsHeap}
+use Rattle.sg_graph.specs.Heap.{Owner, Of, layout_of, IsHeap}
 use Rattle.sg_copy.specs.Area.{In, size_of}
 use Rattle.sg_copy.specs.Copying.{IsFilled, Ends, Goes, IsWhole}
 use Rattle.sg_minor.specs.Joined.{ArePins, HasTagged}

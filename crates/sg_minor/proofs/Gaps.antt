@@ -7,9 +7,9 @@ use Rattle.std.proofs.lemmas.List.{get_or-map, length-map, map_push}
 use Rattle.std.proofs.lemmas.List.Elements.{Contains-get_or, Contains-append_left, Contains-push, Contains-push_cases}
 use Rattle.sg_words.specs.declared.pieces.Piece.{Piece}
 use Rattle.sg_words.specs.declared.pieces.Piece.TheVariants.{Frag, Waste}
-use Rattle.sg_space.specs.declared.layout.Layout.{Layout}
+use Rattle.sg_words.specs.declared.layout.Layout.{Layout}
 use Rattle.sg_space.specs.declared.objects.Object.{Object}
-use Rattle.sg_space.specs.Sections.{nursery_base, old_base}
+use Rattle.sg_words.specs.Sections.{nursery_base, old_base}
 use Rattle.sg_words.specs.Pieces.{IsPieceOf, place}
 use Rattle.sg_minor.specs.Pieces.{IsTaken, IsGap, ArePieces, IsGrown}
 use Rattle.sg_pins.proofs.Merging.{increasing_push}

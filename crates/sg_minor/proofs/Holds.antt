@@ -2,12 +2,12 @@
 use Rattle.std.proofs.Common.{◌≡◌, ◌≢◌, ℕ, ◌+◌, ◌≤◌, ◌<◌, ◌⊎◌, cond, Bool, true, false, sym, refl, ap, ◌∙◌, subst, inl, inr, arith}
 use Rattle.std.proofs.lemmas.Bool.{cases_eq, cases_lt}
 use Rattle.sg_desc.specs.Shapes.{holds_reference}
-use Rattle.sg_graph.specs.Scripts.{kind_of, words_for}
+use Rattle.sg_program.specs.Scripts.{kind_of, words_for}
 use Rattle.sg_graph.specs.Graph.{Entry, Ref, Int, Inner}
-use Rattle.sg_graph.specs.Book.{Young, Old, nursery_base, nursery_end, word_of}
+use Rattle.sg_graph.specs.Book.{Young, Old, nursery_end, word_of}
+use Rattle.sg_words.specs.Sections.{nursery_base, ready_base}
 use Rattle.sg_graph.proofs.Quiet.{strong_here}
-use Rattle.sg_space.specs.Sections.{ready_base}
-use Rattle.sg_space.specs.Heap.{Of, IsHeaded, IsKnown, IsKnownEntry, IsOfSort, Objects, Fields, Globals, Clear, Fragments, IsHeap, layout_of}
+use Rattle.sg_graph.specs.Heap.{Of, IsHeaded, IsKnown, IsKnownEntry, IsOfSort, Objects, Fields, Globals, Clear, Fragments, IsHeap, layout_of}
 use Rattle.sg_copy.specs.Area.{In, IsYoung, size_of, is_strong, sent}
 use Rattle.sg_copy.proofs.Members.{sent-at}
 use Rattle.sg_minor.proofs.Names.{some-name, name-some, size-is, strong-of, target-kept, global-kept}

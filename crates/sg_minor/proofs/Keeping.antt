@@ -7,9 +7,9 @@ use Rattle.std.proofs.lemmas.List.{get_or-map, get_or-take, length-map, take_mor
 use Rattle.std.proofs.lemmas.List.Elements.{Contains-get_or, Contains-append_left, Contains-push, Contains-push_cases}
 use Rattle.sg_words.specs.declared.pieces.Move.{Move}
 use Rattle.sg_graph.specs.Minor.{sources}
-use Rattle.sg_space.specs.declared.layout.Layout.{Layout}
+use Rattle.sg_words.specs.declared.layout.Layout.{Layout}
 use Rattle.sg_space.specs.declared.objects.Object.{Object}
-use Rattle.sg_space.specs.Sections.{old_base}
+use Rattle.sg_words.specs.Sections.{old_base}
 use Rattle.sg_minor.specs.Pieces.{AreStanding, first_word, word_behind}
 use Rattle.sg_minor.specs.Parts.{IsStaying, WentTo, AreRounded, AreStaying, AreKept}
 use Rattle.sg_pins.proofs.Merging.{sorted_far, increasing_push}

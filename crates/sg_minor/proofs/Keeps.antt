@@ -2,13 +2,13 @@
 use Rattle.std.proofs.Common.{◌≡◌, ◌≢◌, ℕ, ◌+◌, ◌<◌, true, false, List, ◌++◌, sym, refl, ap, ◌∙◌, subst, inl, inr, arith}
 use Rattle.sg_words.specs.Address.{byte_at}
 use Rattle.sg_words.specs.Tags.{plain_word}
-use Rattle.sg_graph.specs.Reach.{Reached}
-use Rattle.sg_graph.specs.Reach.Reached.{Root, Next}
-use Rattle.sg_graph.specs.declared.program.Program.{Program}
+use Rattle.sg_words.specs.Reach.{Reached}
+use Rattle.sg_words.specs.Reach.Reached.{Root, Next}
+use Rattle.sg_program.specs.declared.program.Program.{Program}
 use Rattle.sg_graph.specs.Graph.{Graph}
 use Rattle.sg_graph.specs.Book.{Book}
-use Rattle.sg_space.specs.Sections.{globals_base}
-use Rattle.sg_space.specs.Heap.{Owner, layout_of, IsHeap}
+use Rattle.sg_words.specs.Sections.{globals_base}
+use Rattle.sg_graph.specs.Heap.{Owner, layout_of, IsHeap}
 use Rattle.sg_copy.specs.Area.{In, has, IsYoung, Points, Traces}
 use Rattle.sg_copy.specs.Image.{IsImage}
 use Rattle.sg_copy.proofs.Members.{in-left, in-right, in-cases, out}

@@ -3,17 +3,18 @@ use Rattle.std.proofs.Common.{◌≡◌, ◌≢◌, ℕ, ◌+◌, ◌≤◌, ◌
 use Rattle.std.proofs.lemmas.Bool.{cond-true, cond-false, cases_lt, cases_Bool, le-leb, lt-ltb, lt-leb, le-ltb}
 use Rattle.sg_words.specs.Address.{byte_at}
 use Rattle.sg_words.specs.Tags.{plain_word}
-use Rattle.sg_graph.specs.declared.program.Program.{Program}
+use Rattle.sg_program.specs.declared.program.Program.{Program}
 use Rattle.sg_desc.specs.Shapes.{is_strong as is_strong_by}
-use Rattle.sg_graph.specs.Scripts.{kind_of, words_for}
+use Rattle.sg_program.specs.Scripts.{kind_of, words_for}
 use Rattle.sg_graph.specs.Graph.{Graph, Entry, Ref, Int, Inner}
-use Rattle.sg_graph.specs.Book.{Book, Young, Old, Large, nursery_base, nursery_end, old_end, word_of}
-use Rattle.sg_graph.specs.Pause.{IsTarget, IsReached, IsRoot, IsPlain}
-use Rattle.sg_graph.specs.Reach.{Reached, Root, Next}
-use Rattle.sg_graph.proofs.Closure.{from_rounds, within_closed, to_rounds}
+use Rattle.sg_graph.specs.Book.{Book, Young, Old, Large, nursery_end, old_end, word_of}
+use Rattle.sg_words.specs.Sections.{nursery_base, globals_base}
+use Rattle.sg_graph.specs.Pause.{IsTarget, IsReached, IsRoot}
+use Rattle.sg_graph.specs.Invariants.{IsPlain}
+use Rattle.sg_words.specs.Reach.{Reached, Root, Next}
+use Rattle.sg_words.proofs.Closure.{from_rounds, within_closed, to_rounds}
 use Rattle.sg_graph.proofs.Quiet.{strong_holds, none_ready, as_rounds}
-use Rattle.sg_space.specs.Heap.{Owner, Of, IsOfSort, IsKnownEntry, IsHeap, layout_of}
-use Rattle.sg_space.specs.Sections.{globals_base}
+use Rattle.sg_graph.specs.Heap.{Owner, Of, IsOfSort, IsKnownEntry, IsHeap, layout_of}
 use Rattle.sg_copy.specs.Area.{Area, has, IsYoung, class_of, is_strong, Points}
 use Rattle.sg_minor.specs.Joined.{IsItem, IsKept, IsTraced}
 

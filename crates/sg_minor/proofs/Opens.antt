@@ -2,12 +2,12 @@
 use Rattle.std.proofs.Common.{◌≡◌, ◌≢◌, ℕ, ◌+◌, ◌≤◌, ◌<◌, ◌⊎◌, true, List, sym, ap, ◌∙◌, subst, inl, inr, arith, length}
 use Rattle.sg_words.specs.Address.{byte_at}
 use Rattle.sg_words.specs.Tags.{plain_word}
-use Rattle.sg_graph.specs.Reach.Reached.{Root, Next}
-use Rattle.sg_graph.specs.declared.program.Program.{Program}
+use Rattle.sg_words.specs.Reach.Reached.{Root, Next}
+use Rattle.sg_program.specs.declared.program.Program.{Program}
 use Rattle.sg_graph.specs.Graph.{Graph}
 use Rattle.sg_graph.specs.Book.{Book, old_end}
-use Rattle.sg_space.specs.Sections.{nursery_base, words_end}
-use Rattle.sg_space.specs.Heap.{Owner, layout_of, IsHeap}
+use Rattle.sg_words.specs.Sections.{nursery_base, words_end}
+use Rattle.sg_graph.specs.Heap.{Owner, layout_of, IsHeap}
 use Rattle.sg_copy.specs.Area.{In, IsYoung, is_strong, Points, Traces}
 use Rattle.sg_copy.specs.Round.{IsOpening}
 use Rattle.sg_minor.specs.Joined.{ArePins, HasTagged}

@@ -1,7 +1,7 @@
 -- Whose word each word is after a pause: each copy has the owner of its original.
 use Rattle.std.proofs.Common.{◌≡◌, ℕ, ◌+◌, ◌≤◌, ◌<◌, List, [], ◌∷◌, sym, refl, ap, ◌∙◌, inl, inr, arith}
 use Rattle.std.proofs.lemmas.Bool.{cases_lt}
-use Rattle.sg_space.specs.Heap.{Owner}
+use Rattle.sg_graph.specs.Heap.{Owner}
 use Rattle.sg_copy.specs.Area.{In, size_of, Placed}
 use Rattle.sg_copy.proofs.Members.{has-cases, in-here, in-there, placed-grows}
 use Rattle.sg_words.proofs.Puts.{within_range, range-in, range-below, range-above}

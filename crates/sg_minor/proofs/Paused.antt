@@ -1,15 +1,15 @@
 -- The law of a minor pause.
 use Rattle.std.proofs.Common.{ℕ, List, ◌++◌, length, slice_index, sym, refl, ap, ◌∙◌, subst}
-use Rattle.sg_graph.specs.declared.program.Program.{Program}
+use Rattle.sg_program.specs.declared.program.Program.{Program}
 use Rattle.sg_graph.specs.declared.reports.MinorReport.{MinorReport}
 use Rattle.sg_graph.specs.Graph.{Graph}
 use Rattle.sg_graph.specs.Book.{Book}
-use Rattle.sg_graph.specs.Pause.{IsPlain}
-use Rattle.sg_space.specs.declared.layout.Layout.{Layout}
+use Rattle.sg_graph.specs.Invariants.{IsPlain}
+use Rattle.sg_words.specs.declared.layout.Layout.{Layout}
 use Rattle.sg_space.specs.declared.objects.Object.{Object}
 use Rattle.sg_space.specs.Space.{Contents}
 use Rattle.sg_space.specs.Standing.{word}
-use Rattle.sg_space.specs.Heap.{IsSpaceOf, HoldsHeap}
+use Rattle.sg_minor.specs.Holding.{IsSpaceOf, HoldsHeap}
 use Rattle.sg_space.proofs.Fragments.{same_count}
 use Rattle.sg_copy.specs.Copying.{area_of}
 use Rattle.sg_minor.specs.Pieces.{ArePieces}

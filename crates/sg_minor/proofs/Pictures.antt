@@ -1,10 +1,10 @@
 -- The words after the round and the sweep are the picture of those before the pause.
 use Rattle.std.proofs.Common.{◌≡◌, ◌≢◌, ℕ, ◌+◌, ◌≤◌, ◌<◌, cond, Bool, true, false, List, [], ◌∷◌, ◌++◌, sym, refl, ap, ◌∙◌, subst, inl, inr, arith, le_refl}
-use Rattle.sg_graph.specs.declared.program.Program.{Program}
+use Rattle.sg_program.specs.declared.program.Program.{Program}
 use Rattle.sg_graph.specs.Graph.{Graph}
 use Rattle.sg_graph.specs.Book.{Book, Old, old_end}
-use Rattle.sg_space.specs.Sections.{globals_base}
-use Rattle.sg_space.specs.Heap.{Owner, layout_of, IsHeap}
+use Rattle.sg_words.specs.Sections.{globals_base}
+use Rattle.sg_graph.specs.Heap.{Owner, layout_of, IsHeap}
 use Rattle.sg_copy.specs.Area.{In, has, IsYoung, size_of, is_strong, Traces, sent, Placed}
 use Rattle.sg_copy.specs.Image.{IsImage}
 use Rattle.sg_copy.proofs.Members.{in-here, in-there, in-left, in-right, in-cases, out, placed-grows, placed-in}

@@ -2,13 +2,14 @@
 use Rattle.std.proofs.Common.{◌≡◌, ℕ, List, map, sym, ap, ◌∙◌, subst, arith}
 use Rattle.std.specs.List.{Contains}
 use Rattle.sg_words.specs.Address.{byte_at, word_at}
-use Rattle.sg_graph.specs.declared.program.Program.{Program}
+use Rattle.sg_program.specs.declared.program.Program.{Program}
 use Rattle.sg_graph.specs.Graph.{Graph}
 use Rattle.sg_graph.specs.Book.{Book}
 use Rattle.sg_graph.specs.Pause.{IsPinned}
 use Rattle.sg_space.specs.Space.{Contents, IsContents}
 use Rattle.sg_space.specs.Standing.{word}
-use Rattle.sg_space.specs.Heap.{Owner, IsHeap, IsSpaceOf}
+use Rattle.sg_graph.specs.Heap.{Owner, IsHeap}
+use Rattle.sg_minor.specs.Holding.{IsSpaceOf}
 use Rattle.sg_copy.specs.Area.{In}
 use Rattle.sg_copy.proofs.Members.{word_at-byte_at}
 use Rattle.sg_pins.specs.Pins.{ArePinned}

@@ -1,10 +1,10 @@
 -- What a round and the sweep leave of the words of objects that stand still.
 use Rattle.std.proofs.Common.{◌≡◌, ◌≢◌, ℕ, ◌+◌, ◌≤◌, ◌<◌, ◌⊎◌, cond, true, false, List, sym, refl, ap, ◌∙◌, subst, inl, inr, arith, le_refl}
 use Rattle.std.proofs.lemmas.Bool.{cond-true, cond-false, cases_Bool}
-use Rattle.sg_graph.specs.declared.program.Program.{Program}
+use Rattle.sg_program.specs.declared.program.Program.{Program}
 use Rattle.sg_graph.specs.Graph.{Graph}
 use Rattle.sg_graph.specs.Book.{Book, Old, nursery_end, old_end}
-use Rattle.sg_space.specs.Heap.{Owner, IsHeap}
+use Rattle.sg_graph.specs.Heap.{Owner, IsHeap}
 use Rattle.sg_copy.specs.Area.{In, has, IsYoung, size_of, is_strong, Traces, sent}
 use Rattle.sg_copy.specs.Image.{IsImage}
 use Rattle.sg_copy.proofs.Members.{out, not-in, sent-fixed}

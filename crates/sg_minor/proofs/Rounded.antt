@@ -13,17 +13,18 @@ use Rattle.sg_minor.specs.Pieces.{AreStanding, IsTaken, first_word, word_behind}
 use Rattle.sg_minor.specs.Parts.{IsStaying, AreRounded, AreStaying, AreKept, AreCleaned}
 use Rattle.sg_words.specs.Address.{IsAddress, byte_at, word_at}
 use Rattle.sg_words.specs.Tags.{plain_word}
-use Rattle.sg_graph.specs.declared.program.Program.{Program}
+use Rattle.sg_program.specs.declared.program.Program.{Program}
 use Rattle.sg_desc.specs.Shapes.{holds_reference, is_strong as is_strong_by}
-use Rattle.sg_graph.specs.Scripts.{kind_of}
-use Rattle.sg_graph.specs.Reach.{Root, Next}
+use Rattle.sg_program.specs.Scripts.{kind_of}
+use Rattle.sg_words.specs.Reach.{Root, Next}
 use Rattle.sg_graph.specs.Graph.{Graph, Entry, Ref, Int, Inner}
 use Rattle.sg_graph.specs.Book.{Book, Young, old_end, word_of}
-use Rattle.sg_space.specs.Sections.{globals_base}
+use Rattle.sg_words.specs.Sections.{globals_base}
 use Rattle.sg_space.specs.Space.{Contents, IsContents}
 use Rattle.sg_space.specs.Standing.{word, TellsYoung}
 use Rattle.sg_graph.proofs.Quiet.{strong_holds}
-use Rattle.sg_space.specs.Heap.{Owner, Of, Frag, Buf, Nobody, IsHeap, IsSpaceOf, layout_of, IsOfSort, IsKnownEntry}
+use Rattle.sg_graph.specs.Heap.{Owner, Of, Frag, Buf, Nobody, IsHeap, layout_of, IsOfSort, IsKnownEntry}
+use Rattle.sg_minor.specs.Holding.{IsSpaceOf}
 use Rattle.sg_copy.specs.Area.{Area, In, has, IsYoung, class_of, size_of, Traces}
 use Rattle.sg_copy.specs.Image.{IsImage}
 use Rattle.sg_copy.specs.Copying.{area_of, IsStill, fields_of, fields_of_all}

@@ -4,16 +4,17 @@ use Rattle.std.proofs.lemmas.Bool.{cases_eq, cases_lt}
 use Rattle.std.proofs.lemmas.List.{length-map}
 use Rattle.std.proofs.lemmas.Option.{none-some, same_Some}
 use Rattle.sg_words.specs.Tags.{plain_word}
-use Rattle.sg_graph.specs.declared.program.Class.{Class}
-use Rattle.sg_graph.specs.declared.program.Program.{Program}
+use Rattle.sg_program.specs.declared.program.Class.{Class}
+use Rattle.sg_program.specs.declared.program.Program.{Program}
 use Rattle.sg_desc.specs.declared.shapes.Shape.{Shape}
 use Rattle.sg_desc.specs.Shapes.{is_vector}
-use Rattle.sg_graph.specs.Scripts.{shape_at, shape_of, kind_of, fields_of}
+use Rattle.sg_program.specs.Scripts.{shape_at, shape_of, kind_of, fields_of}
 use Rattle.sg_graph.specs.Graph.{Graph}
 use Rattle.sg_graph.specs.Book.{Book, Young, Old, nursery_end}
 use Rattle.sg_space.specs.Space.{Contents, IsContents}
 use Rattle.sg_space.specs.Standing.{word, size_at, IsObject, IsSoundBy, IsSound}
-use Rattle.sg_space.specs.Heap.{Owner, Of, Frag, Buf, Nobody, IsHeap, IsSpaceOf, HoldsHeap}
+use Rattle.sg_graph.specs.Heap.{Owner, Of, Frag, Buf, Nobody, IsHeap}
+use Rattle.sg_minor.specs.Holding.{IsSpaceOf, HoldsHeap}
 use Rattle.sg_minor.proofs.Names.{of-same}
 
 -- the first word of the object that owns a word

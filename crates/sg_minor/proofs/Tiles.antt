@@ -7,7 +7,7 @@ use Rattle.sg_words.specs.Address.{byte_at, word_at}
 use Rattle.sg_words.specs.declared.pieces.Piece.{Piece}
 use Rattle.sg_words.specs.declared.pieces.Piece.TheVariants.{Frag, Waste}
 use Rattle.sg_words.specs.Pieces.{fronts_of, ends_of, place}
-use Rattle.sg_space.specs.declared.layout.Layout.{Layout}
+use Rattle.sg_words.specs.declared.layout.Layout.{Layout}
 use Rattle.sg_space.specs.declared.objects.Object.{Object}
 use Rattle.sg_minor.specs.Pieces.{IsGap, ArePieces}
 

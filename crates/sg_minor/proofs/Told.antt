@@ -4,14 +4,15 @@ use Rattle.std.proofs.lemmas.Bool.{cond-true, cond-false, cases_eq, eq-eqb, ne_e
 use Rattle.sg_words.specs.Address.{byte_at}
 use Rattle.sg_words.specs.declared.pieces.Move.{Move}
 use Rattle.sg_graph.specs.declared.reports.MinorReport.{MinorReport}
-use Rattle.sg_graph.specs.Scripts.{words_for}
-use Rattle.sg_graph.specs.Book.{Young, Old, nursery_base, nursery_end, old_end, IsWordOf, IsApart}
+use Rattle.sg_program.specs.Scripts.{words_for}
+use Rattle.sg_graph.specs.Book.{Young, Old, nursery_end, old_end, IsWordOf, IsApart}
+use Rattle.sg_words.specs.Sections.{nursery_base}
 use Rattle.sg_graph.specs.Pause.{IsPinned, StandsYoung, IsRoot}
 use Rattle.sg_graph.proofs.Quiet.{quiet}
 use Rattle.sg_graph.specs.Tiling.{IsCovered, IsTiled}
 use Rattle.sg_graph.specs.Tiling.{IsGap as IsGapOf}
 use Rattle.sg_graph.specs.Minor.{IsLoose, HasMoved, HasFailed, IsStill, AreLines, IsMinorPause, move_of}
-use Rattle.sg_space.specs.Heap.{layout_of}
+use Rattle.sg_graph.specs.Heap.{layout_of}
 use Rattle.sg_copy.specs.Area.{In, has, IsYoung, size_of}
 use Rattle.sg_copy.proofs.Members.{in-left, in-right, in-cases, not-in, placed-in}
 use Rattle.sg_minor.specs.Pieces.{IsTaken, IsGap}

@@ -5,9 +5,9 @@ use Rattle.std.proofs.lemmas.Bool.{cases_eq, cases_lt}
 use Rattle.std.proofs.lemmas.List.{get_or_default}
 use Rattle.std.proofs.lemmas.List.Elements.{Contains-get_or}
 use Rattle.sg_words.specs.declared.pieces.Piece.{Piece}
-use Rattle.sg_space.specs.declared.layout.Layout.{Layout}
+use Rattle.sg_words.specs.declared.layout.Layout.{Layout}
 use Rattle.sg_space.specs.declared.objects.Object.{Object}
-use Rattle.sg_space.specs.Sections.{nursery_base, old_base}
+use Rattle.sg_words.specs.Sections.{nursery_base, old_base}
 use Rattle.sg_minor.specs.Pieces.{AreStanding, IsTaken, IsGrown, ArePieces, first_word, word_behind}
 use Rattle.sg_minor.proofs.Gaps.{IsStretch, AreBelow, grown, below_none, below_all}
 

@@ -6,15 +6,15 @@ use Rattle.sg_words.specs.Tags.{plain_word}
 use Rattle.sg_words.specs.Pieces.{fronts_of, ends_of}
 use Rattle.sg_words.specs.declared.pieces.Move.{Move}
 use Rattle.sg_words.specs.declared.pieces.Piece.{Piece}
-use Rattle.sg_graph.specs.declared.program.Program.{Program}
+use Rattle.sg_program.specs.declared.program.Program.{Program}
 use Rattle.sg_graph.specs.Graph.{Graph}
 use Rattle.sg_graph.specs.Book.{Book, nursery_end, old_end}
-use Rattle.sg_graph.specs.Pause.{IsPlain}
+use Rattle.sg_graph.specs.Invariants.{IsPlain}
 use Rattle.sg_space.specs.declared.objects.Object.{Object}
-use Rattle.sg_space.specs.Sections.{old_base, large_base}
+use Rattle.sg_words.specs.Sections.{old_base, large_base}
 use Rattle.sg_space.specs.Space.{Contents, IsContents}
 use Rattle.sg_space.specs.Standing.{word, IsSoundBy, TellsYoung}
-use Rattle.sg_space.specs.Heap.{HoldsHeap}
+use Rattle.sg_minor.specs.Holding.{HoldsHeap}
 use Rattle.sg_copy.specs.Area.{size_of}
 use Rattle.sg_copy.specs.Image.{IsImage}
 use Rattle.sg_copy.specs.Copying.{area_of, IsStill, IsFilled, Ends, Goes, CanCopyAll, HasCopiedTo, fields_of_all}

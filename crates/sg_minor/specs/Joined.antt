@@ -2,17 +2,18 @@
 use Rattle.std.specs.Prelude.{◌≡◌, ◌≢◌, ℕ, ◌+◌, ◌<◌, ◌≤◌, ◌⊎◌, true, false, if◌then◌else◌, List, ◌++◌}
 use Rattle.sg_words.specs.Address.{byte_at, word_at}
 use Rattle.sg_words.specs.declared.pieces.Move.{Move}
-use Rattle.sg_graph.specs.declared.program.Program.{Program}
+use Rattle.sg_program.specs.declared.program.Program.{Program}
 use Rattle.sg_desc.specs.Shapes.{is_strong as is_strong_by}
-use Rattle.sg_graph.specs.Scripts.{kind_of}
+use Rattle.sg_program.specs.Scripts.{kind_of}
 use Rattle.sg_graph.specs.Graph.{Graph}
 use Rattle.sg_graph.specs.Book.{Book, Old, old_end}
 use Rattle.sg_graph.specs.Pause.{IsPinned}
-use Rattle.sg_graph.specs.Reach.{Reached}
-use Rattle.sg_space.specs.Sections.{globals_base}
+use Rattle.sg_words.specs.Reach.{Reached}
+use Rattle.sg_words.specs.Sections.{globals_base}
 use Rattle.sg_space.specs.Space.{Contents, IsContents}
 use Rattle.sg_space.specs.Standing.{word}
-use Rattle.sg_space.specs.Heap.{layout_of, HoldsHeap}
+use Rattle.sg_graph.specs.Heap.{layout_of}
+use Rattle.sg_minor.specs.Holding.{HoldsHeap}
 use Rattle.sg_copy.specs.Area.{Area, In, has, IsYoung, size_of, is_strong, Points, sent, Placed}
 use Rattle.sg_copy.specs.Copying.{area_of, IsStill, CanCopyAll, HasCopiedTo, fields_of_all}
 

@@ -6,16 +6,16 @@ use Rattle.sg_words.specs.Address.{byte_at}
 use Rattle.sg_words.specs.Pieces.{fronts_of, ends_of}
 use Rattle.sg_words.specs.declared.pieces.Move.{Move}
 use Rattle.sg_words.specs.declared.pieces.Piece.{Piece}
-use Rattle.sg_graph.specs.declared.program.Program.{Program}
+use Rattle.sg_program.specs.declared.program.Program.{Program}
 use Rattle.sg_graph.specs.declared.reports.MinorReport.{MinorReport}
 use Rattle.sg_graph.specs.Graph.{Graph}
 use Rattle.sg_graph.specs.Book.{Book}
-use Rattle.sg_graph.specs.Pause.{IsPlain}
+use Rattle.sg_graph.specs.Invariants.{IsPlain}
 use Rattle.sg_graph.specs.Minor.{sources, IsMinorPause}
 use Rattle.sg_space.specs.declared.objects.Object.{Object}
 use Rattle.sg_space.specs.Space.{Contents, IsContents}
 use Rattle.sg_space.specs.Standing.{word}
-use Rattle.sg_space.specs.Heap.{HoldsHeap}
+use Rattle.sg_minor.specs.Holding.{HoldsHeap}
 use Rattle.sg_copy.specs.Area.{In, size_of}
 use Rattle.sg_minor.specs.Pieces.{IsTaken, ArePieces}
 use Rattle.sg_minor.specs.Joined.{ArePins, IsEnded}

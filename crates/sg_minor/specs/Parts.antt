@@ -5,18 +5,18 @@ use Rattle.std.specs.List.Sorted.{IsStrictlyIncreasing}
 use Rattle.sg_words.specs.Address.{IsAddress, byte_at, word_at}
 use Rattle.sg_words.specs.Tags.{plain_word}
 use Rattle.sg_words.specs.declared.pieces.Move.{Move}
-use Rattle.sg_graph.specs.declared.program.Program.{Program}
+use Rattle.sg_program.specs.declared.program.Program.{Program}
 use Rattle.sg_graph.specs.Graph.{Graph}
 use Rattle.sg_desc.specs.Shapes.{is_strong as is_strong_by}
-use Rattle.sg_graph.specs.Scripts.{kind_of}
+use Rattle.sg_program.specs.Scripts.{kind_of}
 use Rattle.sg_graph.specs.Book.{Book, Old}
 use Rattle.sg_graph.specs.Minor.{sources}
-use Rattle.sg_space.specs.declared.layout.Layout.{Layout}
+use Rattle.sg_words.specs.declared.layout.Layout.{Layout}
 use Rattle.sg_space.specs.declared.objects.Object.{Object}
-use Rattle.sg_space.specs.Sections.{globals_base, IsInSection}
+use Rattle.sg_words.specs.Sections.{globals_base, IsInSection}
 use Rattle.sg_space.specs.Space.{Contents}
 use Rattle.sg_space.specs.Standing.{word}
-use Rattle.sg_space.specs.Heap.{HoldsHeap}
+use Rattle.sg_minor.specs.Holding.{HoldsHeap}
 use Rattle.sg_copy.specs.Area.{Area, In, IsYoung}
 use Rattle.sg_minor.specs.Pieces.{AreStanding, IsTaken, first_word, word_behind}
 

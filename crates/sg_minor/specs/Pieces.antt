@@ -5,9 +5,9 @@ use Rattle.std.specs.List.Sorted.{IsStrictlyIncreasing}
 use Rattle.sg_words.specs.Address.{word_at}
 use Rattle.sg_words.specs.declared.pieces.Piece.{Piece}
 use Rattle.sg_words.specs.Pieces.{IsPieceOf, place}
-use Rattle.sg_space.specs.declared.layout.Layout.{Layout}
+use Rattle.sg_words.specs.declared.layout.Layout.{Layout}
 use Rattle.sg_space.specs.declared.objects.Object.{Object}
-use Rattle.sg_space.specs.Sections.{nursery_base, old_base}
+use Rattle.sg_words.specs.Sections.{nursery_base, old_base}
 
 -- the object's first word, and the word behind its last one
 abbrev pub first_word : Object → ℕ

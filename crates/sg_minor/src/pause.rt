@@ -1,10 +1,10 @@
 ghost use Rattle.std.specs.Prelude.{◌≡◌, ℕ, IfOk};
-ghost use Rattle.sg_graph.specs.declared.program.Program.{Program};
+ghost use Rattle.sg_program.specs.declared.program.Program.{Program};
 ghost use Rattle.sg_graph.specs.Graph.{Graph};
 ghost use Rattle.sg_graph.specs.Book.{Book};
-ghost use Rattle.sg_graph.specs.Pause.{IsPlain};
+ghost use Rattle.sg_graph.specs.Invariants.{IsPlain};
 ghost use Rattle.sg_space.specs.Space.{IsContents};
-ghost use Rattle.sg_space.specs.Heap.{HoldsHeap};
+ghost use Rattle.sg_minor.specs.Holding.{HoldsHeap};
 ghost use Rattle.sg_minor.specs.Law.{HasPaused};
 ghost use Rattle.sg_minor.specs.Parts.{HoldsSome};
 

@@ -1,6 +1,6 @@
 ghost use Rattle.std.specs.Prelude.{◌≡◌, ◌≤◌, ◌+◌, ◌*◌, ◌-◌, ◌/◌, ◌%◌, ◌^◌, ◌<◌, OnOk, IfOk};
 ghost use Rattle.sg_words.specs.Address.{word_at};
-ghost use Rattle.sg_space.specs.Sections.{IsLayout};
+ghost use Rattle.sg_words.specs.Sections.{IsLayout};
 ghost use Rattle.sg_words.specs.Pieces.{IsPieceOf};
 ghost use Rattle.sg_minor.specs.Pieces.{AreStanding, ArePieces, IsGrown};
 

@@ -1,13 +1,13 @@
 ghost use Rattle.std.specs.Prelude.{◌≡◌, ◌≢◌, ℕ, ◌+◌, ◌<◌, ◌≤◌, ◌↔◌, IfOk, IsTrue, true, map, length};
 ghost use Rattle.sg_words.specs.Address.{byte_at, word_at};
 ghost use Rattle.sg_words.specs.Tags.{plain_word};
-ghost use Rattle.sg_graph.specs.declared.program.Program.{Program};
+ghost use Rattle.sg_program.specs.declared.program.Program.{Program};
 ghost use Rattle.sg_graph.specs.Graph.{Graph};
 ghost use Rattle.sg_graph.specs.Book.{Book, Old};
-ghost use Rattle.sg_space.specs.Sections.{large_base, IsLayout, IsInSection};
+ghost use Rattle.sg_words.specs.Sections.{large_base, IsLayout, IsInSection};
 ghost use Rattle.sg_space.specs.Space.{IsContents};
 ghost use Rattle.sg_space.specs.Standing.{word};
-ghost use Rattle.sg_space.specs.Heap.{HoldsHeap};
+ghost use Rattle.sg_minor.specs.Holding.{HoldsHeap};
 ghost use Rattle.sg_copy.specs.Area.{IsYoung, class_of};
 ghost use Rattle.sg_copy.specs.Copying.{area_of};
 ghost use Rattle.sg_minor.specs.Joined.{AreSeeds};

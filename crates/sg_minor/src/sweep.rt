@@ -1,7 +1,7 @@
 ghost use Rattle.std.specs.Prelude.{◌≡◌, ℕ, ◌+◌, ◌<◌, ◌≤◌, ◌↔◌, IfOk, IfSome, IfNone, IsTrue, length, slice_index, [], ◌∷◌};
 ghost use Rattle.std.specs.List.Sorted.{IsStrictlyIncreasing};
 ghost use Rattle.sg_words.specs.Address.{byte_at, word_at};
-ghost use Rattle.sg_space.specs.Sections.{nursery_base, old_base};
+ghost use Rattle.sg_words.specs.Sections.{nursery_base, old_base};
 ghost use Rattle.sg_space.specs.Space.{IsContents};
 ghost use Rattle.sg_space.specs.Standing.{word};
 ghost use Rattle.sg_copy.specs.Copying.{IsStill};

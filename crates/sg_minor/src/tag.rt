@@ -3,7 +3,7 @@ ghost use Rattle.std.specs.List.{Contains};
 ghost use Rattle.std.specs.List.Sorted.{IsStrictlyIncreasing};
 ghost use Rattle.sg_words.specs.Address.{byte_at, word_at};
 ghost use Rattle.sg_words.specs.Tags.{plain_word};
-ghost use Rattle.sg_space.specs.Sections.{IsInSection};
+ghost use Rattle.sg_words.specs.Sections.{IsInSection};
 ghost use Rattle.sg_space.specs.Space.{IsContents};
 ghost use Rattle.sg_space.specs.Standing.{word};
 ghost use Rattle.sg_copy.specs.Copying.{IsStill, Stores};

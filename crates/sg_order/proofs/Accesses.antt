@@ -4,21 +4,22 @@ use Rattle.std.proofs.lemmas.Bool.{cases_eq, eq-eqb, ne_eqb, cond-true, cond-fal
 use Rattle.sg_words.specs.Address.{byte_at}
 use Rattle.sg_words.specs.declared.steps.Place.TheVariants.{Word}
 use Rattle.sg_words.specs.Words.{put, Words, write}
-use Rattle.sg_graph.specs.declared.program.Statement.{Statement}
-use Rattle.sg_graph.specs.declared.program.Statement.TheVariants.{Put, Get, PutD, GetD}
-use Rattle.sg_graph.specs.declared.program.Program.{Program}
+use Rattle.sg_program.specs.declared.program.Statement.{Statement}
+use Rattle.sg_program.specs.declared.program.Statement.TheVariants.{Put, Get, PutD, GetD}
+use Rattle.sg_program.specs.declared.program.Program.{Program}
 use Rattle.sg_desc.specs.declared.shapes.Descriptor.{Descriptor}
-use Rattle.sg_graph.specs.declared.reports.Answer.{Answer}
-use Rattle.sg_graph.specs.declared.reports.Answer.TheVariants.{At, Nil, Number, Fine}
+use Rattle.sg_program.specs.declared.answers.Answer.{Answer}
+use Rattle.sg_program.specs.declared.answers.Answer.TheVariants.{At, Nil, Number, Fine}
 use Rattle.sg_desc.specs.Shapes.{Reference, Plain, has_field, holds_reference}
-use Rattle.sg_graph.specs.Scripts.{kind_of}
-use Rattle.sg_graph.specs.Kinds.{IsRef, IsInt}
+use Rattle.sg_program.specs.Scripts.{kind_of}
+use Rattle.sg_program.specs.Kinds.{IsRef, IsInt}
 use Rattle.sg_graph.specs.Graph.{Entry, Ref, Int, Inner, Mutator, Graph, stored}
-use Rattle.sg_graph.specs.Statements.{Test, test_of, Finds}
+use Rattle.sg_graph.specs.Statements.{Finds}
+use Rattle.sg_program.specs.Tests.{Test, test_of}
 use Rattle.sg_graph.specs.Book.{Book, word_of}
-use Rattle.sg_space.specs.Sections.{globals_base}
-use Rattle.sg_space.specs.Heap.{Owner, IsKnown, IsKnownEntry, IsOfSort, layout_of}
-use Rattle.sg_order.specs.Rules.{Layout, Access, Actor, within, over, reference_answer, object_in}
+use Rattle.sg_words.specs.Sections.{globals_base}
+use Rattle.sg_graph.specs.Heap.{Owner, IsKnown, IsKnownEntry, IsOfSort, layout_of}
+use Rattle.sg_rules.specs.Rules.{Layout, Access, Actor, within, over, reference_answer, object_in}
 use Rattle.sg_order.specs.Rest.{kind_of_entry}
 use Rattle.sg_order.specs.Rest.{Stands as StandsAt}
 use Rattle.sg_words.proofs.Puts.{put-at, put-other, put-all, put-along}

@@ -1,9 +1,9 @@
 -- The statements with an object test, and those that make an object.
 use Rattle.std.proofs.Common.{◌≡◌, ℕ, None, Some}
-use Rattle.sg_graph.specs.declared.program.Statement.{Statement}
-use Rattle.sg_graph.specs.declared.program.Statement.TheVariants.{New, NewV, Mature, Put, Get, PutD, GetD, Num, Move, Hide, Unhide, Drop, Push, Pop, GPut, GGet, WSet, WGet, Final, NextFin, Same, Collect, Sections}
-use Rattle.sg_graph.specs.Scripts.{IsMaking}
-use Rattle.sg_graph.specs.Statements.{Test, test_of}
+use Rattle.sg_program.specs.declared.program.Statement.{Statement}
+use Rattle.sg_program.specs.declared.program.Statement.TheVariants.{New, NewV, Mature, Put, Get, PutD, GetD, Num, Move, Hide, Unhide, Drop, Push, Pop, GPut, GGet, WSet, WGet, Final, NextFin, Same, Collect, Sections}
+use Rattle.sg_program.specs.Scripts.{IsMaking}
+use Rattle.sg_program.specs.Tests.{Test, test_of}
 
 none_is_some : (test : Test) → None ≡ Some test → ⊥
 none_is_some test e = cc

@@ -3,22 +3,22 @@ use Rattle.std.proofs.Common.{◌≡◌, ◌≢◌, ℕ, ◌+◌, subst, Bool, t
 use Rattle.std.specs.List.{AllByRecursion}
 use Rattle.sg_words.specs.Address.{byte_at}
 use Rattle.sg_words.specs.Words.{Words}
-use Rattle.sg_graph.specs.declared.program.Statement.{Statement}
-use Rattle.sg_graph.specs.declared.program.Statement.TheVariants.{New, NewV, Mature, Put, Get, PutD, GetD, Num, Move, Hide, Unhide, Drop, Push, Pop, GPut, GGet, WSet, WGet, Final, NextFin, Same, Collect, Sections}
-use Rattle.sg_graph.specs.declared.program.Program.{Program}
-use Rattle.sg_graph.specs.declared.reports.Answer.{Answer}
-use Rattle.sg_graph.specs.declared.reports.Answer.TheVariants.{At, Nil, Null, Number, Fine, Yes, No, Field, Full}
+use Rattle.sg_program.specs.declared.program.Statement.{Statement}
+use Rattle.sg_program.specs.declared.program.Statement.TheVariants.{New, NewV, Mature, Put, Get, PutD, GetD, Num, Move, Hide, Unhide, Drop, Push, Pop, GPut, GGet, WSet, WGet, Final, NextFin, Same, Collect, Sections}
+use Rattle.sg_program.specs.declared.program.Program.{Program}
+use Rattle.sg_program.specs.declared.answers.Answer.{Answer}
+use Rattle.sg_program.specs.declared.answers.Answer.TheVariants.{At, Nil, Null, Number, Fine, Yes, No, Field, Full}
 use Rattle.sg_desc.specs.Shapes.{has_field}
-use Rattle.sg_graph.specs.Scripts.{kind_of, made_words}
-use Rattle.sg_graph.specs.Kinds.{FindKinds}
+use Rattle.sg_program.specs.Scripts.{kind_of, made_words}
+use Rattle.sg_program.specs.Invariants.{FindKinds}
 use Rattle.sg_graph.specs.Graph.{Entry, Ref, Int, Inner, Mutator, Graph}
-use Rattle.sg_graph.specs.Statements.{Test}
+use Rattle.sg_program.specs.Tests.{Test}
 use Rattle.sg_graph.specs.Book.{Book, word_of}
 use Rattle.sg_graph.specs.Epoch.{by_address}
-use Rattle.sg_order.specs.Rules.{Layout, Slot, Mid, Idle, TestTag, TestLength, FailTag, FailLength, Access, Look, Claim, StoreLength, StoreTag, HideFits, HideMisses, Ask, Left, Actor}
+use Rattle.sg_rules.specs.Rules.{Layout, Slot, Mid, Idle, TestTag, TestLength, FailTag, FailLength, Access, Look, Claim, StoreLength, StoreTag, HideFits, HideMisses, Ask, Left, Actor}
 use Rattle.sg_order.specs.Rest.{kinds_in, IsRunnable}
 use Rattle.sg_order.specs.Rest.{Stands as StandsAt}
-use Rattle.sg_space.specs.Heap.{IsKnown, IsKnownEntry}
+use Rattle.sg_graph.specs.Heap.{IsKnown, IsKnownEntry}
 use Rattle.sg_order.proofs.Relation.{IsGiven, AreGiven, IsMutator, Tight, IsAsked, Tested, Placed, Hidden, AtMid, Keeps, Stacked, Stands, Later}
 
 address_later : (b c : Book) (answer : Answer) → IsGiven b.stands answer → ((n : ℕ) → b.stands n ≡ true → c.address n ≡ b.address n) → by_address c answer ≡ by_address b answer

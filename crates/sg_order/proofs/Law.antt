@@ -5,16 +5,19 @@ use Rattle.std.proofs.lemmas.Bool.{cases_eq, eqb-true}
 use Rattle.std.specs.List.{AllByRecursion}
 use Rattle.sg_words.specs.Words.{put, Words, after}
 use Rattle.sg_words.specs.Events.{ticks, by_one}
-use Rattle.sg_graph.specs.declared.program.Statement.{Statement}
-use Rattle.sg_graph.specs.declared.program.Program.{Program}
-use Rattle.sg_graph.specs.declared.reports.Answer.{Answer}
-use Rattle.sg_graph.specs.Scripts.{script_of, IsMaking, made_words}
-use Rattle.sg_graph.specs.Kinds.{first_kinds, FindKinds}
+use Rattle.sg_program.specs.declared.program.Statement.{Statement}
+use Rattle.sg_program.specs.declared.program.Program.{Program}
+use Rattle.sg_program.specs.declared.answers.Answer.{Answer}
+use Rattle.sg_program.specs.Scripts.{script_of, IsMaking, made_words}
+use Rattle.sg_program.specs.Kinds.{first_kinds}
+use Rattle.sg_program.specs.Invariants.{FindKinds}
 use Rattle.sg_graph.specs.Graph.{Entry, Graph, Ref, Int, Inner, no_objects}
-use Rattle.sg_graph.specs.Book.{Book, empty_book, word_of, Young, Old, nursery_base, nursery_end, HasNoPlace, IsApart}
-use Rattle.sg_graph.specs.Epoch.{Said, Explains, Pairwise, answers_of, by_address}
-use Rattle.sg_space.specs.Heap.{Owner, Of, Frag, Nobody, IsKnownEntry, IsHeap}
-use Rattle.sg_order.specs.Rules.{Layout, Slot, Mid, Left, Actor, fresh, Went}
+use Rattle.sg_graph.specs.Book.{Book, empty_book, word_of, Young, Old, nursery_end, HasNoPlace, IsApart}
+use Rattle.sg_words.specs.Sections.{nursery_base}
+use Rattle.sg_graph.specs.Epoch.{Said, Explains, answers_of, by_address}
+use Rattle.sg_words.specs.Lists.{Pairwise}
+use Rattle.sg_graph.specs.Heap.{Owner, Of, Frag, Nobody, IsKnownEntry, IsHeap}
+use Rattle.sg_rules.specs.Rules.{Layout, Slot, Mid, Left, Actor, fresh, Went}
 use Rattle.sg_order.specs.Rest.{Holds, IsReady, IsHeld, IsEpochOpening, IsRunnable, before_it, IsOver, kinds_in}
 use Rattle.sg_order.specs.Rest.{Stands as StandsAt}
 use Rattle.sg_order.specs.Opening.{IsFirstLayout, IsOpening}

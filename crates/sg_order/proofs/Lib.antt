@@ -1,3 +1,4 @@
+pub mod Emptied
 pub mod Relation
 pub mod Events
 pub mod Frame

@@ -4,20 +4,21 @@ use Rattle.std.proofs.lemmas.Bool.{cases_eq}
 use Rattle.sg_words.specs.Address.{byte_at, word_at}
 use Rattle.sg_words.specs.Tags.{plain_word}
 use Rattle.sg_words.specs.Words.{put, Words, write}
-use Rattle.sg_graph.specs.declared.program.Statement.{Statement}
-use Rattle.sg_graph.specs.declared.program.Statement.TheVariants.{Num, Drop, Collect}
-use Rattle.sg_graph.specs.declared.program.Program.{Program}
-use Rattle.sg_graph.specs.declared.reports.Answer.{Answer}
-use Rattle.sg_graph.specs.declared.reports.Answer.TheVariants.{Null, Fine, Field}
+use Rattle.sg_program.specs.declared.program.Statement.{Statement}
+use Rattle.sg_program.specs.declared.program.Statement.TheVariants.{Num, Drop, Collect}
+use Rattle.sg_program.specs.declared.program.Program.{Program}
+use Rattle.sg_program.specs.declared.answers.Answer.{Answer}
+use Rattle.sg_program.specs.declared.answers.Answer.TheVariants.{Null, Fine, Field}
 use Rattle.sg_desc.specs.Shapes.{has_field}
-use Rattle.sg_graph.specs.Scripts.{kind_of, IsMaking, made_words}
-use Rattle.sg_graph.specs.Kinds.{Kinds, IsRef, IsInt, IsInner, Needs, kinds_after}
+use Rattle.sg_program.specs.Scripts.{kind_of, IsMaking, made_words}
+use Rattle.sg_program.specs.Kinds.{Kinds, IsRef, IsInt, IsInner, Needs, kinds_after}
 use Rattle.sg_graph.specs.Graph.{Entry, Ref, Int, Inner, Mutator, Graph, goes_on}
-use Rattle.sg_graph.specs.Statements.{Test, test_of, emptied, FindsNone, Misses, Does}
+use Rattle.sg_graph.specs.Statements.{emptied, FindsNone, Misses, Does}
+use Rattle.sg_program.specs.Tests.{Test, test_of}
 use Rattle.sg_graph.specs.Book.{Book, Books, word_of}
-use Rattle.sg_space.specs.Heap.{Owner, IsKnown, IsKnownEntry}
+use Rattle.sg_graph.specs.Heap.{Owner, IsKnown, IsKnownEntry}
 use Rattle.sg_words.specs.declared.steps.Place.TheVariants.{Stop}
-use Rattle.sg_order.specs.Rules.{Layout, Mid, Idle, TestTag, TestLength, FailTag, FailLength, Access, Look, Claim, Ask, Left, Actor, before, within, over, cleared, object_in}
+use Rattle.sg_rules.specs.Rules.{Layout, Mid, Idle, TestTag, TestLength, FailTag, FailLength, Access, Look, Claim, Ask, Left, Actor, before, within, over, cleared, object_in}
 use Rattle.sg_order.specs.Rest.{kind_of_entry}
 use Rattle.sg_order.specs.Rest.{Stands as StandsAt}
 use Rattle.sg_words.proofs.Puts.{put-all, put-along}

@@ -4,11 +4,11 @@ use Rattle.sg_words.specs.Words.{put}
 use Rattle.sg_desc.specs.declared.shapes.Descriptor.{Descriptor}
 use Rattle.sg_desc.specs.declared.shapes.Descriptor.TheVariants.{PtrFree, Run, Bitmap, VectorRefs, VectorPlain, Ephemeron}
 use Rattle.sg_desc.specs.Shapes.{is_vector}
-use Rattle.sg_graph.specs.declared.program.Statement.{Statement}
-use Rattle.sg_graph.specs.declared.program.Program.{Program}
-use Rattle.sg_graph.specs.declared.reports.Answer.TheVariants.{At}
-use Rattle.sg_graph.specs.Scripts.{kind_of, IsSizeOf, IsMaking, made_in, made_class, made_fields, made_words}
-use Rattle.sg_graph.specs.Kinds.{IsRef, kinds_after}
+use Rattle.sg_program.specs.declared.program.Statement.{Statement}
+use Rattle.sg_program.specs.declared.program.Program.{Program}
+use Rattle.sg_program.specs.declared.answers.Answer.TheVariants.{At}
+use Rattle.sg_program.specs.Scripts.{kind_of, IsSizeOf, IsMaking, made_in, made_class, made_fields, made_words}
+use Rattle.sg_program.specs.Kinds.{IsRef, kinds_after}
 use Rattle.sg_graph.specs.Graph.{Entry, Ref, Mutator, Graph, grown, goes_on}
 use Rattle.sg_graph.specs.Statements.{Does}
 use Rattle.sg_graph.specs.Book.{Book, IsPlaced, Books}

@@ -3,17 +3,18 @@ use Rattle.std.proofs.Common.{◌≡◌, ℕ, true, false, List, [], ◌∷◌, 
 use Rattle.std.proofs.Math.Path.{fun_ext}
 use Rattle.std.specs.List.{AllByRecursion}
 use Rattle.sg_words.specs.Words.{put, Words}
-use Rattle.sg_graph.specs.declared.program.Statement.{Statement}
-use Rattle.sg_graph.specs.declared.program.Program.{Program}
-use Rattle.sg_graph.specs.declared.reports.Answer.{Answer}
-use Rattle.sg_graph.specs.Kinds.{Kinds, FindKinds, kinds_after}
+use Rattle.sg_program.specs.declared.program.Statement.{Statement}
+use Rattle.sg_program.specs.declared.program.Program.{Program}
+use Rattle.sg_program.specs.declared.answers.Answer.{Answer}
+use Rattle.sg_program.specs.Kinds.{Kinds, kinds_after}
+use Rattle.sg_program.specs.Invariants.{FindKinds}
 use Rattle.sg_graph.specs.Graph.{Entry, Mutator, Graph, goes_on, goes_on_with}
 use Rattle.sg_graph.specs.Statements.{Does}
 use Rattle.sg_graph.specs.Book.{Book, Books, word_of}
 use Rattle.sg_graph.specs.Epoch.{by_address}
-use Rattle.sg_graph.specs.Pause.{IsPlain}
-use Rattle.sg_space.specs.Heap.{Owner, IsKnownEntry, IsLaid}
-use Rattle.sg_order.specs.Rules.{Layout, Slot, Mid, Idle, Actor, within, over, over_with}
+use Rattle.sg_graph.specs.Invariants.{IsPlain}
+use Rattle.sg_graph.specs.Heap.{Owner, IsKnownEntry, IsLaid}
+use Rattle.sg_rules.specs.Rules.{Layout, Slot, Mid, Idle, Actor, within, over, over_with}
 use Rattle.sg_order.specs.Rest.{kind_of_entry, kinds_in, IsRunnable}
 use Rattle.sg_order.specs.Rest.{Stands as StandsAt}
 use Rattle.sg_words.proofs.Puts.{put-same, put-other, put-all}

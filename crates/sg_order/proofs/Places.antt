@@ -5,19 +5,21 @@ use Rattle.sg_words.specs.Address.{byte_at}
 use Rattle.sg_words.specs.Tags.{plain_word}
 use Rattle.sg_words.specs.declared.steps.Place.TheVariants.{Next, Word}
 use Rattle.sg_words.specs.Words.{put, Words, write}
-use Rattle.sg_graph.specs.declared.program.Statement.{Statement}
-use Rattle.sg_graph.specs.declared.program.Program.{Program}
-use Rattle.sg_graph.specs.declared.reports.Answer.{Answer}
-use Rattle.sg_graph.specs.declared.reports.Answer.TheVariants.{At}
+use Rattle.sg_program.specs.declared.program.Statement.{Statement}
+use Rattle.sg_program.specs.declared.program.Program.{Program}
+use Rattle.sg_program.specs.declared.answers.Answer.{Answer}
+use Rattle.sg_program.specs.declared.answers.Answer.TheVariants.{At}
 use Rattle.sg_desc.specs.Shapes.{holds_reference}
-use Rattle.sg_graph.specs.Scripts.{kind_of, IsSizeOf, IsMaking, made_in, made_class, made_fields, made_words}
-use Rattle.sg_graph.specs.Kinds.{kinds_after}
+use Rattle.sg_program.specs.Scripts.{kind_of, IsSizeOf, IsMaking, made_in, made_class, made_fields, made_words}
+use Rattle.sg_program.specs.Kinds.{kinds_after}
 use Rattle.sg_graph.specs.Graph.{Entry, Ref, Int, Inner, Graph, grown, goes_on, empty_field}
 use Rattle.sg_graph.specs.Statements.{Does}
-use Rattle.sg_graph.specs.Book.{Book, Books, placed, share, word_of, Young, nursery_base, nursery_end}
-use Rattle.sg_graph.specs.Pause.{is_pair, IsPlain}
-use Rattle.sg_space.specs.Heap.{Owner, Of, Frag, Buf, IsHeaded, IsKnown, IsKnownEntry, IsOfSort, Objects, Fields}
-use Rattle.sg_order.specs.Rules.{Layout, Mid, Idle, Claim, StoreLength, StoreTag, Actor, before, within, over, owning, taken}
+use Rattle.sg_graph.specs.Book.{Book, Books, placed, share, word_of, Young, nursery_end}
+use Rattle.sg_words.specs.Sections.{nursery_base}
+use Rattle.sg_graph.specs.Pause.{is_pair}
+use Rattle.sg_graph.specs.Invariants.{IsPlain}
+use Rattle.sg_graph.specs.Heap.{Owner, Of, Frag, Buf, IsHeaded, IsKnown, IsKnownEntry, IsOfSort, Objects, Fields}
+use Rattle.sg_rules.specs.Rules.{Layout, Mid, Idle, Claim, StoreLength, StoreTag, Actor, before, within, over, owning, taken}
 use Rattle.sg_order.specs.Rest.{kind_of_entry}
 use Rattle.sg_words.proofs.Puts.{put-at, put-same, put-other, put-all, put-along, within_range, range-in, range-below, range-above, range-keeps}
 use Rattle.sg_order.proofs.Events.{range-was}
@@ -26,7 +28,7 @@ use Rattle.sg_order.proofs.Relation.{Ground, IsMutator, Stands, Later, IsHeading
 use Rattle.sg_order.proofs.Moves.{Change, kinds_of, kinds_along, offsets_put, silent, turned, is_after, stack_after, stack_kept, fits_after, fits_as, runnable_after, runnable_as}
 use Rattle.sg_order.proofs.Accesses.{same_there, ground_stored, later_stored, length_off, tag_off, fields_off}
 use Rattle.sg_order.proofs.Makes.{made_known, made_no_pair, made_sized, does_making, books_making, kinds_making, piled_making}
-use Rattle.sg_space.proofs.Placing.{of_sort_empty, empty_cond}
+use Rattle.sg_order.proofs.Emptied.{of_sort_empty, empty_cond}
 
 -- What a place for a new object of m words at x has to be: the words are no object's, and inside. Next, from and to are the
 -- other parts of the book.

@@ -4,17 +4,17 @@ use Rattle.std.proofs.lemmas.Bool.{cases_eq, eq-eqb, ne_eqb, cond-true, cond-fal
 use Rattle.sg_words.specs.Address.{byte_at}
 use Rattle.sg_words.specs.Tags.{plain_word}
 use Rattle.sg_words.specs.Words.{put, Words}
-use Rattle.sg_graph.specs.declared.program.Statement.{Statement}
-use Rattle.sg_graph.specs.declared.program.Statement.TheVariants.{Move, Hide, Unhide, Push, Pop, Same}
-use Rattle.sg_graph.specs.declared.program.Program.{Program}
-use Rattle.sg_graph.specs.declared.reports.Answer.{Answer}
-use Rattle.sg_graph.specs.declared.reports.Answer.TheVariants.{At, Nil, Null, Fine, Yes, No, Field}
-use Rattle.sg_graph.specs.Scripts.{words_for}
-use Rattle.sg_graph.specs.Kinds.{IsRef, IsInner, pops}
+use Rattle.sg_program.specs.declared.program.Statement.{Statement}
+use Rattle.sg_program.specs.declared.program.Statement.TheVariants.{Move, Hide, Unhide, Push, Pop, Same}
+use Rattle.sg_program.specs.declared.program.Program.{Program}
+use Rattle.sg_program.specs.declared.answers.Answer.{Answer}
+use Rattle.sg_program.specs.declared.answers.Answer.TheVariants.{At, Nil, Null, Fine, Yes, No, Field}
+use Rattle.sg_program.specs.Scripts.{words_for}
+use Rattle.sg_program.specs.Kinds.{IsRef, IsInner, pops}
 use Rattle.sg_graph.specs.Graph.{Entry, Ref, Inner, Graph}
 use Rattle.sg_graph.specs.Book.{Book, word_of}
-use Rattle.sg_space.specs.Heap.{Owner, IsKnown, IsKnownEntry}
-use Rattle.sg_order.specs.Rules.{Layout, Slot, Idle, HideFits, HideMisses, Actor, before, within, over, over_with, reference_answer, object_in, hides_none, unhidden}
+use Rattle.sg_graph.specs.Heap.{Owner, IsKnown, IsKnownEntry}
+use Rattle.sg_rules.specs.Rules.{Layout, Slot, Idle, HideFits, HideMisses, Actor, before, within, over, over_with, reference_answer, object_in, hides_none, unhidden}
 use Rattle.sg_order.specs.Rest.{kind_of_entry}
 use Rattle.sg_order.specs.Rest.{Stands as StandsAt}
 use Rattle.sg_words.proofs.Puts.{put-along}

@@ -3,21 +3,23 @@ use Rattle.std.proofs.Common.{◌≡◌, ◌≢◌, ℕ, ◌+◌, ◌<◌, ◌�
 use Rattle.std.specs.List.{AllByRecursion}
 use Rattle.sg_words.specs.Address.{byte_at}
 use Rattle.sg_words.specs.Words.{put, Words}
-use Rattle.sg_graph.specs.declared.program.Statement.{Statement}
-use Rattle.sg_graph.specs.declared.program.Statement.TheVariants.{New, NewV, Collect}
-use Rattle.sg_graph.specs.declared.program.Program.{Program}
-use Rattle.sg_graph.specs.declared.reports.Answer.{Answer}
-use Rattle.sg_graph.specs.declared.reports.Answer.TheVariants.{At, Nil, Null, Number, Fine, Yes, No, Field, Full}
+use Rattle.sg_program.specs.declared.program.Statement.{Statement}
+use Rattle.sg_program.specs.declared.program.Statement.TheVariants.{New, NewV, Collect}
+use Rattle.sg_program.specs.declared.program.Program.{Program}
+use Rattle.sg_program.specs.declared.answers.Answer.{Answer}
+use Rattle.sg_program.specs.declared.answers.Answer.TheVariants.{At, Nil, Null, Number, Fine, Yes, No, Field, Full}
 use Rattle.sg_desc.specs.Shapes.{has_field}
-use Rattle.sg_graph.specs.Scripts.{kind_of, words_for, IsMaking, made_in, made_class, made_fields, made_words}
-use Rattle.sg_graph.specs.Kinds.{FindKinds}
+use Rattle.sg_program.specs.Scripts.{kind_of, words_for, IsMaking, made_in, made_class, made_fields, made_words}
+use Rattle.sg_program.specs.Invariants.{FindKinds}
 use Rattle.sg_graph.specs.Graph.{Entry, Ref, Inner, Graph}
-use Rattle.sg_graph.specs.Statements.{Test, test_of, emptied}
+use Rattle.sg_graph.specs.Statements.{emptied}
+use Rattle.sg_program.specs.Tests.{Test, test_of}
 use Rattle.sg_graph.specs.Book.{Book, IsShort, LacksRoom, word_of}
-use Rattle.sg_graph.specs.Epoch.{Turn, Pairwise, by_address}
-use Rattle.sg_graph.specs.Pause.{IsPlain}
-use Rattle.sg_space.specs.Heap.{Owner, IsHeaded, IsKnown, IsKnownEntry, IsLaid}
-use Rattle.sg_order.specs.Rules.{Layout, Slot, Mid, Idle, TestTag, TestLength, FailTag, FailLength, Access, Look, Claim, StoreLength, StoreTag, HideFits, HideMisses, Ask, Left, Actor}
+use Rattle.sg_graph.specs.Epoch.{Turn, by_address}
+use Rattle.sg_words.specs.Lists.{Pairwise}
+use Rattle.sg_graph.specs.Invariants.{IsPlain}
+use Rattle.sg_graph.specs.Heap.{Owner, IsHeaded, IsKnown, IsKnownEntry, IsLaid}
+use Rattle.sg_rules.specs.Rules.{Layout, Slot, Mid, Idle, TestTag, TestLength, FailTag, FailLength, Access, Look, Claim, StoreLength, StoreTag, HideFits, HideMisses, Ask, Left, Actor}
 use Rattle.sg_order.specs.Rest.{kinds_in, Holds, IsRunnable}
 use Rattle.sg_order.specs.Rest.{Stands as StandsAt}
 

@@ -3,12 +3,13 @@ use Rattle.std.proofs.Common.{ℕ, zero, suc, ◌≤◌, List, [], ◌∷◌, ze
 use Rattle.std.specs.List.{AllByRecursion, slice_get}
 use Rattle.sg_desc.specs.declared.shapes.Descriptor.{Descriptor}
 use Rattle.sg_desc.specs.declared.shapes.Descriptor.TheVariants.{PtrFree, Run, Bitmap, VectorRefs, VectorPlain, Ephemeron}
-use Rattle.sg_graph.specs.declared.program.Class.{Class}
-use Rattle.sg_graph.specs.declared.program.Statement.{Statement}
-use Rattle.sg_graph.specs.declared.program.Statement.TheVariants.{New, NewV, Mature, Put, Get, PutD, GetD, Num, Move, Hide, Unhide, Drop, Push, Pop, GPut, GGet, WSet, WGet, Final, NextFin, Same, Collect, Sections}
-use Rattle.sg_graph.specs.declared.program.Program.{Program}
-use Rattle.sg_graph.specs.Scripts.{shape_at, fields_of, made_fields}
-use Rattle.sg_graph.specs.Limits.{MayHave, IsSmallClass, IsGood, IsRun}
+use Rattle.sg_program.specs.declared.program.Class.{Class}
+use Rattle.sg_program.specs.declared.program.Statement.{Statement}
+use Rattle.sg_program.specs.declared.program.Statement.TheVariants.{New, NewV, Mature, Put, Get, PutD, GetD, Num, Move, Hide, Unhide, Drop, Push, Pop, GPut, GGet, WSet, WGet, Final, NextFin, Same, Collect, Sections}
+use Rattle.sg_program.specs.declared.program.Program.{Program}
+use Rattle.sg_program.specs.Scripts.{shape_at, fields_of, made_fields}
+use Rattle.sg_program.specs.Limits.{MayHave}
+use Rattle.sg_program.specs.Invariants.{IsSmallClass, IsGood, IsBuilt}
 use Rattle.sg_order.specs.Rest.{IsRunnable}
 
 few : (kind : Descriptor) (n : ℕ) → MayHave kind n → n ≤ 62
@@ -29,7 +30,7 @@ pub small_class : (p : Program) (c : ℕ) → AllByRecursion IsSmallClass p.clas
 small_class p c all = small_at p.classes c all
 
 -- an object that a statement makes which is run now
-pub small_made : (p : Program) (s : Statement) → AllByRecursion IsSmallClass p.classes → IsRun p s → made_fields p s ≤ 62
+pub small_made : (p : Program) (s : Statement) → AllByRecursion IsSmallClass p.classes → IsBuilt p s → made_fields p s ≤ 62
 small_made p (New r class) all run = small_class p class all
 small_made p (NewV r class count) all run = run
 small_made p (Mature r class) all run = absurd run
@@ -54,10 +55,10 @@ small_made p (Same r s) all run = zero-le
 small_made p (Collect major) all run = zero-le
 small_made p Sections all run = absurd run
 
-pub runnable : (p : Program) (s : Statement) → AllByRecursion IsSmallClass p.classes → IsGood p s → IsRun p s → IsRunnable p s
+pub runnable : (p : Program) (s : Statement) → AllByRecursion IsSmallClass p.classes → IsGood p s → IsBuilt p s → IsRunnable p s
 runnable p s all good run = record { good = good; run = run; small = small_made p s all run }
 
 -- and so for a whole script
-pub all_runnable : (p : Program) (script : List Statement) → AllByRecursion IsSmallClass p.classes → AllByRecursion (IsGood p) script → AllByRecursion (IsRun p) script → AllByRecursion (IsRunnable p) script
+pub all_runnable : (p : Program) (script : List Statement) → AllByRecursion IsSmallClass p.classes → AllByRecursion (IsGood p) script → AllByRecursion (IsBuilt p) script → AllByRecursion (IsRunnable p) script
 all_runnable p [] all good run = tt
 all_runnable p (s ∷ script) all good run = (runnable p s all good.0 run.0, all_runnable p script all good.1 run.1)

@@ -1,4 +1,3 @@
-pub mod Rules
 pub mod Opening
 pub mod Rest
 pub mod OneOrder

@@ -2,13 +2,13 @@
 use Rattle.std.specs.Prelude.{◌≡◌, ℕ, List, map}
 use Rattle.sg_words.specs.Words.{Words, after, Legal}
 use Rattle.sg_words.specs.Events.{Event, ticks, part, order_of}
-use Rattle.sg_graph.specs.declared.program.Statement.{Statement}
-use Rattle.sg_graph.specs.declared.program.Program.{Program}
+use Rattle.sg_program.specs.declared.program.Statement.{Statement}
+use Rattle.sg_program.specs.declared.program.Program.{Program}
 use Rattle.sg_graph.specs.Graph.{Graph}
-use Rattle.sg_graph.specs.Scripts.{IsMaking, made_words}
+use Rattle.sg_program.specs.Scripts.{IsMaking, made_words}
 use Rattle.sg_graph.specs.Book.{Book, HasNoPlace, IsApart}
 use Rattle.sg_graph.specs.Epoch.{Said, Explains, answers_of, by_address}
-use Rattle.sg_order.specs.Rules.{Layout, Actor, Left, Follows}
+use Rattle.sg_rules.specs.Rules.{Layout, Actor, Left, Follows}
 use Rattle.sg_order.specs.Rest.{IsReady, IsHeld, IsEpochOpening, before_it, IsOver}
 
 -- Whole statements, in the order of the deciding steps of the list, lead to a graph and a book; the standing objects are

@@ -2,9 +2,10 @@
 use Rattle.std.specs.Prelude.{◌≡◌, ℕ}
 use Rattle.sg_words.specs.Address.{byte_at}
 use Rattle.sg_words.specs.Words.{Words}
-use Rattle.sg_graph.specs.declared.program.Program.{Program}
-use Rattle.sg_graph.specs.Book.{nursery_base, nursery_end}
-use Rattle.sg_order.specs.Rules.{Layout}
+use Rattle.sg_program.specs.declared.program.Program.{Program}
+use Rattle.sg_graph.specs.Book.{nursery_end}
+use Rattle.sg_words.specs.Sections.{nursery_base}
+use Rattle.sg_rules.specs.Rules.{Layout}
 
 -- the whole nursery is one fragment
 pub record IsFirstLayout (p : Program) (lay : Layout) : Type 0 where

@@ -3,17 +3,17 @@ use Rattle.std.specs.Prelude.{◌≡◌, ◌≢◌, ℕ, ◌<◌, ◌≤◌, ◌
 use Rattle.std.specs.List.{AllByRecursion}
 use Rattle.sg_words.specs.Address.{byte_at}
 use Rattle.sg_words.specs.Words.{Words}
-use Rattle.sg_graph.specs.declared.program.Statement.{Statement}
-use Rattle.sg_graph.specs.declared.program.Program.{Program}
-use Rattle.sg_graph.specs.Scripts.{words_for, made_fields}
-use Rattle.sg_graph.specs.Kinds.{Kind, IsRef, IsInt, IsInner, Kinds, FindKinds}
-use Rattle.sg_graph.specs.Limits.{IsGood, IsRun}
+use Rattle.sg_program.specs.declared.program.Statement.{Statement}
+use Rattle.sg_program.specs.declared.program.Program.{Program}
+use Rattle.sg_program.specs.Scripts.{words_for, made_fields}
+use Rattle.sg_program.specs.Kinds.{Kind, IsRef, IsInt, IsInner, Kinds}
+use Rattle.sg_program.specs.Invariants.{FindKinds, IsGood, IsBuilt}
 use Rattle.sg_graph.specs.Graph.{Entry, Ref, Int, Inner, Mutator, Graph}
 use Rattle.sg_graph.specs.Book.{Book, word_of}
-use Rattle.sg_graph.specs.Epoch.{Pairwise}
-use Rattle.sg_graph.specs.Pause.{IsPlain}
-use Rattle.sg_space.specs.Heap.{Owner, IsHeap}
-use Rattle.sg_order.specs.Rules.{Layout, Slot, Actor, Mid, Idle, Left}
+use Rattle.sg_words.specs.Lists.{Pairwise}
+use Rattle.sg_graph.specs.Invariants.{IsPlain}
+use Rattle.sg_graph.specs.Heap.{Owner, IsHeap}
+use Rattle.sg_rules.specs.Rules.{Layout, Slot, Actor, Mid, Idle, Left}
 
 abbrev pub kind_of_entry : Entry → Kind
 kind_of_entry (Ref n) = IsRef
@@ -39,7 +39,7 @@ pub record Holds (g : Graph) (b : Book) (word offset : ℕ) (entry : Entry) : Ty
 -- a statement of the program that is run now: an object that it makes is small
 pub record IsRunnable (p : Program) (s : Statement) : Type 0 where
   pub good : IsGood p s
-  pub run : IsRun p s
+  pub run : IsBuilt p s
   pub small : made_fields p s ≤ 62
 
 -- mutator k between two statements, with these before it: its registers and its stack hold what the graph says, and what they

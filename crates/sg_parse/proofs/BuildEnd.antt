@@ -4,12 +4,12 @@ use Rattle.std.specs.List.{AllByRecursion, count_by}
 use Rattle.std.proofs.lemmas.List.{append-nil, length-append, length-take-le, take-append-drop}
 use Rattle.std.proofs.lemmas.List.Sums.{sum_by-append}
 use Rattle.std.proofs.lemmas.Option.{slice_get_within}
-use Rattle.sg_graph.specs.declared.program.Class.{Class}
-use Rattle.sg_graph.specs.declared.program.Item.{Item}
-use Rattle.sg_graph.specs.declared.program.Script.{Script}
-use Rattle.sg_graph.specs.declared.program.Program.{Program}
-use Rattle.sg_graph.specs.Epoch.{Pairwise}
-use Rattle.sg_graph.specs.Scripts.{statements_in, finals_in, is_final, written_out}
+use Rattle.sg_program.specs.declared.program.Class.{Class}
+use Rattle.sg_program.specs.declared.program.Item.{Item}
+use Rattle.sg_program.specs.declared.program.Script.{Script}
+use Rattle.sg_program.specs.declared.program.Program.{Program}
+use Rattle.sg_words.specs.Lists.{Pairwise}
+use Rattle.sg_program.specs.Scripts.{statements_in, finals_in, is_final, written_out}
 use Rattle.sg_parse.specs.Lines.{Sentence, Heads, Begins, Ends}
 use Rattle.sg_parse.specs.Text.{AreItems, AreScripts, IsClass, IsSetting, IsProgram, StandsFor}
 use Rattle.sg_parse.specs.Faults.{classes_in, is_begin, is_opening, is_ending}

@@ -1,8 +1,8 @@
 -- The settings and the classes of lines, line by line.
 use Rattle.std.proofs.Common.{◌≡◌, Bor, ℕ, ◌+◌, ◌<◌, Some, List, [], ◌∷◌, ◌++◌, length, map, take, get_or, slice_get, sym, ap, ◌∙◌}
 use Rattle.std.proofs.lemmas.List.Sums.{fold-append}
-use Rattle.sg_graph.specs.declared.program.Config.{Config}
-use Rattle.sg_graph.specs.declared.program.Class.{Class}
+use Rattle.sg_program.specs.declared.program.Config.{Config}
+use Rattle.sg_program.specs.declared.program.Class.{Class}
 use Rattle.sg_parse.specs.declared.line.Form.{Form}
 use Rattle.sg_parse.specs.declared.line.Line.{Line}
 use Rattle.sg_parse.specs.declared.line.Line.TheVariants.{Head, Setting, Class as ClassLine, Mutator, Repeat, End, Make, At, Do}

@@ -5,9 +5,9 @@ use Rattle.std.proofs.lemmas.Bool.{cases_lt}
 use Rattle.std.proofs.lemmas.List.{length-append, length-take-le, length-drop, take-append-drop}
 use Rattle.std.proofs.lemmas.Option.{slice_get_within, slice_get-get_or}
 use Rattle.std.proofs.Math.Seq.{take-append_seam, drop-append_seam}
-use Rattle.sg_graph.specs.declared.program.Class.{Class}
-use Rattle.sg_graph.specs.declared.program.Script.{Script}
-use Rattle.sg_graph.specs.declared.program.Program.{Program}
+use Rattle.sg_program.specs.declared.program.Class.{Class}
+use Rattle.sg_program.specs.declared.program.Script.{Script}
+use Rattle.sg_program.specs.declared.program.Program.{Program}
 use Rattle.sg_parse.specs.declared.refusal.Which.{Which}
 use Rattle.sg_parse.specs.declared.refusal.Which.TheVariants.{Statements, Finals}
 use Rattle.sg_parse.specs.declared.scripts.Scripts.TheVariants.{Read, Heavy}

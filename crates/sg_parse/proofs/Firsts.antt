@@ -7,7 +7,7 @@ use Rattle.std.proofs.lemmas.Grind.{flat_map-append}
 use Rattle.std.proofs.lemmas.List.{append-nil, take_more, take_all, length-map}
 use Rattle.std.proofs.lemmas.List.Sums.{count_by_more_yes, count_by_more_no}
 use Rattle.std.proofs.lemmas.Option.{slice_get-map, slice_get_within, slice_get-get_or, same_Some, get_or_from_slice_get}
-use Rattle.sg_graph.specs.declared.program.Class.{Class}
+use Rattle.sg_program.specs.declared.program.Class.{Class}
 use Rattle.sg_parse.specs.declared.line.Line.{Line}
 use Rattle.sg_parse.specs.Lines.{Sentence}
 use Rattle.sg_parse.specs.Faults.{class_in, classes_in, is_begin, IsMisnamed}

@@ -6,12 +6,12 @@ use Rattle.std.proofs.lemmas.List.{map-append, append-nil, length-take, take-app
 use Rattle.std.proofs.lemmas.List.Elements.{filter-append}
 use Rattle.std.proofs.lemmas.List.Folds.{list_all-append}
 use Rattle.std.proofs.lemmas.Option.{none-some}
-use Rattle.sg_graph.specs.Scripts.{repeated}
-use Rattle.sg_graph.specs.Epoch.{Pairwise}
-use Rattle.sg_graph.specs.declared.program.Program.{Program}
+use Rattle.sg_program.specs.Scripts.{repeated}
+use Rattle.sg_words.specs.Lists.{Pairwise}
+use Rattle.sg_program.specs.declared.program.Program.{Program}
 use Rattle.sg_parse.specs.Words.{is_proper, words_of, content, is_empty}
-use Rattle.sg_graph.specs.declared.program.Statement.{Statement}
-use Rattle.sg_graph.specs.declared.program.Statement.TheVariants.{New, NewV, Mature, Put, Get, PutD, GetD, Num, Move, Hide, Unhide, Drop, Push, Pop, GPut, GGet, WSet, WGet, Final, NextFin, Same, Collect, Sections}
+use Rattle.sg_program.specs.declared.program.Statement.{Statement}
+use Rattle.sg_program.specs.declared.program.Statement.TheVariants.{New, NewV, Mature, Put, Get, PutD, GetD, Num, Move, Hide, Unhide, Drop, Push, Pop, GPut, GGet, WSet, WGet, Final, NextFin, Same, Collect, Sections}
 use Rattle.sg_parse.specs.Lines.{Maker, AsNew, AsVector, AsMature, Sentence, Heads, Sets, Declares, Begins, Repeats, Ends, Makes, Says, IsMakerLine, IsStatementLine, IsLine}
 use Rattle.sg_parse.specs.Text.{IsProgram, IsAnyName, IsWhole, CanGoOn, Say, IsText, MayGoOn, IsFirstRefused}
 use Rattle.sg_parse.specs.Faults.{IsAt, IsFirstFault, HasNone}

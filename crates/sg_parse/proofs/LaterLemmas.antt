@@ -5,9 +5,9 @@ use Rattle.std.proofs.lemmas.Grind.{flat_map-append}
 use Rattle.std.proofs.lemmas.List.{append-nil, map-append, take-append-drop, length-map}
 use Rattle.std.proofs.lemmas.Option.{same_Some}
 use Rattle.sg_desc.specs.Shapes.{is_vector}
-use Rattle.sg_graph.specs.declared.program.Class.{Class}
-use Rattle.sg_graph.specs.declared.program.Statement.{Statement}
-use Rattle.sg_graph.specs.declared.program.Statement.TheVariants.{GPut, GGet, WSet, WGet, Final, NextFin, Collect, Sections}
+use Rattle.sg_program.specs.declared.program.Class.{Class}
+use Rattle.sg_program.specs.declared.program.Statement.{Statement}
+use Rattle.sg_program.specs.declared.program.Statement.TheVariants.{GPut, GGet, WSet, WGet, Final, NextFin, Collect, Sections}
 use Rattle.sg_parse.specs.declared.line.Line.{Line}
 use Rattle.sg_parse.specs.Lines.{Maker, AsNew, AsVector, AsMature, Sentence, Heads, Sets, Declares, Begins, Repeats, Ends, Makes, Says}
 use Rattle.sg_parse.specs.Text.{IsClassName, StandsFor}

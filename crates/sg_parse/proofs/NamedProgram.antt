@@ -3,11 +3,11 @@ use Rattle.std.proofs.Common.{◌≡◌, ℕ, suc, Some, List, [], ◌∷◌, �
 use Rattle.std.specs.List.{AllByRecursion}
 use Rattle.std.proofs.lemmas.Grind.{flat_map-append}
 use Rattle.std.proofs.lemmas.List.{append-nil}
-use Rattle.sg_graph.specs.declared.program.Item.{Item, roll-Item}
-use Rattle.sg_graph.specs.declared.program.Item.TheOpen.{One, Repeat}
-use Rattle.sg_graph.specs.declared.program.Item.TheViews.{out-roll-Item}
-use Rattle.sg_graph.specs.declared.program.Script.{Script}
-use Rattle.sg_graph.specs.declared.program.Program.{Program}
+use Rattle.sg_program.specs.declared.program.Item.{Item, roll-Item}
+use Rattle.sg_program.specs.declared.program.Item.TheOpen.{One, Repeat}
+use Rattle.sg_program.specs.declared.program.Item.TheViews.{out-roll-Item}
+use Rattle.sg_program.specs.declared.program.Script.{Script}
+use Rattle.sg_program.specs.declared.program.Program.{Program}
 use Rattle.sg_parse.specs.Lines.{made_by, Sentence, Begins, Repeats, Ends, Makes}
 use Rattle.sg_parse.specs.Text.{AreItems, NoItem, OneSays, OneMakes, NoRepeat, OneRepeat, AreScripts, IsProgram, IsAnyName, IsWhole, StandsFor}
 use Rattle.sg_parse.specs.Faults.{class_in, classes_in, IsMisnamed}

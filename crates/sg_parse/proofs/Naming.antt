@@ -13,7 +13,7 @@ use Rattle.indexmap.proofs.MapLemmas.{Missing-position}
 use Rattle.sg_desc.specs.declared.shapes.Descriptor.TheVariants.{Ephemeron}
 use Rattle.sg_desc.specs.declared.shapes.Shape.{Shape}
 use Rattle.sg_desc.specs.Shapes.{is_vector}
-use Rattle.sg_graph.specs.declared.program.Class.{Class}
+use Rattle.sg_program.specs.declared.program.Class.{Class}
 use Rattle.sg_parse.specs.declared.line.Form.{Form}
 use Rattle.sg_parse.specs.Lines.{Maker, Sentence, Declares, Makes}
 use Rattle.sg_parse.specs.Text.{IsClassName, StandsFor}

@@ -5,13 +5,13 @@ use Rattle.std.proofs.Math.Nat.{max-le}
 use Rattle.std.proofs.lemmas.Bool.{cases_lt}
 use Rattle.std.proofs.lemmas.List.{append-nil, length-append}
 use Rattle.std.proofs.lemmas.List.Sums.{sum_by-append}
-use Rattle.sg_graph.specs.declared.program.Class.{Class}
-use Rattle.sg_graph.specs.declared.program.Statement.{Statement}
-use Rattle.sg_graph.specs.declared.program.Item.{Item, out-Item, map-Item, fold_out-Item}
-use Rattle.sg_graph.specs.declared.program.Item.TheOpen.{One, Repeat}
-use Rattle.sg_graph.specs.declared.program.Script.{Script}
-use Rattle.sg_graph.specs.Epoch.{Pairwise}
-use Rattle.sg_graph.specs.Limits.{depth_step, item_depth}
+use Rattle.sg_program.specs.declared.program.Class.{Class}
+use Rattle.sg_program.specs.declared.program.Statement.{Statement}
+use Rattle.sg_program.specs.declared.program.Item.{Item, out-Item, map-Item, fold_out-Item}
+use Rattle.sg_program.specs.declared.program.Item.TheOpen.{One, Repeat}
+use Rattle.sg_program.specs.declared.program.Script.{Script}
+use Rattle.sg_words.specs.Lists.{Pairwise}
+use Rattle.sg_program.specs.Invariants.{depth_step, item_depth}
 use Rattle.sg_parse.specs.declared.refusal.Which.TheVariants.{Classes, Nesting, Mutators}
 use Rattle.sg_parse.specs.Lines.{made_by, Sentence, Begins, Repeats, Ends, Makes, Says}
 use Rattle.sg_parse.specs.Text.{AreItems, NoItem, OneSays, OneMakes, NoRepeat, OneRepeat, AreScripts, IsClass, IsSetting}

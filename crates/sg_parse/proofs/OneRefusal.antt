@@ -11,7 +11,7 @@ use Rattle.sg_parse.specs.declared.refusal.Which.TheVariants.{Nursery, Blocks, P
 use Rattle.sg_parse.specs.Words.{words_of, content, lines_of}
 use Rattle.sg_parse.specs.Lines.{Sentence, IsLine}
 use Rattle.sg_parse.specs.Text.{IsText, MayGoOn, IsFirstRefused}
-use Rattle.sg_graph.specs.Epoch.{Pairwise}
+use Rattle.sg_words.specs.Lists.{Pairwise}
 use Rattle.sg_parse.specs.Faults.{IsAt, IsFirstFault, IsMisnamed, place, Breaks, BreaksFirst, BreaksSome, IsLimitFault, IsLater}
 use Rattle.sg_parse.specs.Accepted.{IsRefusedBy, HasOneRefusal}
 use Rattle.sg_parse.proofs.OneSentence.{one_sentence, one_list}

@@ -1,7 +1,7 @@
 -- A line says one thing, and so do lines.
 use Rattle.std.proofs.Common.{◌≡◌, List, [], ◌∷◌, ℕ, refl, sym, ◌∙◌}
 use Rattle.std.proofs.lemmas.Option.{same_Some}
-use Rattle.sg_graph.specs.Epoch.{Pairwise}
+use Rattle.sg_words.specs.Lists.{Pairwise}
 use Rattle.sg_parse.specs.Words.{content}
 use Rattle.sg_parse.specs.Lines.{Sentence, IsLine}
 use Rattle.sg_parse.specs.Text.{Say}

@@ -6,19 +6,19 @@ use Rattle.std.proofs.lemmas.Grind.{flat_map-append}
 use Rattle.std.proofs.lemmas.List.{append-nil}
 use Rattle.std.proofs.lemmas.List.Sums.{sum_by-cons}
 use Rattle.std.proofs.Math.Seq.{take-append_seam}
-use Rattle.sg_graph.specs.declared.program.Class.{Class}
-use Rattle.sg_graph.specs.declared.program.Statement.{Statement}
-use Rattle.sg_graph.specs.declared.program.Statement.TheVariants.{New, NewV, Mature, GPut, GGet, WSet, WGet, Final, NextFin, Collect, Sections}
-use Rattle.sg_graph.specs.declared.program.Item.{Item}
-use Rattle.sg_graph.specs.declared.program.Script.{Script}
-use Rattle.sg_graph.specs.declared.program.Program.{Program}
-use Rattle.sg_graph.specs.Epoch.{Pairwise}
-use Rattle.sg_graph.specs.Scripts.{shape_at, item_text, written}
-use Rattle.sg_graph.proofs.Items.{text_one, text_repeat}
+use Rattle.sg_program.specs.declared.program.Class.{Class}
+use Rattle.sg_program.specs.declared.program.Statement.{Statement}
+use Rattle.sg_program.specs.declared.program.Statement.TheVariants.{New, NewV, Mature, GPut, GGet, WSet, WGet, Final, NextFin, Collect, Sections}
+use Rattle.sg_program.specs.declared.program.Item.{Item}
+use Rattle.sg_program.specs.declared.program.Script.{Script}
+use Rattle.sg_program.specs.declared.program.Program.{Program}
+use Rattle.sg_words.specs.Lists.{Pairwise}
+use Rattle.sg_program.specs.Scripts.{shape_at, item_text, written}
+use Rattle.sg_program.proofs.Items.{text_one, text_repeat}
 use Rattle.sg_parse.specs.Lines.{Maker, AsNew, AsVector, AsMature, made_by, Sentence, Heads, Begins, Repeats, Ends, Makes, Says, IsLine}
 use Rattle.sg_parse.specs.Text.{AreItems, NoItem, OneSays, OneMakes, NoRepeat, OneRepeat, AreScripts, IsClass, IsSetting, IsProgram, StandsFor}
 use Rattle.sg_parse.specs.Faults.{class_in, classes_in, is_begin, IsPairClass, IsLater, Another}
-use Rattle.sg_graph.specs.Limits.{IsRun}
+use Rattle.sg_program.specs.Invariants.{IsBuilt}
 use Rattle.sg_parse.specs.Names.{IsLaterBy}
 use Rattle.sg_parse.specs.Reading.{HasNoneIn}
 use Rattle.sg_parse.proofs.Naming.{name_of_class}
@@ -58,7 +58,7 @@ IsSaid line = (words : List (List ℕ)) × IsLine words line
 abbrev IsFine : Program → Sentence → Type 0
 IsFine p line = IsSaid line × ¬ IsLaterBy p.classes false line
 
-run_says : (p : Program) (s : Statement) → IsFine p (Says s) → IsRun p s
+run_says : (p : Program) (s : Statement) → IsFine p (Says s) → IsBuilt p s
 run_says p (New r class) fine = absurd fine.0.1
 run_says p (NewV r class count) fine = absurd fine.0.1
 run_says p (Mature r class) fine = absurd fine.0.1
@@ -73,7 +73,7 @@ run_says p (Collect false) fine = tt
 run_says p Sections fine = absurd (fine.1 tt)
 run_says p s fine = tt
 
-run_makes : (p : Program) (maker : Maker) (r class : ℕ) (name : List ℕ) → StandsFor p.classes name class → IsFine p (Makes maker r name) → IsRun p (made_by maker r class)
+run_makes : (p : Program) (maker : Maker) (r class : ℕ) (name : List ℕ) → StandsFor p.classes name class → IsFine p (Makes maker r name) → IsBuilt p (made_by maker r class)
 run_makes p AsNew r class name stands fine =
     let k = name_of_class p.classes class name stands.named in
     λ pair. fine.1 (class, k.0, k.1, k.2, sym (ap (λ (o : Option Class). (shape_at o).kind) k.1) ∙ pair)
@@ -82,8 +82,8 @@ run_makes p AsMature r class name stands fine = absurd (fine.1 tt)
 
 -- ---- the statements of items and of scripts
 
-run_more : (p : Program) (text : List Statement) (item : Item) (items : List Item) → item_text item ≡ text → AllByRecursion (IsRun p) text → AllByRecursion (IsRun p) (written items) → AllByRecursion (IsRun p) (written (item ∷ items))
-run_more p text item items e one rest = all_append (IsRun p) (item_text item) (written items) (rw e one) rest
+run_more : (p : Program) (text : List Statement) (item : Item) (items : List Item) → item_text item ≡ text → AllByRecursion (IsBuilt p) text → AllByRecursion (IsBuilt p) (written items) → AllByRecursion (IsBuilt p) (written (item ∷ items))
+run_more p text item items e one rest = all_append (IsBuilt p) (item_text item) (written items) (rw e one) rest
 
 -- what stands inside a repeat, and behind it
 inside : (p : Program) (first : Sentence) (body rest whole : List Sentence) → whole ≡ first ∷ body ++ Ends ∷ rest → AllByRecursion (IsFine p) whole → AllByRecursion (IsFine p) body × AllByRecursion (IsFine p) rest
@@ -91,7 +91,7 @@ inside p first body rest whole e fine =
     let all : AllByRecursion (IsFine p) (first ∷ body ++ Ends ∷ rest) = subst (AllByRecursion (IsFine p)) e fine in
     (all_front (IsFine p) body (Ends ∷ rest) all.1, (all_back (IsFine p) body (Ends ∷ rest) all.1).1)
 
-run_items : (p : Program) (lines : List Sentence) (items : List Item) → AreItems (StandsFor p.classes) lines items → AllByRecursion (IsFine p) lines → AllByRecursion (IsRun p) (written items)
+run_items : (p : Program) (lines : List Sentence) (items : List Item) → AreItems (StandsFor p.classes) lines items → AllByRecursion (IsFine p) lines → AllByRecursion (IsBuilt p) (written items)
 run_items p lines items NoItem fine = tt
 run_items p lines items (OneSays s rest item more out h) fine = run_more p (s ∷ []) item more (text_one item s out) (run_says p s fine.0, tt) (run_items p rest more h fine.1)
 run_items p lines items (OneMakes maker r class name rest item more stands out h) fine =
@@ -102,7 +102,7 @@ run_items p lines items (OneRepeat times body rest whole item inner more e b som
     run_more p (written inner) item more (text_repeat item times inner out) (run_items p body inner b parts.0) (run_items p rest more h parts.1)
 
 run_scripts : (p : Program) (lines : List Sentence) (scripts : List Script) → AreScripts (StandsFor p.classes) lines scripts → AllByRecursion (IsFine p) lines
-    → AllByRecursion (λ (script : Script). AllByRecursion (IsRun p) (written script.items)) scripts
+    → AllByRecursion (λ (script : Script). AllByRecursion (IsBuilt p) (written script.items)) scripts
 run_scripts p lines [] h fine = tt
 run_scripts p lines (script ∷ scripts) h fine =
     let parts = inside p Begins h.0 h.1 lines h.2 fine in
@@ -170,7 +170,7 @@ said_each (w ∷ ws) (line ∷ lines) h = ((w, h.0), said_each ws lines h.1)
 
 -- The sentences have to be those of lines: no line says a statement that makes an object of a class by its number.
 pub run_now : (lines : List Sentence) (p : Program) → IsProgram (StandsFor p.classes) lines p → AllByRecursion IsSaid lines → HasNoneIn IsLater lines
-    → AllByRecursion (λ (script : Script). AllByRecursion (IsRun p) (written script.items)) p.mutators × (length p.mutators ≤ 1)
+    → AllByRecursion (λ (script : Script). AllByRecursion (IsBuilt p) (written script.items)) p.mutators × (length p.mutators ≤ 1)
 run_now lines p program said none =
     let before : List Sentence = head_of program.settings program.classes in
     let told : AllByRecursion IsSaid (before ++ program.scripts) = subst (AllByRecursion IsSaid) program.in_order said in

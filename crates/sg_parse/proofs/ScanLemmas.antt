@@ -7,7 +7,7 @@ use Rattle.std.proofs.lemmas.List.{append-nil, map-append, take-append-le}
 use Rattle.std.proofs.lemmas.List.Elements.{filter-append}
 use Rattle.std.proofs.lemmas.List.Folds.{list_all-append}
 use Rattle.std.proofs.lemmas.Option.{none-some, same_Some, slice_get_within}
-use Rattle.sg_graph.specs.Epoch.{Pairwise}
+use Rattle.sg_words.specs.Lists.{Pairwise}
 use Rattle.sg_parse.specs.Words.{is_empty, is_proper, words_of, content, lines_of}
 use Rattle.sg_parse.specs.Lines.{Sentence, IsLine}
 use Rattle.sg_parse.specs.Faults.{IsAt}

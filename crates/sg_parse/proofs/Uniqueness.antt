@@ -3,13 +3,13 @@ use Rattle.std.proofs.Common.{◌≡◌, ◌≢◌, ℕ, zero, suc, ◌<◌, ◌
 use Rattle.std.proofs.lemmas.Bool.{cases_eq, cases_lt}
 use Rattle.std.specs.List.{Contains, AllByRecursion, slice_get, slice_index_or}
 use Rattle.sg_desc.specs.declared.shapes.Shape.{Shape}
-use Rattle.sg_graph.specs.declared.program.Config.{Config}
-use Rattle.sg_graph.specs.declared.program.Class.{Class}
-use Rattle.sg_graph.specs.declared.program.Item.{Item, out-Item, roll-Item, roll-out-Item}
-use Rattle.sg_graph.specs.declared.program.Item.TheOpen.{One, Repeat}
-use Rattle.sg_graph.specs.declared.program.Script.{Script}
-use Rattle.sg_graph.specs.declared.program.Program.{Program}
-use Rattle.sg_graph.specs.Epoch.{Pairwise}
+use Rattle.sg_program.specs.declared.program.Config.{Config}
+use Rattle.sg_program.specs.declared.program.Class.{Class}
+use Rattle.sg_program.specs.declared.program.Item.{Item, out-Item, roll-Item, roll-out-Item}
+use Rattle.sg_program.specs.declared.program.Item.TheOpen.{One, Repeat}
+use Rattle.sg_program.specs.declared.program.Script.{Script}
+use Rattle.sg_program.specs.declared.program.Program.{Program}
+use Rattle.sg_words.specs.Lists.{Pairwise}
 use Rattle.sg_parse.specs.Lines.{made_by, Sentence, Sets, Declares, Repeats, Ends, Makes, Says}
 use Rattle.sg_parse.specs.Text.{AreItems, NoItem, OneSays, OneMakes, NoRepeat, OneRepeat, AreScripts, IsClass, settings_of, IsSetting, AreSettings, IsProgram, StandsFor}
 

@@ -8,18 +8,19 @@ use Rattle.sg_desc.specs.declared.shapes.Descriptor.{Descriptor}
 use Rattle.sg_desc.specs.declared.shapes.Descriptor.TheVariants.{PtrFree, Run, Bitmap, VectorRefs, VectorPlain, Ephemeron}
 use Rattle.sg_desc.specs.declared.shapes.Shape.{Shape}
 use Rattle.sg_desc.specs.Shapes.{is_vector}
-use Rattle.sg_graph.specs.declared.program.Config.{Config}
-use Rattle.sg_graph.specs.declared.program.Class.{Class}
-use Rattle.sg_graph.specs.declared.program.Statement.{Statement}
-use Rattle.sg_graph.specs.declared.program.Statement.TheVariants.{New, NewV, Mature, Put, Get, PutD, GetD, Num, Move, Hide, Unhide, Drop, Push, Pop, GPut, GGet, WSet, WGet, Final, NextFin, Same, Collect, Sections}
-use Rattle.sg_graph.specs.declared.program.Item.{Item, out-Item, map-Item, fold_out-Item}
-use Rattle.sg_graph.specs.declared.program.Item.TheOpen.{One, Repeat}
-use Rattle.sg_graph.specs.declared.program.Script.{Script}
-use Rattle.sg_graph.specs.declared.program.Program.{Program}
-use Rattle.sg_graph.specs.Epoch.{Pairwise}
-use Rattle.sg_graph.specs.Limits.{MayHave, IsSmallClass, IsNurserySize, AreWithinLimits, HasOperands, FitsClass, IsGood, times_step, item_depth, item_times, IsGoodScript, IsWithinLimits}
-use Rattle.sg_graph.specs.Scripts.{shape_at, kind_of, item_text, written, NamesClass, statements_in, finals_in}
-use Rattle.sg_graph.proofs.Items.{text_one, text_repeat}
+use Rattle.sg_program.specs.declared.program.Config.{Config}
+use Rattle.sg_program.specs.declared.program.Class.{Class}
+use Rattle.sg_program.specs.declared.program.Statement.{Statement}
+use Rattle.sg_program.specs.declared.program.Statement.TheVariants.{New, NewV, Mature, Put, Get, PutD, GetD, Num, Move, Hide, Unhide, Drop, Push, Pop, GPut, GGet, WSet, WGet, Final, NextFin, Same, Collect, Sections}
+use Rattle.sg_program.specs.declared.program.Item.{Item, out-Item, map-Item, fold_out-Item}
+use Rattle.sg_program.specs.declared.program.Item.TheOpen.{One, Repeat}
+use Rattle.sg_program.specs.declared.program.Script.{Script}
+use Rattle.sg_program.specs.declared.program.Program.{Program}
+use Rattle.sg_words.specs.Lists.{Pairwise}
+use Rattle.sg_program.specs.Limits.{MayHave, IsNurserySize}
+use Rattle.sg_program.specs.Invariants.{IsSmallClass, AreWithinLimits, HasOperands, FitsClass, IsGood, times_step, item_depth, item_times, IsGoodScript, IsWithinLimits}
+use Rattle.sg_program.specs.Scripts.{shape_at, kind_of, item_text, written, NamesClass, statements_in, finals_in}
+use Rattle.sg_program.proofs.Items.{text_one, text_repeat}
 use Rattle.sg_parse.specs.declared.refusal.Which.TheVariants.{Nursery, Blocks, Pages, Buffer, Workers, Cement, Fields, Vector, Global, Weak, Times, Statements, Finals}
 use Rattle.sg_parse.specs.Lines.{Maker, AsNew, AsVector, AsMature, made_by, Sentence, Heads, Sets, Declares, Begins, Repeats, Ends, Makes, Says}
 use Rattle.sg_parse.specs.Text.{AreItems, NoItem, OneSays, OneMakes, NoRepeat, OneRepeat, AreScripts, IsClass, settings_of, defaults, AreSettings, IsProgram, StandsFor}

@@ -1,11 +1,11 @@
 -- Which inputs are accepted, as which program, and how the others are refused.
 use Rattle.std.specs.Prelude.{◌≡◌, ◌≢◌, ℕ, ◌<◌, ◌≤◌, List, length}
 use Rattle.std.specs.List.{AllByRecursion}
-use Rattle.sg_graph.specs.declared.program.Script.{Script}
-use Rattle.sg_graph.specs.declared.program.Program.{Program}
-use Rattle.sg_graph.specs.Scripts.{written}
-use Rattle.sg_graph.specs.Kinds.{HasNoMisuse}
-use Rattle.sg_graph.specs.Limits.{IsWithinLimits, IsRun}
+use Rattle.sg_program.specs.declared.program.Script.{Script}
+use Rattle.sg_program.specs.declared.program.Program.{Program}
+use Rattle.sg_program.specs.Scripts.{written}
+use Rattle.sg_program.specs.Kinds.{HasNoMisuse}
+use Rattle.sg_program.specs.Invariants.{IsWithinLimits, IsBuilt}
 use Rattle.sg_parse.specs.declared.refusal.Refusal.{Refusal}
 use Rattle.sg_parse.specs.declared.refusal.Refusal.TheVariants.{TooLong, Syntax, Class, Limit, Later, Memory}
 use Rattle.sg_parse.specs.Words.{lines_of}
@@ -41,7 +41,7 @@ IsRefusedBy bytes Memory = Unit {0}
 pub record IsReadProgram (p : Program) : Type 0 where
   pub limits : IsWithinLimits p
   pub alone : length p.mutators ≡ 1
-  pub run : AllByRecursion (λ (script : Script). AllByRecursion (IsRun p) (written script.items)) p.mutators
+  pub run : AllByRecursion (λ (script : Script). AllByRecursion (IsBuilt p) (written script.items)) p.mutators
 
 -- the bytes are accepted as this program: they read as it, and no statement finds an operand of another kind than it needs
 pub record IsAcceptedAs (bytes : List ℕ) (p : Program) : Type 0 where

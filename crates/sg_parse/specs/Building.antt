@@ -1,14 +1,15 @@
 -- What the steps of the building answer: statements of lines, items of bodies, scripts, settings, classes, and the whole.
 use Rattle.std.specs.Prelude.{◌≡◌, ℕ, suc, ◌+◌, ◌<◌, ◌≤◌, ◌==◌, Option, Some, None, if◌then◌else◌, List, [], ◌∷◌, ◌++◌, length, take, slice_get}
 use Rattle.std.specs.List.{AllByRecursion, sum_by, count_by, fold}
-use Rattle.sg_graph.specs.declared.program.Config.{Config}
-use Rattle.sg_graph.specs.declared.program.Class.{Class}
-use Rattle.sg_graph.specs.declared.program.Statement.{Statement}
-use Rattle.sg_graph.specs.declared.program.Statement.TheVariants.{GPut, GGet, WSet, WGet}
-use Rattle.sg_graph.specs.declared.program.Item.{Item}
-use Rattle.sg_graph.specs.declared.program.Script.{Script}
-use Rattle.sg_graph.specs.Scripts.{is_final, written_out}
-use Rattle.sg_graph.specs.Limits.{MayHave, IsWithinLimits}
+use Rattle.sg_program.specs.declared.program.Config.{Config}
+use Rattle.sg_program.specs.declared.program.Class.{Class}
+use Rattle.sg_program.specs.declared.program.Statement.{Statement}
+use Rattle.sg_program.specs.declared.program.Statement.TheVariants.{GPut, GGet, WSet, WGet}
+use Rattle.sg_program.specs.declared.program.Item.{Item}
+use Rattle.sg_program.specs.declared.program.Script.{Script}
+use Rattle.sg_program.specs.Scripts.{is_final, written_out}
+use Rattle.sg_program.specs.Limits.{MayHave}
+use Rattle.sg_program.specs.Invariants.{IsWithinLimits}
 use Rattle.sg_parse.specs.declared.refusal.Which.{Which}
 use Rattle.sg_parse.specs.declared.refusal.Which.TheVariants.{Statements, Finals}
 use Rattle.sg_parse.specs.declared.scripts.Body.{Body}

@@ -4,12 +4,12 @@ use Rattle.std.specs.List.{flat_map, count_by}
 use Rattle.sg_desc.specs.declared.shapes.Descriptor.TheVariants.{Ephemeron}
 use Rattle.sg_desc.specs.declared.shapes.Shape.{Shape}
 use Rattle.sg_desc.specs.Shapes.{is_vector}
-use Rattle.sg_graph.specs.declared.program.Class.{Class}
-use Rattle.sg_graph.specs.declared.program.Statement.TheVariants.{GPut, GGet, WSet, WGet, Final, NextFin, Collect, Sections}
-use Rattle.sg_graph.specs.declared.program.Program.{Program}
-use Rattle.sg_graph.specs.Epoch.{Pairwise}
-use Rattle.sg_graph.specs.Limits.{MayHave, IsNurserySize}
-use Rattle.sg_graph.specs.Scripts.{statements_in, finals_in}
+use Rattle.sg_program.specs.declared.program.Class.{Class}
+use Rattle.sg_program.specs.declared.program.Statement.TheVariants.{GPut, GGet, WSet, WGet, Final, NextFin, Collect, Sections}
+use Rattle.sg_program.specs.declared.program.Program.{Program}
+use Rattle.sg_words.specs.Lists.{Pairwise}
+use Rattle.sg_program.specs.Limits.{MayHave, IsNurserySize}
+use Rattle.sg_program.specs.Scripts.{statements_in, finals_in}
 use Rattle.sg_parse.specs.declared.refusal.Which.{Which}
 use Rattle.sg_parse.specs.declared.refusal.Which.TheVariants.{Nursery, Blocks, Pages, Buffer, Workers, Cement, Classes, Fields, Vector, Global, Weak, Times, Nesting, Statements, Finals, Mutators}
 use Rattle.sg_parse.specs.Words.{words_of, content}

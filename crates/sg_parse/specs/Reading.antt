@@ -3,10 +3,10 @@ use Rattle.std.specs.Prelude.{◌≡◌, ℕ, suc, ◌<◌, ◌⊎◌, false, Is
 use Rattle.std.specs.List.{list_all}
 use Rattle.sg_desc.specs.declared.shapes.Descriptor.TheVariants.{PtrFree, Run, Bitmap, VectorRefs, VectorPlain, Ephemeron}
 use Rattle.sg_desc.specs.declared.shapes.Shape.{Shape}
-use Rattle.sg_graph.specs.declared.program.Statement.{Statement}
-use Rattle.sg_graph.specs.declared.program.Statement.TheVariants.{GPut, GGet, WSet, WGet}
-use Rattle.sg_graph.specs.Scripts.{repeated}
-use Rattle.sg_graph.specs.Epoch.{Pairwise}
+use Rattle.sg_program.specs.declared.program.Statement.{Statement}
+use Rattle.sg_program.specs.declared.program.Statement.TheVariants.{GPut, GGet, WSet, WGet}
+use Rattle.sg_program.specs.Scripts.{repeated}
+use Rattle.sg_words.specs.Lists.{Pairwise}
 use Rattle.sg_parse.specs.declared.line.Maker.{Maker as MakerCode}
 use Rattle.sg_parse.specs.declared.line.Maker.TheVariants.{Fixed, Vector, Mature as Matures}
 use Rattle.sg_parse.specs.declared.line.Form.{Form}

@@ -5,7 +5,7 @@ use Rattle.std.specs.Fmt.{decimal}
 use Rattle.std.specs.Str.Parse.{digits_value}
 use Rattle.sg_desc.specs.declared.shapes.Descriptor.TheVariants.{PtrFree, Run, Bitmap, VectorRefs, VectorPlain, Ephemeron}
 use Rattle.sg_desc.specs.declared.shapes.Shape.{Shape}
-use Rattle.sg_graph.specs.declared.program.Statement.TheVariants.{Put, Get, PutD, GetD, Num, Move, Hide, Unhide, Drop, Push, Pop, GPut, GGet, WSet, WGet, Final, NextFin, Same, Collect, Sections}
+use Rattle.sg_program.specs.declared.program.Statement.TheVariants.{Put, Get, PutD, GetD, Num, Move, Hide, Unhide, Drop, Push, Pop, GPut, GGet, WSet, WGet, Final, NextFin, Same, Collect, Sections}
 use Rattle.sg_parse.specs.declared.line.Line.{Line}
 use Rattle.sg_parse.specs.declared.line.Form.{Form}
 use Rattle.sg_parse.specs.Words.{is_name, is_mask_byte, mask_bits}

@@ -2,14 +2,14 @@
 use Rattle.std.specs.Prelude.{◌≡◌, ◌≢◌, ℕ, suc, ◌<◌, ◌⊎◌, IsTrue, Some, List, [], ◌∷◌, ◌++◌, length, take, slice_get}
 use Rattle.std.specs.List.{Contains, list_all, AllByRecursion}
 use Rattle.std.specs.Prelude.{map}
-use Rattle.sg_graph.specs.declared.program.Config.{Config}
-use Rattle.sg_graph.specs.declared.program.Class.{Class}
-use Rattle.sg_graph.specs.declared.program.Statement.{Statement}
-use Rattle.sg_graph.specs.declared.program.Item.{Item, out-Item}
-use Rattle.sg_graph.specs.declared.program.Item.TheOpen.{One, Repeat}
-use Rattle.sg_graph.specs.declared.program.Script.{Script}
-use Rattle.sg_graph.specs.declared.program.Program.{Program}
-use Rattle.sg_graph.specs.Epoch.{Pairwise}
+use Rattle.sg_program.specs.declared.program.Config.{Config}
+use Rattle.sg_program.specs.declared.program.Class.{Class}
+use Rattle.sg_program.specs.declared.program.Statement.{Statement}
+use Rattle.sg_program.specs.declared.program.Item.{Item, out-Item}
+use Rattle.sg_program.specs.declared.program.Item.TheOpen.{One, Repeat}
+use Rattle.sg_program.specs.declared.program.Script.{Script}
+use Rattle.sg_program.specs.declared.program.Program.{Program}
+use Rattle.sg_words.specs.Lists.{Pairwise}
 use Rattle.sg_parse.specs.Words.{is_proper, lines_of, content}
 use Rattle.sg_parse.specs.Lines.{Maker, made_by, Sentence, Heads, Sets, Declares, Begins, Repeats, Ends, Makes, Says, IsLine}
 

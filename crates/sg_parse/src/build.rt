@@ -1,7 +1,7 @@
 //! The program of a text, and the first line that breaks a limit.
 ghost use Rattle.std.specs.Prelude.{◌≡◌, ℕ, ◌^◌, ◌<◌, ◌≤◌, Some, slice_get, map, length, IfOk};
 ghost use Rattle.std.specs.List.{AllByRecursion};
-ghost use Rattle.sg_graph.specs.Limits.{MayHave};
+ghost use Rattle.sg_program.specs.Limits.{MayHave};
 ghost use Rattle.sg_parse.specs.Building.{IsSmall, AreLines, config_with, config_of, IsBuilt};
 ghost use Rattle.sg_parse.specs.Faults.{classes_in, IsMisnamed};
 ghost use Rattle.sg_parse.specs.Lines.{Begins};
@@ -16,7 +16,7 @@ use crate::refusal::Which;
 use crate::scripts::{Scripts, read_scripts};
 use crate::words::mask_bits;
 use sg_desc::{Descriptor, Shape};
-use sg_graph::{Class, Config, Name, Program};
+use sg_program::{Class, Config, Name, Program};
 use sg_words::List;
 use std::alloc::{AllocError, Global};
 

@@ -8,7 +8,7 @@ ghost use Rattle.sg_parse.specs.Reading.{maker_of, shape_in, sentence_of, HasNon
 
 use crate::line::{Form, Line, Maker};
 use crate::names::Names;
-use sg_graph::Statement;
+use sg_program::Statement;
 
 /// Whether a class of this form is one of pairs.
 fn has_pairs(form: &Form<'_>) -> bool

@@ -6,7 +6,7 @@ ghost use Rattle.sg_parse.specs.Reading.{maker_of, shape_in, at_cell, sentence_o
 
 use crate::line::{Cell, Form, Line, Maker};
 use crate::refusal::Which;
-use sg_graph::Statement;
+use sg_program::Statement;
 
 /// How many lines of some kinds stand above a line.
 #[derive(Clone, Copy, Debug, PartialEq, Eq)]

@@ -1,7 +1,7 @@
 //! What a line says, with its names and numbers as they are written.
 ghost use Rattle.std.specs.Prelude.{◌≡◌};
 
-use sg_graph::Statement;
+use sg_program::Statement;
 
 /// How a line asks for a new object.
 #[derive(Clone, Copy, Debug, PartialEq, Eq)]

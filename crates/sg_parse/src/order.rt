@@ -149,7 +149,7 @@ pub(crate) fn order_of(lines: &[Line<'_>]) -> Order
 mod tests {
     use super::{Order, order_of};
     use crate::line::{Form, Line};
-    use sg_graph::Statement;
+    use sg_program::Statement;
     use std::alloc::Global;
     use std::test::Fail;
 

@@ -1,6 +1,6 @@
 //! The reading as a whole.
 ghost use Rattle.std.specs.Prelude.{◌≡◌, ◌≢◌, ◌<◌, ◌≤◌, Some, map, length, slice_get, IfOk, IfErr};
-ghost use Rattle.sg_graph.specs.declared.program.Program.{Program as AnyProgram};
+ghost use Rattle.sg_program.specs.declared.program.Program.{Program as AnyProgram};
 ghost use Rattle.sg_parse.specs.declared.refusal.Refusal.{Refusal as AnyRefusal};
 ghost use Rattle.sg_parse.specs.Words.{lines_of};
 ghost use Rattle.sg_parse.specs.Text.{IsWhole, HasOneReading};
@@ -14,7 +14,7 @@ use crate::names::{Named, name_classes};
 use crate::order::{Order, order_of};
 use crate::refusal::{Refusal, Which};
 use crate::scan::{Scanned, scan};
-use sg_graph::Program;
+use sg_program::Program;
 use std::alloc::{AllocError, Global};
 
 /// The most bytes of an input.

@@ -8,7 +8,7 @@ ghost use Rattle.sg_parse.specs.Reading.{maker_of, at_cell, sentence_of};
 use crate::line::{Cell, Line, Maker};
 use crate::names::Names;
 use crate::refusal::Which;
-use sg_graph::{Item, Script, Statement, script_finals, script_total};
+use sg_program::{Item, Script, Statement, script_finals, script_total};
 use sg_words::List;
 use sqlite_items::Items;
 use std::alloc::{AllocError, Global};

@@ -6,7 +6,7 @@ ghost use Rattle.sg_parse.specs.Sentences.{same, number_in, register_in, of_one,
 
 use crate::line::{Cell, Form, Line, Maker};
 use crate::words::{is_mask, is_name, number, register};
-use sg_graph::Statement;
+use sg_program::Statement;
 
 /// Whether the words are the same.
 fn says(word: &[u8], text: &[u8]) -> bool

@@ -4,7 +4,7 @@ use crate::lines::words_of;
 use crate::program::parse;
 use crate::scan::scan;
 use crate::sentence::line;
-use sg_graph::{Statement, total};
+use sg_program::{Statement, total};
 use std::alloc::{AllocError, Global};
 use std::test::Fail;
 

@@ -3,9 +3,9 @@ use Rattle.std.specs.Prelude.{◌≡◌, ℕ, ◌+◌, ◌*◌, ◌<◌, ◌≤�
 use Rattle.std.specs.List.{Contains}
 use Rattle.std.specs.List.Sorted.{IsStrictlyIncreasing}
 use Rattle.sg_words.specs.Address.{byte_at, word_at}
-use Rattle.sg_space.specs.declared.layout.Layout.{Layout}
+use Rattle.sg_words.specs.declared.layout.Layout.{Layout}
 use Rattle.sg_space.specs.declared.objects.Object.{Object}
-use Rattle.sg_space.specs.Sections.{IsYoung}
+use Rattle.sg_words.specs.Sections.{IsYoung}
 
 -- some ambiguous word lies, as a byte address, in a word of the standing object whose first word is h
 abbrev pub IsPointedInto : (ℕ → Option ℕ) → List ℕ → ℕ → Type 0

@@ -6,20 +6,21 @@ use Rattle.std.specs.List.{AllByRecursion}
 use Rattle.sg_words.specs.Address.{IsAddress, byte_at, word_at}
 use Rattle.sg_words.specs.Words.{Words}
 use Rattle.sg_desc.specs.declared.shapes.Shape.{Shape}
-use Rattle.sg_graph.specs.declared.program.Class.{Class}
-use Rattle.sg_graph.specs.declared.program.Statement.{Statement}
-use Rattle.sg_graph.specs.declared.program.Statement.TheVariants.{New, NewV, Mature, Put, Get, PutD, GetD, Num, Move, Hide, Unhide, Drop, Push, Pop, GPut, GGet, WSet, WGet, Final, NextFin, Same, Collect, Sections}
-use Rattle.sg_graph.specs.declared.program.Program.{Program}
-use Rattle.sg_graph.specs.declared.reports.Answer.{Answer}
+use Rattle.sg_program.specs.declared.program.Class.{Class}
+use Rattle.sg_program.specs.declared.program.Statement.{Statement}
+use Rattle.sg_program.specs.declared.program.Statement.TheVariants.{New, NewV, Mature, Put, Get, PutD, GetD, Num, Move, Hide, Unhide, Drop, Push, Pop, GPut, GGet, WSet, WGet, Final, NextFin, Same, Collect, Sections}
+use Rattle.sg_program.specs.declared.program.Program.{Program}
+use Rattle.sg_program.specs.declared.answers.Answer.{Answer}
 use Rattle.sg_desc.specs.Shapes.{has_field, Reference}
-use Rattle.sg_graph.specs.Scripts.{kind_of, IsMaking}
-use Rattle.sg_graph.specs.Kinds.{IsRef, IsInner, Kinds, Needs, FindKinds}
+use Rattle.sg_program.specs.Scripts.{kind_of, IsMaking}
+use Rattle.sg_program.specs.Kinds.{IsRef, IsInner, Kinds, Needs}
+use Rattle.sg_program.specs.Invariants.{FindKinds}
 use Rattle.sg_graph.specs.Graph.{Entry, Ref, Int, Inner, Graph}
 use Rattle.sg_graph.specs.Book.{Book, old_end, word_of}
-use Rattle.sg_graph.specs.Epoch.{Pairwise}
-use Rattle.sg_space.specs.declared.layout.Layout.{Layout as Sections_of}
-use Rattle.sg_space.specs.Heap.{Owner, IsHeaded, IsKnownEntry, IsOfSort, layout_of as sections_of}
-use Rattle.sg_space.specs.Sections.{IsLayout, words_end}
+use Rattle.sg_words.specs.Lists.{Pairwise}
+use Rattle.sg_words.specs.declared.layout.Layout.{Layout as Sections_of}
+use Rattle.sg_graph.specs.Heap.{Owner, IsHeaded, IsKnownEntry, IsOfSort, layout_of as sections_of}
+use Rattle.sg_words.specs.Sections.{IsLayout, words_end}
 use Rattle.sg_space.specs.Space.{Contents, words_of, AreShapes, IsContents, clear_space}
 use Rattle.sg_actor.specs.declared.mutator.Mutator.{Mutator}
 use Rattle.sg_order.specs.Rest.{kind_of_entry, kinds_in, Stands as StandsAt, IsRunnable}

@@ -7,14 +7,15 @@ use Rattle.std.specs.List.{All, AllByRecursion, sum_by}
 use Rattle.sg_desc.specs.declared.shapes.Descriptor.{Descriptor}
 use Rattle.sg_desc.specs.declared.shapes.Descriptor.TheVariants.{PtrFree, Run, Bitmap, VectorRefs, VectorPlain, Ephemeron}
 use Rattle.sg_desc.specs.declared.shapes.Shape.{Shape}
-use Rattle.sg_graph.specs.declared.program.Class.{Class}
-use Rattle.sg_graph.specs.declared.program.Script.{Script}
-use Rattle.sg_graph.specs.declared.program.Statement.{Statement}
-use Rattle.sg_graph.specs.declared.program.Program.{Program}
-use Rattle.sg_graph.specs.Scripts.{written, written_out, statements_at, script_of, statements_in}
-use Rattle.sg_graph.specs.Kinds.{first_kinds, HasNoMisuse, FindKinds}
-use Rattle.sg_graph.specs.Limits.{MayHave, IsSmallClass, HasOperands, IsGood, IsRun, IsGoodScript}
-use Rattle.sg_graph.proofs.Runs.{all_out, finds_kinds}
+use Rattle.sg_program.specs.declared.program.Class.{Class}
+use Rattle.sg_program.specs.declared.program.Script.{Script}
+use Rattle.sg_program.specs.declared.program.Statement.{Statement}
+use Rattle.sg_program.specs.declared.program.Program.{Program}
+use Rattle.sg_program.specs.Scripts.{written, written_out, statements_at, script_of, statements_in}
+use Rattle.sg_program.specs.Kinds.{first_kinds, HasNoMisuse}
+use Rattle.sg_program.specs.Invariants.{FindKinds, IsSmallClass, HasOperands, IsGood, IsBuilt, IsGoodScript}
+use Rattle.sg_program.specs.Limits.{MayHave}
+use Rattle.sg_program.proofs.Runs.{all_out, finds_kinds}
 use Rattle.sg_space.specs.Space.{AreShapes}
 use Rattle.sg_parse.specs.Accepted.{IsAcceptedProgram}
 use Rattle.sg_order.specs.Rest.{IsRunnable}
@@ -41,11 +42,11 @@ accepted_shapes p a = record {
 -- what is known of a script, once for all: its statements as they are written are good and run now, and it misuses nothing
 record IsKnownScript (p : Program) (script : Script) : Type 0 where
   good : IsGoodScript p script
-  run : AllByRecursion (IsRun p) (written script.items)
+  run : AllByRecursion (IsBuilt p) (written script.items)
   kinds : HasNoMisuse script.items
 
 known_scripts : (p : Program) (scripts : List Script) → AllByRecursion (IsGoodScript p) scripts →
-    AllByRecursion (λ (script : Script). AllByRecursion (IsRun p) (written script.items)) scripts → AllByRecursion (λ (script : Script). HasNoMisuse script.items) scripts →
+    AllByRecursion (λ (script : Script). AllByRecursion (IsBuilt p) (written script.items)) scripts → AllByRecursion (λ (script : Script). HasNoMisuse script.items) scripts →
     AllByRecursion (IsKnownScript p) scripts
 known_scripts p [] a b c = tt
 known_scripts p (script ∷ scripts) a b c = (record { good = a.0; run = b.0; kinds = c.0 }, known_scripts p scripts a.1 b.1 c.1)

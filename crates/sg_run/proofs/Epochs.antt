@@ -2,20 +2,21 @@
 use Rattle.std.proofs.Common.{◌≡◌, ℕ, zero, suc, ◌+◌, ◌&&◌, nat_lt, Bool, true, false, not, filter, List, [], ◌∷◌, map, length, inl, inr, sym, refl, ap, ◌∙◌, subst, arith}
 use Rattle.std.proofs.lemmas.Bool.{le-ltb}
 use Rattle.sg_words.specs.Words.{put, Words}
-use Rattle.sg_graph.specs.declared.program.Statement.{Statement}
-use Rattle.sg_graph.specs.declared.program.Statement.TheVariants.{New, NewV, Mature, Put, Get, PutD, GetD, Num, Move, Hide, Unhide, Drop, Push, Pop, GPut, GGet, WSet, WGet, Final, NextFin, Same, Collect, Sections}
-use Rattle.sg_graph.specs.declared.program.Program.{Program}
-use Rattle.sg_graph.specs.declared.reports.Answer.{Answer}
+use Rattle.sg_program.specs.declared.program.Statement.{Statement}
+use Rattle.sg_program.specs.declared.program.Statement.TheVariants.{New, NewV, Mature, Put, Get, PutD, GetD, Num, Move, Hide, Unhide, Drop, Push, Pop, GPut, GGet, WSet, WGet, Final, NextFin, Same, Collect, Sections}
+use Rattle.sg_program.specs.declared.program.Program.{Program}
+use Rattle.sg_program.specs.declared.answers.Answer.{Answer}
 use Rattle.sg_graph.specs.declared.reports.Leave.{Leave}
 use Rattle.sg_graph.specs.declared.reports.Leave.TheVariants.{Ended, Wants}
-use Rattle.sg_graph.specs.declared.reports.Request.{Request}
-use Rattle.sg_graph.specs.declared.reports.Request.TheVariants.{Need, Minor}
+use Rattle.sg_program.specs.declared.answers.Request.{Request}
+use Rattle.sg_program.specs.declared.answers.Request.TheVariants.{Need, Minor}
 use Rattle.sg_graph.specs.declared.reports.EpochReport.{EpochReport}
-use Rattle.sg_graph.specs.Scripts.{script_of}
+use Rattle.sg_program.specs.Scripts.{script_of}
 use Rattle.sg_graph.specs.Graph.{Entry, Ref, Int, Inner, Graph}
 use Rattle.sg_graph.specs.Book.{Book, HasNoPlace, IsWordOf, IsApart}
-use Rattle.sg_graph.specs.Epoch.{answers_of, by_address, Asks, Leaves, IsPart, numbers_below, running, Pairwise, is_done, left, AllEnded, IsEpoch}
-use Rattle.sg_order.specs.Rules.{Layout, Slot, Mid, Idle, Left, Actor, Went}
+use Rattle.sg_graph.specs.Epoch.{answers_of, by_address, Asks, Leaves, IsPart, numbers_below, running, is_done, left, AllEnded, IsEpoch}
+use Rattle.sg_words.specs.Lists.{Pairwise}
+use Rattle.sg_rules.specs.Rules.{Layout, Slot, Mid, Idle, Left, Actor, Went}
 use Rattle.sg_order.specs.Rest.{Holds, IsReady, IsHeld, IsEpochOpening, before_it, IsOver}
 use Rattle.sg_actor.specs.Views.{IsRequestOf}
 use Rattle.sg_words.proofs.Puts.{put-all}

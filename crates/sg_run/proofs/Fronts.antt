@@ -4,13 +4,13 @@ use Rattle.std.specs.Prelude.{Option, Some, None, IfSome}
 use Rattle.std.specs.Io.KnownBytes.{Appends}
 use Rattle.std.proofs.KnownBytes.{Appends-nil}
 use Rattle.sg_io.specs.Progress.{TakesSome}
-use Rattle.sg_graph.specs.declared.program.Program.{Program}
+use Rattle.sg_program.specs.declared.program.Program.{Program}
 use Rattle.sg_graph.specs.Graph.{no_objects}
 use Rattle.sg_graph.specs.Book.{empty_book}
 use Rattle.sg_graph.specs.Run.{Phase, IsRun, IsWholeRun}
 use Rattle.sg_graph.specs.Run.IsRun.{BehindStop, BehindEpoch}
 use Rattle.sg_graph.specs.Run.Goes.{Begins}
-use Rattle.sg_graph.specs.Trace.{text}
+use Rattle.sg_trace.specs.Trace.{text}
 use Rattle.sg_parse.specs.Accepted.{IsAcceptedAs, IsAccepted}
 use Rattle.sg_run.specs.declared.refusal.Cause.{Cause}
 use Rattle.sg_run.specs.Causes.{IsCause, refusal_line}

@@ -10,3 +10,4 @@ mod Words
 pub mod Stops
 pub mod Rounds
 pub mod Texts
+pub mod Placing

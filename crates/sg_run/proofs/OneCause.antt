@@ -1,7 +1,7 @@
 -- An input has one cause of refusal at most.
 use Rattle.std.proofs.Common.{◌≡◌, ◌≢◌, ℕ, List, ap, ◌∙◌, subst}
-use Rattle.sg_graph.specs.declared.program.Program.{Program}
-use Rattle.sg_graph.specs.Kinds.{IsFirstMisuse}
+use Rattle.sg_program.specs.declared.program.Program.{Program}
+use Rattle.sg_program.specs.Kinds.{IsFirstMisuse}
 use Rattle.sg_parse.specs.declared.refusal.Refusal.{Refusal}
 use Rattle.sg_parse.specs.declared.refusal.Refusal.TheVariants.{TooLong, Syntax, Class, Limit, Later, Memory}
 use Rattle.sg_parse.specs.declared.refusal.Which.{Which}

@@ -2,9 +2,9 @@
 use Rattle.std.proofs.Common.{◌≡◌, ◌≢◌, ℕ, List, inl, inr, refl, sym, subst, arith}
 use Rattle.std.specs.Prelude.{Option, Some, None, IfSome}
 use Rattle.std.specs.List.{AllByRecursion}
-use Rattle.sg_graph.specs.declared.program.Script.{Script}
-use Rattle.sg_graph.specs.declared.program.Program.{Program}
-use Rattle.sg_graph.specs.Kinds.{HasNoMisuse}
+use Rattle.sg_program.specs.declared.program.Script.{Script}
+use Rattle.sg_program.specs.declared.program.Program.{Program}
+use Rattle.sg_program.specs.Kinds.{HasNoMisuse}
 use Rattle.sg_parse.specs.declared.refusal.Refusal.{Refusal}
 use Rattle.sg_parse.specs.declared.refusal.Refusal.TheVariants.{TooLong, Syntax, Class, Limit, Later, Memory}
 use Rattle.sg_parse.specs.Accepted.{IsReadAs, IsRefusedBy, IsAccepted}

@@ -1,33 +1,35 @@
 -- From one epoch to the next: a world's epoch, the stop behind it, and its beginning.
 use Rattle.std.proofs.Common.{◌≡◌, ℕ, zero, suc, ◌+◌, ◌<◌, ◌≤◌, true, false, None, List, [], ◌∷◌, ◌++◌, length, map, drop, get_or, slice_get, vec_len, vec_capacity, inl, inr, sym, refl, ap, ◌∙◌, subst, arith}
 use Rattle.sg_words.specs.Words.{put, Words}
-use Rattle.sg_graph.specs.declared.program.Statement.{Statement}
-use Rattle.sg_graph.specs.declared.program.Statement.TheVariants.{New, NewV, Mature, Put, Get, PutD, GetD, Num, Move, Hide, Unhide, Drop, Push, Pop, GPut, GGet, WSet, WGet, Final, NextFin, Same, Collect, Sections}
-use Rattle.sg_graph.specs.declared.program.Script.{Script}
-use Rattle.sg_graph.specs.declared.program.Class.{Class}
-use Rattle.sg_graph.specs.declared.program.Program.{Program}
-use Rattle.sg_graph.specs.declared.reports.Request.{Request}
+use Rattle.sg_program.specs.declared.program.Statement.{Statement}
+use Rattle.sg_program.specs.declared.program.Statement.TheVariants.{New, NewV, Mature, Put, Get, PutD, GetD, Num, Move, Hide, Unhide, Drop, Push, Pop, GPut, GGet, WSet, WGet, Final, NextFin, Same, Collect, Sections}
+use Rattle.sg_program.specs.declared.program.Script.{Script}
+use Rattle.sg_program.specs.declared.program.Class.{Class}
+use Rattle.sg_program.specs.declared.program.Program.{Program}
+use Rattle.sg_program.specs.declared.answers.Request.{Request}
 use Rattle.sg_graph.specs.declared.reports.Leave.{Leave}
 use Rattle.sg_graph.specs.declared.reports.Leave.TheVariants.{Ended, Wants}
 use Rattle.sg_graph.specs.declared.reports.EpochReport.{EpochReport}
 use Rattle.sg_graph.specs.declared.reports.StopReport.{StopReport}
-use Rattle.sg_graph.specs.Scripts.{script_of, written_out, statements_at}
-use Rattle.sg_graph.specs.declared.program.Item.{Item}
+use Rattle.sg_program.specs.Scripts.{script_of, written_out, statements_at}
+use Rattle.sg_program.specs.declared.program.Item.{Item}
 use Rattle.sg_graph.specs.Graph.{Entry, no_objects}
 use Rattle.sg_words.specs.Address.{byte_at}
 use Rattle.sg_desc.specs.declared.shapes.Shape.{Shape}
-use Rattle.sg_graph.specs.Book.{nursery_base, empty_book}
-use Rattle.sg_space.specs.Sections.{old_base}
-use Rattle.sg_graph.specs.Epoch.{Pairwise, IsEpoch}
+use Rattle.sg_graph.specs.Book.{empty_book}
+use Rattle.sg_words.specs.Sections.{nursery_base, old_base}
+use Rattle.sg_graph.specs.Epoch.{IsEpoch}
+use Rattle.sg_words.specs.Lists.{Pairwise}
 use Rattle.sg_graph.specs.Stop.{IsStop, requests_in}
 use Rattle.sg_graph.specs.Run.{Phase, Epoch, Stop, Goes, IsWholeRun}
 use Rattle.sg_graph.specs.Run.Goes.{Begins, GoesOn}
 use Rattle.sg_parse.specs.Accepted.{IsAcceptedProgram}
 use Rattle.sg_space.specs.Space.{Contents, words_of, IsContents, clear_space}
-use Rattle.sg_space.specs.Heap.{layout_of as sections_of, HoldsHeap}
+use Rattle.sg_graph.specs.Heap.{layout_of as sections_of}
+use Rattle.sg_minor.specs.Holding.{HoldsHeap}
 use Rattle.sg_actor.specs.declared.mutator.Mutator.{Mutator}
 use Rattle.sg_run.specs.declared.world.World.{World}
-use Rattle.sg_order.specs.Rules.{Layout, Slot, Actor, Idle, Left, fresh, within, Went}
+use Rattle.sg_rules.specs.Rules.{Layout, Slot, Actor, Idle, Left, fresh, within, Went}
 use Rattle.sg_order.specs.Rest.{Holds, IsReady, IsHeld, IsEpochOpening, before_it}
 use Rattle.sg_actor.specs.Views.{layout_of, actor_of, IsSpace, KeepsSpace, IsFresh, IsEmptied, CanDo, CanGo, IsRequestOf}
 use Rattle.sg_run.specs.Worlds.{AreReady, CanServe, HasStopped, rest_of, IsBetween, IsAtStop, ComesTo, HasGone, HasAsked, Leaves, is_end}

@@ -3,17 +3,17 @@ use Rattle.std.proofs.Common.{◌≡◌, ℕ, suc, ◌+◌, ◌<◌, ◌≤◌, 
 use Rattle.sg_words.specs.Address.{byte_at, word_at}
 use Rattle.sg_words.specs.Tags.{plain_word}
 use Rattle.sg_words.specs.Words.{put}
-use Rattle.sg_graph.specs.declared.program.Statement.{Statement}
-use Rattle.sg_graph.specs.declared.program.Program.{Program}
-use Rattle.sg_graph.specs.Scripts.{IsSizeOf, words_for}
+use Rattle.sg_program.specs.declared.program.Statement.{Statement}
+use Rattle.sg_program.specs.declared.program.Program.{Program}
+use Rattle.sg_program.specs.Scripts.{IsSizeOf, words_for}
 use Rattle.sg_graph.specs.Graph.{Entry, Graph, grown, goes_on}
 use Rattle.sg_graph.specs.Book.{Book, placed}
-use Rattle.sg_graph.specs.Pause.{IsPlain}
+use Rattle.sg_graph.specs.Invariants.{IsPlain}
 use Rattle.sg_graph.specs.Stop.{Takes, HasNoFragment}
-use Rattle.sg_space.specs.declared.layout.Layout.{Layout as Sections}
-use Rattle.sg_space.specs.Heap.{HoldsHeap}
+use Rattle.sg_words.specs.declared.layout.Layout.{Layout as Sections}
+use Rattle.sg_minor.specs.Holding.{HoldsHeap}
 use Rattle.sg_space.specs.Space.{Contents, words_of, IsContents}
-use Rattle.sg_space.proofs.Placing.{HasPlaced, holds_placed}
+use Rattle.sg_run.proofs.Placing.{HasPlaced, holds_placed}
 use Rattle.sg_order.specs.Rest.{IsHeld}
 use Rattle.sg_actor.specs.Views.{layout_of, IsSpace, KeepsSpace, HasByteAddresses, IsPlaced, HasNowhere}
 use Rattle.sg_words.proofs.Puts.{put-same}

@@ -6,31 +6,35 @@ use Rattle.std.proofs.lemmas.List.{reverse-append}
 use Rattle.std.proofs.lemmas.List.Elements.{Contains-get_or, Contains-append_left, Contains-append_right}
 use Rattle.sg_words.specs.Address.{byte_at}
 use Rattle.sg_words.specs.Words.{put}
-use Rattle.sg_graph.specs.declared.program.Statement.{Statement}
-use Rattle.sg_graph.specs.declared.program.Statement.TheVariants.{New, NewV, Mature, Put, Get, PutD, GetD, Num, Move, Hide, Unhide, Drop, Push, Pop, GPut, GGet, WSet, WGet, Final, NextFin, Same, Collect, Sections}
-use Rattle.sg_graph.specs.declared.program.Program.{Program}
-use Rattle.sg_graph.specs.declared.reports.Answer.{Answer}
-use Rattle.sg_graph.specs.declared.reports.Answer.TheVariants.{At, Nil, Null, Number, Fine, Yes, No, Field, Full}
-use Rattle.sg_graph.specs.declared.reports.Request.{Request}
-use Rattle.sg_graph.specs.declared.reports.Request.TheVariants.{Need, Minor}
+use Rattle.sg_program.specs.declared.program.Statement.{Statement}
+use Rattle.sg_program.specs.declared.program.Statement.TheVariants.{New, NewV, Mature, Put, Get, PutD, GetD, Num, Move, Hide, Unhide, Drop, Push, Pop, GPut, GGet, WSet, WGet, Final, NextFin, Same, Collect, Sections}
+use Rattle.sg_program.specs.declared.program.Program.{Program}
+use Rattle.sg_program.specs.declared.answers.Answer.{Answer}
+use Rattle.sg_program.specs.declared.answers.Answer.TheVariants.{At, Nil, Null, Number, Fine, Yes, No, Field, Full}
+use Rattle.sg_program.specs.declared.answers.Request.{Request}
+use Rattle.sg_program.specs.declared.answers.Request.TheVariants.{Need, Minor}
 use Rattle.sg_graph.specs.declared.reports.StopReport.{StopReport}
 use Rattle.sg_graph.specs.declared.reports.MinorReport.{MinorReport}
-use Rattle.sg_graph.specs.Scripts.{kind_of, words_for, IsMaking, made_in, made_class, made_fields, made_words}
-use Rattle.sg_graph.specs.Kinds.{FindKinds, kinds_after}
+use Rattle.sg_program.specs.Scripts.{kind_of, words_for, IsMaking, made_in, made_class, made_fields, made_words}
+use Rattle.sg_program.specs.Kinds.{kinds_after}
+use Rattle.sg_program.specs.Invariants.{FindKinds}
 use Rattle.sg_graph.specs.Graph.{Entry, Ref, Int, Inner, Mutator as Mutator_of, Graph, grown, goes_on}
 use Rattle.sg_graph.specs.Statements.{Does}
-use Rattle.sg_graph.specs.Book.{Book, placed, word_of, nursery_base}
-use Rattle.sg_graph.specs.Epoch.{numbers_below, running, by_address, Pairwise}
-use Rattle.sg_graph.specs.Pause.{ambiguous_words, words_in, is_pair, IsPlain}
+use Rattle.sg_graph.specs.Book.{Book, placed, word_of}
+use Rattle.sg_words.specs.Sections.{nursery_base}
+use Rattle.sg_graph.specs.Epoch.{numbers_below, running, by_address}
+use Rattle.sg_words.specs.Lists.{Pairwise}
+use Rattle.sg_graph.specs.Pause.{ambiguous_words, words_in, is_pair}
+use Rattle.sg_graph.specs.Invariants.{IsPlain}
 use Rattle.sg_graph.specs.Minor.{IsMinorPause}
 use Rattle.sg_graph.specs.Stop.{Places, HasNoFragment, Takes, IsServed, want_pause, Pauses}
 use Rattle.sg_graph.proofs.Kept.{kept_in_place}
 use Rattle.sg_space.specs.Space.{Contents, words_of, IsContents}
-use Rattle.sg_space.specs.Heap.{HoldsHeap}
+use Rattle.sg_minor.specs.Holding.{HoldsHeap}
 use Rattle.sg_minor.specs.Law.{HasPaused}
 use Rattle.sg_actor.specs.declared.mutator.Held.{Held}
 use Rattle.sg_actor.specs.declared.mutator.Mutator.{Mutator}
-use Rattle.sg_order.specs.Rules.{Slot, Actor, fresh, owning}
+use Rattle.sg_rules.specs.Rules.{Slot, Actor, fresh, owning}
 use Rattle.sg_order.specs.Rest.{kinds_in, Holds, IsReady, IsRunnable}
 use Rattle.sg_actor.specs.Views.{slot_of, layout_of, actor_of, IsPlaced, HasNowhere}
 use Rattle.sg_run.specs.Worlds.{AreReady, HasSet, IsServing, CanStop, HasStopped}

@@ -5,12 +5,12 @@ use Rattle.std.proofs.lemmas.List.Concat.{flat_map-append}
 use Rattle.std.proofs.KnownBytes.{Appends-trans}
 use Rattle.std.specs.Io.KnownBytes.{Appends}
 use Rattle.sg_io.specs.Progress.{TakesSome}
-use Rattle.sg_graph.specs.declared.program.Program.{Program}
+use Rattle.sg_program.specs.declared.program.Program.{Program}
 use Rattle.sg_graph.specs.declared.reports.EpochReport.{EpochReport}
 use Rattle.sg_graph.specs.declared.reports.StopReport.{StopReport}
 use Rattle.sg_graph.specs.Run.{Phase, Epoch, Stop, IsRun}
 use Rattle.sg_graph.specs.Run.IsRun.{BehindStop, BehindEpoch}
-use Rattle.sg_graph.specs.Trace.{epoch_text, stop_text, phase_text, text}
+use Rattle.sg_trace.specs.Trace.{epoch_text, stop_text, phase_text, text}
 use Rattle.sg_run.specs.declared.world.World.{World}
 use Rattle.sg_run.specs.Worlds.{IsBetween, IsAtStop, ComesTo}
 use Rattle.sg_run.specs.Running.{BreaksOff}

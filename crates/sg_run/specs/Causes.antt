@@ -1,9 +1,9 @@
 -- Why an input isn't accepted, and the line that tells it.
 use Rattle.std.specs.Prelude.{◌≡◌, ℕ, List, [], ◌++◌, codes}
 use Rattle.std.specs.Fmt.{decimal}
-use Rattle.sg_graph.specs.declared.program.Program.{Program}
-use Rattle.sg_graph.specs.Kinds.{IsFirstMisuse}
-use Rattle.sg_graph.specs.Trace.{space, line_feed}
+use Rattle.sg_program.specs.declared.program.Program.{Program}
+use Rattle.sg_program.specs.Kinds.{IsFirstMisuse}
+use Rattle.sg_trace.specs.Trace.{space, line_feed}
 use Rattle.sg_parse.specs.declared.refusal.Refusal.{Refusal}
 use Rattle.sg_parse.specs.declared.refusal.Refusal.TheVariants.{TooLong, Syntax, Class, Limit, Later, Memory}
 use Rattle.sg_parse.specs.declared.refusal.Which.{Which}

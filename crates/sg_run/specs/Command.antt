@@ -1,6 +1,6 @@
 -- The words of the command, and the lines that are written in place of a trace.
 use Rattle.std.specs.Prelude.{◌≡◌, ℕ, List, [], ◌∷◌, ◌++◌, codes}
-use Rattle.sg_graph.specs.Trace.{line_feed}
+use Rattle.sg_trace.specs.Trace.{line_feed}
 
 -- the words are the command: the one word `run`
 abbrev pub IsRunCommand : List (List ℕ) → Type 0

@@ -1,8 +1,8 @@
 -- A new object at a stop, for which the statement alone says how many fields it has.
 use Rattle.std.specs.Prelude.{ℕ}
-use Rattle.sg_graph.specs.declared.reports.Answer.{Answer}
-use Rattle.sg_graph.specs.declared.reports.Answer.TheVariants.{At, Full}
-use Rattle.sg_graph.specs.Scripts.{words_for}
+use Rattle.sg_program.specs.declared.answers.Answer.{Answer}
+use Rattle.sg_program.specs.declared.answers.Answer.TheVariants.{At, Full}
+use Rattle.sg_program.specs.Scripts.{words_for}
 use Rattle.sg_space.specs.Space.{Contents}
 use Rattle.sg_actor.specs.declared.mutator.Mutator.{Mutator}
 use Rattle.sg_actor.specs.Views.{IsPlaced, HasNowhere}

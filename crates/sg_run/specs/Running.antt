@@ -2,9 +2,9 @@
 use Rattle.std.specs.Prelude.{ℕ, Option, List, ◌++◌}
 use Rattle.sg_io.specs.Faults.{Rose}
 use Rattle.sg_io.specs.Progress.{TakesSome}
-use Rattle.sg_graph.specs.declared.program.Program.{Program}
+use Rattle.sg_program.specs.declared.program.Program.{Program}
 use Rattle.sg_graph.specs.Run.{Phase, IsRun}
-use Rattle.sg_graph.specs.Trace.{text}
+use Rattle.sg_trace.specs.Trace.{text}
 use Rattle.sg_run.specs.declared.execution.RunError.{RunError}
 use Rattle.sg_run.specs.declared.execution.RunError.TheVariants.{Sink, Memory}
 

@@ -3,9 +3,9 @@
 use Rattle.std.specs.Prelude.{◌≡◌, ℕ, ◌≤◌, ◌⊎◌, Option, List, [], IfSome}
 use Rattle.std.specs.Io.KnownBytes.{Appends, Keeps, IsAtEnd}
 use Rattle.sg_io.specs.Progress.{TakesSome}
-use Rattle.sg_graph.specs.declared.program.Program.{Program}
+use Rattle.sg_program.specs.declared.program.Program.{Program}
 use Rattle.sg_graph.specs.Run.{Phase, IsRun, IsWholeRun}
-use Rattle.sg_graph.specs.Trace.{text}
+use Rattle.sg_trace.specs.Trace.{text}
 use Rattle.sg_parse.specs.Accepted.{IsAcceptedAs, IsAccepted}
 use Rattle.sg_run.specs.declared.refusal.Cause.{Cause}
 use Rattle.sg_run.specs.Command.{IsRunCommand, usage_line}

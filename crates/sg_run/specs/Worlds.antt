@@ -1,28 +1,28 @@
 -- A world between its epochs and stops, and what a stop does with it.
 use Rattle.std.specs.Prelude.{◌≡◌, ℕ, ◌+◌, ◌≤◌, ◌⊎◌, Bool, true, false, List, [], ◌∷◌, ◌++◌, drop, length, vec_len, vec_capacity}
 use Rattle.sg_words.specs.Words.{put}
-use Rattle.sg_graph.specs.declared.program.Statement.{Statement}
-use Rattle.sg_graph.specs.declared.program.Statement.TheVariants.{New, NewV, Collect}
-use Rattle.sg_graph.specs.declared.program.Program.{Program}
-use Rattle.sg_graph.specs.declared.reports.Answer.{Answer}
-use Rattle.sg_graph.specs.declared.reports.Answer.TheVariants.{At, Fine, Full}
-use Rattle.sg_graph.specs.declared.reports.Request.{Request}
+use Rattle.sg_program.specs.declared.program.Statement.{Statement}
+use Rattle.sg_program.specs.declared.program.Statement.TheVariants.{New, NewV, Collect}
+use Rattle.sg_program.specs.declared.program.Program.{Program}
+use Rattle.sg_program.specs.declared.answers.Answer.{Answer}
+use Rattle.sg_program.specs.declared.answers.Answer.TheVariants.{At, Fine, Full}
+use Rattle.sg_program.specs.declared.answers.Request.{Request}
 use Rattle.sg_graph.specs.declared.reports.Leave.{Leave}
 use Rattle.sg_graph.specs.declared.reports.Leave.TheVariants.{Ended, Wants}
 use Rattle.sg_graph.specs.declared.reports.EpochReport.{EpochReport}
 use Rattle.sg_graph.specs.declared.reports.StopReport.{StopReport}
-use Rattle.sg_graph.specs.Scripts.{script_of, fields_of, words_for}
+use Rattle.sg_program.specs.Scripts.{script_of, fields_of, words_for}
 use Rattle.sg_graph.specs.Graph.{Graph}
 use Rattle.sg_graph.specs.Book.{Book, words_of_class, IsApart}
 use Rattle.sg_graph.specs.Epoch.{IsEpoch}
-use Rattle.sg_graph.specs.Pause.{IsPlain}
+use Rattle.sg_graph.specs.Invariants.{IsPlain}
 use Rattle.sg_graph.specs.Stop.{IsStop, requests_in}
 use Rattle.sg_graph.specs.Run.{Phase, Epoch, Goes, IsWholeRun}
 use Rattle.sg_space.specs.Space.{Contents, words_of, IsContents}
-use Rattle.sg_space.specs.Heap.{HoldsHeap}
+use Rattle.sg_minor.specs.Holding.{HoldsHeap}
 use Rattle.sg_actor.specs.declared.mutator.Mutator.{Mutator}
 use Rattle.sg_run.specs.declared.world.World.{World}
-use Rattle.sg_order.specs.Rules.{fresh, within, Left, Went}
+use Rattle.sg_rules.specs.Rules.{fresh, within, Left, Went}
 use Rattle.sg_order.specs.Rest.{IsReady}
 use Rattle.sg_actor.specs.Views.{layout_of, actor_of, KeepsSpace, CanMake, IsPlaced, HasNowhere, IsRequestOf}
 

@@ -5,7 +5,7 @@ ghost use Rattle.sg_io.specs.Progress.{TakesSome};
 ghost use Rattle.sg_graph.specs.declared.reports.EpochReport.{EpochReport as AnyEpoch};
 ghost use Rattle.sg_graph.specs.declared.reports.StopReport.{StopReport as AnyStop};
 ghost use Rattle.sg_graph.specs.Run.{Phase, Epoch, Stop, IsRun, IsWholeRun};
-ghost use Rattle.sg_graph.specs.Trace.{text, epoch_text, stop_text};
+ghost use Rattle.sg_trace.specs.Trace.{text, epoch_text, stop_text};
 ghost use Rattle.sg_parse.specs.Accepted.{IsAcceptedProgram};
 ghost use Rattle.sg_run.specs.Worlds.{IsBetween, IsAtStop, ComesTo};
 ghost use Rattle.sg_run.specs.Running.{StopsRunning, BreaksOff};

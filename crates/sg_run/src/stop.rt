@@ -1,7 +1,7 @@
 // What a stop does: the pause, and the answer to the request.
 ghost use Rattle.std.specs.Prelude.{◌≡◌, ◌<◌, ◌≤◌, List as Sequence, IfOk};
-ghost use Rattle.sg_graph.specs.declared.program.Statement.{Statement as AnyStatement};
-ghost use Rattle.sg_graph.specs.declared.reports.Request.{Request};
+ghost use Rattle.sg_program.specs.declared.program.Statement.{Statement as AnyStatement};
+ghost use Rattle.sg_program.specs.declared.answers.Request.{Request};
 ghost use Rattle.sg_graph.specs.Graph.{Graph};
 ghost use Rattle.sg_graph.specs.Book.{Book};
 ghost use Rattle.sg_space.specs.Space.{IsContents};

@@ -1,6 +1,6 @@
 // A run of a program, epoch by epoch.
 ghost use Rattle.std.specs.Prelude.{◌≡◌, ◌+◌, ◌≤◌, ◌++◌, List as Sequence, [], ◌∷◌, IfOk, map};
-ghost use Rattle.sg_graph.specs.declared.program.Class.{Class as AnyClass};
+ghost use Rattle.sg_program.specs.declared.program.Class.{Class as AnyClass};
 ghost use Rattle.sg_graph.specs.declared.reports.EpochReport.{EpochReport as AnyEpoch};
 ghost use Rattle.sg_graph.specs.Run.{Phase, Epoch, Stop};
 ghost use Rattle.sg_parse.specs.Accepted.{IsAcceptedProgram};

@@ -5,12 +5,12 @@ use Rattle.std.proofs.lemmas.Bool.{false≢true}
 use Rattle.std.proofs.lemmas.Option.{none-some, same_Some}
 use Rattle.std.specs.List.{AllByRecursion}
 use Rattle.std.specs.Result.{is_ok}
-use Rattle.sg_graph.specs.declared.program.Statement.{Statement}
-use Rattle.sg_graph.specs.declared.program.Item.{Item, out-Item, map-Item, fold_out-Item}
-use Rattle.sg_graph.specs.declared.program.Item.TheOpen.{One, Repeat}
-use Rattle.sg_graph.specs.Scripts.{repeated, item_out, written_out}
-use Rattle.sg_graph.specs.Limits.{most_of, depth_step, item_depth}
-use Rattle.sg_graph.proofs.Items.{out_one, out_repeat}
+use Rattle.sg_program.specs.declared.program.Statement.{Statement}
+use Rattle.sg_program.specs.declared.program.Item.{Item, out-Item, map-Item, fold_out-Item}
+use Rattle.sg_program.specs.declared.program.Item.TheOpen.{One, Repeat}
+use Rattle.sg_program.specs.Scripts.{repeated, item_out, written_out}
+use Rattle.sg_program.specs.Invariants.{most_of, depth_step, item_depth}
+use Rattle.sg_program.proofs.Items.{out_one, out_repeat}
 use Rattle.sg_script.specs.declared.cursor.Frame.{Frame}
 use Rattle.sg_script.specs.Left.{frame_left, left, Fits, AreNested, IsAt, Stands, cost_step, item_cost, items_cost, frame_cost, cost}
 

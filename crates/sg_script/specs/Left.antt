@@ -1,11 +1,11 @@
 -- What is left to do at a place in a script.
 use Rattle.std.specs.Prelude.{◌≡◌, ℕ, suc, ◌+◌, ◌*◌, ◌≤◌, ◌⊎◌, Some, List, [], ◌∷◌, ◌++◌, drop, map, slice_get}
 use Rattle.std.specs.List.{AllByRecursion}
-use Rattle.sg_graph.specs.declared.program.Statement.{Statement}
-use Rattle.sg_graph.specs.declared.program.Item.{Item, out-Item, fold-Item}
-use Rattle.sg_graph.specs.declared.program.Item.TheOpen.{Item-F, One, Repeat}
-use Rattle.sg_graph.specs.Scripts.{repeated, written_out}
-use Rattle.sg_graph.specs.Limits.{item_depth}
+use Rattle.sg_program.specs.declared.program.Statement.{Statement}
+use Rattle.sg_program.specs.declared.program.Item.{Item, out-Item, fold-Item}
+use Rattle.sg_program.specs.declared.program.Item.TheOpen.{Item-F, One, Repeat}
+use Rattle.sg_program.specs.Scripts.{repeated, written_out}
+use Rattle.sg_program.specs.Invariants.{item_depth}
 use Rattle.sg_script.specs.declared.cursor.Frame.{Frame}
 
 -- of a body the items from the next one on, and then the whole body as many times more

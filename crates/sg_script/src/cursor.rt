@@ -1,11 +1,11 @@
 ghost use Rattle.std.specs.Prelude.{◌≡◌, ◌≢◌, ◌+◌, ◌*◌, ◌≤◌, ◌∷◌, ◌++◌, false, List, [], length, if◌then◌else◌, IfOk, MatchOption, vec_capacity};
 ghost use Rattle.std.specs.List.{AllByRecursion};
-ghost use Rattle.sg_graph.specs.declared.program.Statement.{Statement as AnyStatement};
-ghost use Rattle.sg_graph.specs.Scripts.{repeated, written_out};
-ghost use Rattle.sg_graph.specs.Limits.{item_depth};
+ghost use Rattle.sg_program.specs.declared.program.Statement.{Statement as AnyStatement};
+ghost use Rattle.sg_program.specs.Scripts.{repeated, written_out};
+ghost use Rattle.sg_program.specs.Invariants.{item_depth};
 ghost use Rattle.sg_script.specs.Left.{left, Fits, AreNested, IsAt, Stands, items_cost, cost};
 
-use sg_graph::{Item, Statement};
+use sg_program::{Item, Statement};
 use std::alloc::{AllocError, Global};
 use std::marker::Model;
 
@@ -29,7 +29,7 @@ pub struct Cursor<'a> {
 
 impl<'a> Model for Cursor<'a> {
     ghost use Rattle.std.specs.Prelude.{◌≤◌, List, vec_capacity};
-    ghost use Rattle.sg_graph.specs.declared.program.Statement.{Statement};
+    ghost use Rattle.sg_program.specs.declared.program.Statement.{Statement};
 
     ghost Value = { List Statement };
 

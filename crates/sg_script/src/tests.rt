@@ -1,9 +1,9 @@
 ghost use Rattle.std.specs.Prelude.{◌≡◌, ◌≤◌, suc, max, IfOk};
 ghost use Rattle.std.specs.List.{AllByRecursion};
-ghost use Rattle.sg_graph.specs.Limits.{item_depth};
+ghost use Rattle.sg_program.specs.Invariants.{item_depth};
 
 use crate::Cursor;
-use sg_graph::{Item, Statement};
+use sg_program::{Item, Statement};
 use sqlite_items::Items;
 use std::alloc::{AllocError, Global};
 use std::test::Fail;

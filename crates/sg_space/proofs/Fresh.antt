@@ -4,8 +4,8 @@ use Rattle.std.proofs.lemmas.List.{get_or-replicate, length-replicate}
 use Rattle.std.proofs.lemmas.Option.{none-some}
 use Rattle.sg_words.specs.Address.{byte_at}
 use Rattle.sg_desc.specs.declared.shapes.Shape.{Shape}
-use Rattle.sg_space.specs.declared.layout.Layout.{Layout}
-use Rattle.sg_space.specs.Sections.{IsLayout, nursery_base, old_base, words_end}
+use Rattle.sg_words.specs.declared.layout.Layout.{Layout}
+use Rattle.sg_words.specs.Sections.{IsLayout, nursery_base, old_base, words_end}
 use Rattle.sg_space.specs.Space.{Contents, AreShapes, clear_space}
 use Rattle.sg_space.specs.Standing.{IsSoundBy, IsSound}
 

@@ -2,8 +2,8 @@
 use Rattle.std.proofs.Common.{◌≡◌, ℕ, zero, suc, ◌+◌, ◌<◌, ◌≤◌, inr, List, Some, None, refl, sym, ap, ◌∙◌, subst, arith, slice_get, slice_index, slice_set}
 use Rattle.sg_words.specs.Address.{word_at}
 use Rattle.sg_desc.specs.declared.shapes.Shape.{Shape}
-use Rattle.sg_space.specs.declared.layout.Layout.{Layout}
-use Rattle.sg_space.specs.Sections.{IsLayout}
+use Rattle.sg_words.specs.declared.layout.Layout.{Layout}
+use Rattle.sg_words.specs.Sections.{IsLayout}
 use Rattle.sg_space.specs.Space.{Contents, AreShapes, clear_space}
 use Rattle.sg_space.specs.Standing.{IsSoundBy, IsSound}
 use Rattle.sg_space.proofs.Fresh.{clear_is_sound}

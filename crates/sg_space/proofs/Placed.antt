@@ -7,7 +7,7 @@ use Rattle.std.proofs.lemmas.Option.{none-some, same_Some}
 use Rattle.sg_words.specs.Address.{word_at}
 use Rattle.sg_words.specs.Tags.{plain_word}
 use Rattle.sg_desc.specs.declared.shapes.Shape.{Shape}
-use Rattle.sg_space.specs.Sections.{nursery_base, old_base, large_base}
+use Rattle.sg_words.specs.Sections.{nursery_base, old_base, large_base}
 use Rattle.sg_space.specs.Space.{Contents}
 use Rattle.sg_space.specs.Standing.{word, size_at, IsObject, IsSoundBy}
 

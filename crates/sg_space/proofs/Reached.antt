@@ -4,7 +4,7 @@ use Rattle.std.proofs.Common.{◌≡◌, ◌≢◌, ℕ, ◌+◌, ◌%◌, ◌<�
 use Rattle.std.proofs.lemmas.Option.{none-some, same_Some}
 use Rattle.sg_words.specs.Address.{word_at}
 use Rattle.sg_space.specs.declared.objects.Object.{Object}
-use Rattle.sg_space.specs.Sections.{nursery_base, old_base, large_base}
+use Rattle.sg_words.specs.Sections.{nursery_base, old_base, large_base}
 use Rattle.sg_space.specs.Space.{Contents}
 use Rattle.sg_space.specs.Standing.{word, size_at, IsObject, IsSoundBy, IsSound, IsClearAt, IsFree, IsNoFront, TellsAt, HoldsWord, HasByte}
 

@@ -7,7 +7,7 @@ use Rattle.std.proofs.lemmas.Option.{none-some, same_Some}
 use Rattle.std.specs.List.Sorted.{IsStrictlyIncreasing}
 use Rattle.sg_words.specs.Address.{byte_at}
 use Rattle.sg_space.specs.declared.objects.Object.{Object}
-use Rattle.sg_space.specs.Sections.{nursery_base, old_base, IsYoung}
+use Rattle.sg_words.specs.Sections.{nursery_base, old_base, IsYoung}
 use Rattle.sg_space.specs.Space.{Contents}
 use Rattle.sg_space.specs.Standing.{IsSoundBy, IsToldOf, TellsYoung, IsFree, TellsAt}
 use Rattle.sg_space.proofs.Reached.{inside_is_front}

@@ -1,4 +1,2 @@
-pub mod Sections
 pub mod Space
 pub mod Standing
-pub mod Heap

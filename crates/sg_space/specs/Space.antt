@@ -3,9 +3,10 @@ use Rattle.std.specs.Prelude.{◌≡◌, ℕ, ◌≤◌, List, [], ◌∷◌, le
 use Rattle.std.specs.List.{All}
 use Rattle.sg_words.specs.Address.{byte_at}
 use Rattle.sg_words.specs.Words.{Words}
+use Rattle.sg_words.specs.declared.steps.BlockWord.TheVariants.{Free}
 use Rattle.sg_desc.specs.declared.shapes.Shape.{Shape}
-use Rattle.sg_space.specs.declared.layout.Layout.{Layout}
-use Rattle.sg_space.specs.Sections.{nursery_base, old_base, words_end, IsLayout}
+use Rattle.sg_words.specs.declared.layout.Layout.{Layout}
+use Rattle.sg_words.specs.Sections.{nursery_base, old_base, words_end, IsLayout}
 
 -- Its layout, the shapes of its classes, its words by number, for each fragment the byte addresses of its next word and of
 -- the word behind its last one, and whether the mutators are asked to stop.
@@ -17,9 +18,19 @@ pub record Contents : Type 0 where
   pub ends : List ℕ
   pub stop : ℕ
 
--- the words of a space as the atomic steps see them
+-- the words of a space as the atomic steps see them; it has no cards, offer cells and block words yet
 abbrev pub words_of : Contents → Words
-words_of s = record { stop = s.stop; next = λ f. slice_index s.next f; word = λ x. slice_index s.words x }
+words_of s = record {
+  stop = s.stop;
+  next = λ f. slice_index s.next f;
+  word = λ x. slice_index s.words x;
+  card = λ _. 0;
+  head = 0;
+  cell = λ _. 0;
+  block = λ _. Free;
+  used = λ _. 0;
+  marks = λ _. 0;
+}
 
 -- a space has at most 256 classes, and an object at most 62 fields
 pub record AreShapes (shapes : List Shape) : Type 0 where

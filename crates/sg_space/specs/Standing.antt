@@ -6,7 +6,7 @@ use Rattle.sg_words.specs.Tags.{plain_word}
 use Rattle.sg_desc.specs.declared.shapes.Shape.{Shape}
 use Rattle.sg_desc.specs.Shapes.{holds_reference, is_vector}
 use Rattle.sg_space.specs.declared.objects.Object.{Object}
-use Rattle.sg_space.specs.Sections.{nursery_base, old_base, large_base, globals_base, words_end, IsYoung}
+use Rattle.sg_words.specs.Sections.{nursery_base, old_base, large_base, globals_base, words_end, IsYoung}
 use Rattle.sg_space.specs.Space.{Contents}
 
 -- the word with this number

@@ -1,12 +1,11 @@
 //! The simulated address space: a nursery, a major heap, a large space and the rows behind it, over 64-bit words.
 #![tactic(auto)]
 
-mod layout;
 mod objects;
 mod space;
 mod walks;
 
-pub use layout::Layout;
+pub use sg_words::Layout;
 pub use objects::Object;
 pub use space::Space;
 

@@ -1,6 +1,5 @@
-use crate::layout::{FIRST_WORD, Layout};
 use sg_desc::Shape;
-use sg_words::{Addr, Piece};
+use sg_words::{Addr, FIRST_WORD, Layout, Piece};
 use std::alloc::{AllocError, Global};
 use std::marker::Model;
 
@@ -47,7 +46,7 @@ impl Model for Space {
 impl Space {
     ghost use Rattle.std.specs.Prelude.{◌≡◌, ◌≢◌, ◌+◌, ◌<◌, ◌≤◌, ◌↔◌, IfOk, if◌then◌else◌, true, length, slice_get, slice_index, slice_set, Some, ℕ};
     ghost use Rattle.sg_words.specs.Address.{word_at};
-    ghost use Rattle.sg_space.specs.Sections.{words_end, IsLayout, IsInSection};
+    ghost use Rattle.sg_words.specs.Sections.{words_end, IsLayout, IsInSection};
     ghost use Rattle.sg_space.specs.Space.{Contents, AreShapes, IsContents, clear_space};
     ghost use Rattle.sg_words.specs.Pieces.{fronts_of, ends_of};
     ghost use Rattle.sg_space.specs.Standing.{IsSound, word};
@@ -63,7 +62,7 @@ impl Space {
     {
         let mut next = Vec::with_capacity(alloc, FRAGMENTS)?;
         let mut ends = Vec::with_capacity(alloc, FRAGMENTS)?;
-        next.push(8 * FIRST_WORD as u64)?;
+        next.push(8 * FIRST_WORD)?;
         ends.push(layout.old_base())?;
         Ok(Space {
             layout,
@@ -104,11 +103,11 @@ impl Space {
         ensures value { result ≡ word self.now (word_at a) }
         ensures contents { IsContents self.now }
     {
-        self.words[(a.get() / 8) as usize]
+        self.words[a.word() as usize]
     }
 
     /// The word with this number.
-    pub(crate) fn word(&self, number: u32) -> u64
+    pub(crate) fn word(&self, number: u64) -> u64
         requires { number < words_end self.now.layout }
         ensures { result ≡ word self.now number }
     {
@@ -120,7 +119,7 @@ impl Space {
         requires { IsInSection self.old.layout (word_at a) }
         ensures { self.new ≡ record self.old { words = slice_set self.old.words (word_at a) w } }
     {
-        self.words[(a.get() / 8) as usize] = w;
+        self.words[a.word() as usize] = w;
     }
 
     /// How many fragments there are, at most 2,048.

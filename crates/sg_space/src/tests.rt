@@ -1,6 +1,5 @@
 ghost use Rattle.sg_space.specs.Standing.{IsSound};
 
-use crate::layout::address;
 use crate::*;
 use sg_desc::{Descriptor, Shape};
 use sg_words::{Addr, List};
@@ -22,7 +21,7 @@ fn look(alloc: Global, space: &Space) -> Result<Found, AllocError>
         told: space.walk_nursery(alloc)?,
         last_byte: space.containing(4127),
         free_byte: space.containing(4160),
-        second: space.object_at(address(516)),
+        second: space.object_at(Addr::at_word(516)),
     })
 }
 
@@ -38,8 +37,8 @@ fn two_objects(rt: HostRuntime) -> Result<(), Fail> {
         fields: 2,
         kind: Descriptor::PtrFree,
     }];
-    let first = address(512);
-    let second = address(516);
+    let first = Addr::at_word(512);
+    let second = Addr::at_word(516);
     let mut space = Space::new(rt.alloc(), layout, shapes.as_slice())?;
     space.set_next(0, 4160);
     space.write(first.plus(1), 2);

@@ -1,13 +1,12 @@
 ghost use Rattle.std.specs.Prelude.{◌≡◌, ◌+◌, ◌<◌, ◌≤◌, IfOk, IfSome, MatchOption, Option, ℕ};
 ghost use Rattle.sg_words.specs.Address.{word_at};
-ghost use Rattle.sg_space.specs.Sections.{nursery_base, old_base, large_base};
+ghost use Rattle.sg_words.specs.Sections.{nursery_base, old_base, large_base};
 ghost use Rattle.sg_space.specs.Space.{IsContents};
 ghost use Rattle.sg_space.specs.Standing.{IsObject, IsSoundBy, IsSound, IsToldOf, TellsYoung, IsClearAt, IsFree, IsNoFront, TellsAt, HoldsWord, HasByte};
 
-use crate::layout::{FIRST_WORD, address};
 use crate::objects::Object;
 use crate::space::Space;
-use sg_words::{Addr, List};
+use sg_words::{Addr, FIRST_WORD, List, plain_class};
 use std::alloc::{AllocError, Global};
 
 impl Space {
@@ -23,7 +22,7 @@ impl Space {
             match self.object_from(x) {
                 None => x += 1,
                 Some(object) => {
-                    let words = object.words;
+                    let words = object.words as u64;
                     told.push(object)?;
                     x += words;
                 }
@@ -63,10 +62,9 @@ impl Space {
     {
         let layout = self.sections();
         let word = v / 8;
-        if word < FIRST_WORD as u64 || layout.large_word() as u64 <= word {
+        if word < FIRST_WORD || layout.large_word() <= word {
             return None;
         }
-        let word = word as u32;
         let from = if word < layout.old_word() {
             FIRST_WORD
         } else {
@@ -76,7 +74,7 @@ impl Space {
     }
 
     /// The standing object that has the word `word`; `None` exactly where none has it. The walk begins at the word `from`.
-    fn find(&self, from: u32, word: u32) -> Option<Object>
+    fn find(&self, from: u64, word: u64) -> Option<Object>
         requires sound { IsSound self.now }
         requires contents { IsContents self.now }
         requires from { nursery_base ≤ from }
@@ -90,10 +88,11 @@ impl Space {
             match self.object_from(x) {
                 None => x += 1,
                 Some(object) => {
-                    if word - x < object.words {
+                    let words = object.words as u64;
+                    if word - x < words {
                         return Some(object);
                     }
-                    x += object.words;
+                    x += words;
                 }
             }
         }
@@ -101,7 +100,7 @@ impl Space {
     }
 
     /// The standing object that begins at the word `x`; `None` where no object has that word.
-    fn object_from(&self, x: u32) -> Option<Object>
+    fn object_from(&self, x: u64) -> Option<Object>
         requires sound { IsSound self.now }
         requires contents { IsContents self.now }
         requires clear { IsClearAt self.now x }
@@ -120,14 +119,14 @@ impl Space {
     }
 
     /// The object whose first word is `x`.
-    fn read_object(&self, x: u32) -> Object
+    fn read_object(&self, x: u64) -> Object
         requires contents { IsContents self.now }
         requires object { IsObject self.now x }
         ensures { IsToldOf self.now x result }
     {
         let fields = self.word(x + 1) as u32;
         Object {
-            at: address(x),
+            at: Addr::at_word(x),
             class: (self.word(x) / 8 - 1) as u16,
             fields,
             words: fields + 2,

@@ -2,7 +2,7 @@
 ghost use Rattle.std.specs.Prelude.{◌≡◌, ◌+◌, ◌++◌, codes, IfOk, IfErr};
 ghost use Rattle.std.specs.Fmt.{decimal};
 ghost use Rattle.std.specs.List.{flat_map};
-ghost use Rattle.sg_graph.specs.Trace.{space, line_feed, answer_text, answer_line, answer_lines, request_text, leave_line, part_text, end_line, epoch_text, pin_line, move_line, fail_line, piece_line, minor_text, pause_text, service_line, stop_text};
+ghost use Rattle.sg_trace.specs.Trace.{space, line_feed, answer_text, answer_line, answer_lines, request_text, leave_line, part_text, end_line, epoch_text, pin_line, move_line, fail_line, piece_line, minor_text, pause_text, service_line, stop_text};
 
 use itoa::Buffer;
 use sg_graph::{Answer, EpochReport, Leave, MinorReport, Part, Request, Service, StopReport};

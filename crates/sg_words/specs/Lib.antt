@@ -3,3 +3,6 @@ pub mod Tags
 pub mod Words
 pub mod Events
 pub mod Pieces
+pub mod Lists
+pub mod Reach
+pub mod Sections

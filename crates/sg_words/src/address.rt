@@ -1,5 +1,5 @@
-ghost use Rattle.std.specs.Prelude.{◌≡◌, ◌+◌, ◌*◌, ◌^◌, ◌<◌, SomeIff};
-ghost use Rattle.sg_words.specs.Address.{IsAddress};
+ghost use Rattle.std.specs.Prelude.{◌≡◌, ◌+◌, ◌*◌, ◌^◌, ◌<◌, ◌≤◌, SomeIff};
+ghost use Rattle.sg_words.specs.Address.{IsAddress, byte_at, word_at};
 
 use std::marker::Model;
 
@@ -34,12 +34,31 @@ impl Addr {
         }
     }
 
+    /// The address of the word with this number, which is from 512 up and below 2^37. It tests nothing.
+    pub fn at_word(word: u64) -> Addr
+        requires above { 512 ≤ word }
+        requires below { word < 2 ^ 37 }
+        ensures { result ≡ byte_at word }
+    {
+        Addr { bytes: 8 * word }
+    }
+
     /// The byte address as a number.
     pub fn get(self) -> u64
         ensures value { result ≡ self }
         ensures address { IsAddress self }
     {
         self.bytes
+    }
+
+    /// The number of the word: the byte address divided by 8.
+    pub fn word(self) -> u64
+        ensures value { result ≡ word_at self }
+        ensures whole { byte_at result ≡ self }
+        ensures above { 512 ≤ result }
+        ensures below { result < 2 ^ 37 }
+    {
+        self.bytes / 8
     }
 
     /// The address that lies `words` words above this one.

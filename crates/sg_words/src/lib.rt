@@ -5,6 +5,7 @@
 #![tactic(auto)]
 
 mod address;
+mod layout;
 mod lists;
 mod masks;
 mod pieces;
@@ -12,11 +13,12 @@ mod steps;
 mod tags;
 
 pub use address::Addr;
+pub use layout::{BLOCK_WORDS, FIRST_WORD, GLOBALS, LINKS, Layout, PAGE_WORDS, READY_ENTRIES};
 pub use lists::List;
 pub use masks::first_clear;
 pub use pieces::{Move, Piece};
-pub use steps::{Place, Step, Tick};
-pub use tags::{Tag, read_tag, write_tag};
+pub use steps::{BlockStep, BlockWord, Place, Step, Tick};
+pub use tags::{Tag, forwarded_to, pinned_class, plain_class, read_tag, write_tag};
 
 #[cfg(test)]
 mod tests {

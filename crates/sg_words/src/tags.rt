@@ -1,5 +1,5 @@
 ghost use Rattle.std.specs.Prelude.{◌≡◌, ◌/◌, ◌-◌, ◌<◌, ◌≤◌, SomeIff};
-ghost use Rattle.sg_words.specs.Tags.{plain_word, tag_word, IsTag, Reads};
+ghost use Rattle.sg_words.specs.Tags.{plain_word, pinned_word, forward_word, tag_word, IsTag, ReadsTag, ReadsClass, ReadsForward};
 
 use crate::address::Addr;
 
@@ -18,7 +18,7 @@ pub enum Tag {
 
 /// The tag whose word this is; `None` exactly where it is no tag's word.
 pub fn read_tag(word: u64) -> Option<Tag>
-    ensures { Reads result word }
+    ensures { ReadsTag result word }
 {
     match word % 8 {
         0 => Some(Tag::Plain {
@@ -34,6 +34,31 @@ pub fn read_tag(word: u64) -> Option<Tag>
             class: class_in(word)?,
         }),
         _ => None,
+    }
+}
+
+/// The class of the object whose first word this is, where it is a plain tag; `None` exactly where it is none.
+pub fn plain_class(word: u64) -> Option<u16>
+    ensures { ReadsClass plain_word result word }
+{
+    if word % 8 == 0 { class_in(word) } else { None }
+}
+
+/// The class of the object whose first word this is, where it is the tag of a pinned one; `None` exactly where it is none.
+pub fn pinned_class(word: u64) -> Option<u16>
+    ensures { ReadsClass pinned_word result word }
+{
+    if word % 8 == 2 { class_in(word) } else { None }
+}
+
+/// Where the object was copied whose first word this is; `None` exactly where it is no forwarding word.
+pub fn forwarded_to(word: u64) -> Option<Addr>
+    ensures { ReadsForward result word }
+{
+    if word % 8 == 1 {
+        Addr::of(word - 1)
+    } else {
+        None
     }
 }
 

@@ -1,5 +1,5 @@
 use Rattle.std.proofs.Common.{arith, subst}
-use Rattle.sg_graph.specs.Kinds.{first_kinds, Leads, Misuses}
+use Rattle.sg_program.specs.Kinds.{first_kinds, Leads, Misuses}
 use Rattle.sg_kinds.specs.Table.{kinds_of}
 use Rattle.sg_kinds.proofs.Scripts.{is_there, few, has_operands, not_all, fine_up_to, all_fine}
 use Rattle.sg_kinds.proofs.check.Goals as goal

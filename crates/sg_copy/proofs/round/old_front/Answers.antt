@@ -1,6 +1,6 @@
 use Rattle.std.proofs.Common.{◌≡◌, ℕ, ◌+◌, ◌<◌, arith, sym, ap, ◌∙◌, subst}
 use Rattle.sg_words.specs.Address.{byte_at, word_at}
-use Rattle.sg_space.specs.Sections.{large_base}
+use Rattle.sg_words.specs.Sections.{large_base}
 use Rattle.sg_space.specs.Standing.{word}
 use Rattle.sg_copy.specs.Area.{size_of}
 use Rattle.sg_copy.specs.Copying.{IsFilled}

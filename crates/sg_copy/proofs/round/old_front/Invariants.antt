@@ -1,6 +1,6 @@
 use Rattle.std.proofs.Common.{◌≡◌, ◌-◌, ◌≤◌, ℕ}
 use Rattle.sg_words.specs.Address.{byte_at, word_at}
-use Rattle.sg_space.specs.Sections.{old_base, large_base}
+use Rattle.sg_words.specs.Sections.{old_base, large_base}
 use Rattle.sg_copy.specs.Copying.{IsFilled}
 use Rattle.sg_copy.proofs.round.old_front.Given as goal
 

@@ -1,7 +1,7 @@
 use Rattle.std.proofs.Common.{◌≡◌, ◌<◌, ◌+◌, ◌*◌, length, sym, ◌∙◌, subst, arith, rules}
-use Rattle.sg_graph.specs.declared.program.Item.{out-Item}
-use Rattle.sg_graph.specs.declared.program.Item.TheOpen.{Repeat}
-use Rattle.sg_graph.specs.Limits.{HasOperands}
+use Rattle.sg_program.specs.declared.program.Item.{out-Item}
+use Rattle.sg_program.specs.declared.program.Item.TheOpen.{Repeat}
+use Rattle.sg_program.specs.Invariants.{HasOperands}
 use Rattle.sg_kinds.proofs.Walks.{opened_repeat, body_length, repeat_all}
 use Rattle.sg_kinds.proofs.Depths.{depth, depths, body_below, item_below}
 use Rattle.sg_kinds.proofs.tests.+counted.Goals as goal

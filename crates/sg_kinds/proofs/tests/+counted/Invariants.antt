@@ -1,7 +1,7 @@
 use Rattle.std.proofs.Common.{◌≡◌, ◌+◌, ◌*◌, ◌≤◌, length, take}
 use Rattle.std.specs.List.{AllByRecursion}
-use Rattle.sg_graph.specs.Scripts.{written}
-use Rattle.sg_graph.specs.Limits.{HasOperands}
+use Rattle.sg_program.specs.Scripts.{written}
+use Rattle.sg_program.specs.Invariants.{HasOperands}
 use Rattle.sg_kinds.proofs.Depths.{depth, depths}
 use Rattle.sg_kinds.proofs.tests.+counted.Given as goal
 

@@ -1,11 +1,11 @@
 use Rattle.std.proofs.Common.{◌≡◌, ℕ, ◌<◌, ◌≤◌, ◌+◌, ◌*◌, [], ◌∷◌, length, take, sym, refl, ◌∙◌, subst, arith, rules}
 use Rattle.std.proofs.lemmas.Bool.{false≢true}
 use Rattle.std.specs.List.{AllByRecursion}
-use Rattle.sg_graph.specs.declared.program.Item.{out-Item}
-use Rattle.sg_graph.specs.declared.program.Item.TheOpen.{Repeat}
-use Rattle.sg_graph.specs.Scripts.{written}
-use Rattle.sg_graph.specs.Limits.{HasOperands}
-use Rattle.sg_graph.specs.Kinds.{Done, Misuses, Here, Inside}
+use Rattle.sg_program.specs.declared.program.Item.{out-Item}
+use Rattle.sg_program.specs.declared.program.Item.TheOpen.{Repeat}
+use Rattle.sg_program.specs.Scripts.{written}
+use Rattle.sg_program.specs.Invariants.{HasOperands}
+use Rattle.sg_program.specs.Kinds.{Done, Misuses, Here, Inside}
 use Rattle.sg_kinds.specs.Table.{kinds_of}
 use Rattle.sg_kinds.proofs.Walks.{opened_one, opened_repeat, body_length, body_all, statement_all, one_length, does, repeats, has_some, ends, further, further_length, found, within, item_all, item_length}
 use Rattle.sg_kinds.proofs.Depths.{depth, depths, body_below, item_below}

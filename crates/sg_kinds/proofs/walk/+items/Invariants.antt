@@ -1,6 +1,6 @@
 use Rattle.std.proofs.Common.{◌≡◌, ◌+◌, ◌*◌, length, take}
-use Rattle.sg_graph.specs.Scripts.{written}
-use Rattle.sg_graph.specs.Kinds.{Leads}
+use Rattle.sg_program.specs.Scripts.{written}
+use Rattle.sg_program.specs.Kinds.{Leads}
 use Rattle.sg_kinds.specs.Table.{kinds_of}
 use Rattle.sg_kinds.proofs.Depths.{depth, depths}
 use Rattle.sg_kinds.proofs.walk.+items.Given as goal

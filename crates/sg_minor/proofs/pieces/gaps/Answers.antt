@@ -1,5 +1,5 @@
 use Rattle.std.proofs.Common.{◌≡◌, ◌+◌, ◌-◌, ◌/◌, ◌%◌, arith}
-use Rattle.sg_space.specs.Sections.{old_base}
+use Rattle.sg_words.specs.Sections.{old_base}
 use Rattle.sg_minor.specs.Pieces.{IsGrown, first_word, word_behind}
 use Rattle.sg_minor.proofs.Walk.{IsMet, walked_more, walked_all, walked_to, regrown}
 use Rattle.sg_minor.proofs.pieces.gaps.Goals as goal

@@ -1,7 +1,7 @@
 use Rattle.std.proofs.Common.{◌≡◌, ◌+◌, inl, inr, sym, ap, ◌∙◌, arith}
 use Rattle.std.proofs.lemmas.Bool.{cases_eq}
 use Rattle.sg_words.specs.Address.{word_at}
-use Rattle.sg_space.specs.Sections.{globals_base}
+use Rattle.sg_words.specs.Sections.{globals_base}
 use Rattle.sg_space.specs.Standing.{word}
 use Rattle.sg_copy.specs.Copying.{area_of}
 use Rattle.sg_minor.specs.Parts.{IsGlobal}

@@ -1,6 +1,6 @@
 use Rattle.std.proofs.Common.{◌≡◌, ◌≢◌, ℕ, ◌+◌, ◌*◌, ◌<◌, ◌≤◌, map, sym, subst, ap, ◌∙◌, arith}
 use Rattle.sg_words.specs.Address.{byte_at, word_at}
-use Rattle.sg_space.specs.Sections.{old_base, large_base}
+use Rattle.sg_words.specs.Sections.{old_base, large_base}
 use Rattle.sg_space.specs.Standing.{word}
 use Rattle.sg_copy.proofs.Handled.{moved_front, moved_word}
 use Rattle.sg_minor.proofs.OldSlots.{IsBorder, IsSeeded, met_class, met_few, met_inside, met_next, met_end, met_zero, met_last, met_first}

@@ -1,10 +1,10 @@
 use Rattle.std.proofs.Common.{◌≡◌, ◌-◌, map}
 use Rattle.sg_words.specs.Address.{byte_at, word_at}
-use Rattle.sg_graph.specs.declared.program.Program.{Program}
+use Rattle.sg_program.specs.declared.program.Program.{Program}
 use Rattle.sg_graph.specs.Graph.{Graph}
 use Rattle.sg_graph.specs.Book.{Book}
-use Rattle.sg_space.specs.Sections.{large_base}
-use Rattle.sg_space.specs.Heap.{HoldsHeap}
+use Rattle.sg_words.specs.Sections.{large_base}
+use Rattle.sg_minor.specs.Holding.{HoldsHeap}
 use Rattle.sg_minor.proofs.OldSlots.{IsSeeded}
 use Rattle.sg_minor.proofs.seeds.add_old.Given as goal
 

@@ -2,7 +2,7 @@ use Rattle.std.proofs.Common.{◌≡◌, ℕ, ◌<◌, List, length, map, slice_
 use Rattle.sg_parse.specs.declared.line.Line.{Line}
 use Rattle.sg_parse.specs.Words.{lines_of}
 use Rattle.sg_parse.specs.Text.{IsWhole}
-use Rattle.sg_graph.specs.declared.program.Program.{Program}
+use Rattle.sg_program.specs.declared.program.Program.{Program}
 use Rattle.sg_parse.specs.declared.refusal.Which.{Which}
 use Rattle.sg_parse.specs.declared.names.Names.{Names}
 use Rattle.sg_parse.specs.declared.names.Named.{Named}

@@ -1,8 +1,8 @@
 use Rattle.std.proofs.Common.{◌≡◌, ◌+◌, ◌≤◌, length, map, get_or, Some, None, vec_len, rules, refl, sym, ap, ◌∙◌, subst, arith}
 use Rattle.std.proofs.lemmas.List.{length-map}
-use Rattle.sg_graph.specs.declared.program.Item.{out-Item, Repeat as repeat_item}
-use Rattle.sg_graph.specs.declared.program.Item.TheOpen.{Repeat}
-use Rattle.sg_graph.specs.declared.program.Item.TheViews.{the_lemmas}
+use Rattle.sg_program.specs.declared.program.Item.{out-Item, Repeat as repeat_item}
+use Rattle.sg_program.specs.declared.program.Item.TheOpen.{Repeat}
+use Rattle.sg_program.specs.declared.program.Item.TheViews.{the_lemmas}
 use Rattle.sg_parse.specs.declared.scripts.Body.{Body}
 use Rattle.sg_parse.specs.declared.line.Line.TheVariants.{Head}
 use Rattle.sg_parse.specs.Names.{classes_of}

@@ -1,8 +1,8 @@
 use Rattle.std.proofs.Common.{List, ◌-◌, ◌≤◌, length}
 use Rattle.std.specs.Io.KnownBytes.{Appends}
-use Rattle.sg_graph.specs.Scripts.{script_of}
+use Rattle.sg_program.specs.Scripts.{script_of}
 use Rattle.sg_graph.specs.Run.{Phase}
-use Rattle.sg_graph.specs.Trace.{text}
+use Rattle.sg_trace.specs.Trace.{text}
 use Rattle.sg_run.specs.Worlds.{IsBetween}
 use Rattle.sg_run.proofs.execution.execute.Given as goal
 

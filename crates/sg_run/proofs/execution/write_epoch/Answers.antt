@@ -1,6 +1,6 @@
 use Rattle.std.proofs.Common.{rules, List, ℕ, ◌≡◌, subst}
 use Rattle.sg_io.specs.Progress.{TakesSome}
-use Rattle.sg_graph.specs.Trace.{epoch_text}
+use Rattle.sg_trace.specs.Trace.{epoch_text}
 use Rattle.sg_run.proofs.Texts.{breaks_between, breaks_epoch}
 use Rattle.sg_run.proofs.execution.write_epoch.Goals as goal
 

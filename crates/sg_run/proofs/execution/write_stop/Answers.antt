@@ -1,6 +1,6 @@
 use Rattle.std.proofs.Common.{rules, List, ℕ, ◌≡◌, subst}
 use Rattle.sg_io.specs.Progress.{TakesSome}
-use Rattle.sg_graph.specs.Trace.{stop_text}
+use Rattle.sg_trace.specs.Trace.{stop_text}
 use Rattle.sg_run.proofs.Texts.{breaks_at_stop, breaks_stop}
 use Rattle.sg_run.proofs.execution.write_stop.Goals as goal
 

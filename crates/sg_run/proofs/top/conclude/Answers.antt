@@ -3,7 +3,7 @@ use Rattle.std.specs.Io.KnownBytes.{Appends}
 use Rattle.std.specs.Prelude.{IfSome, string_bytes}
 use Rattle.sg_run.specs.Command.{IsRunCommand}
 use Rattle.sg_graph.specs.Run.{Phase, IsWholeRun}
-use Rattle.sg_graph.specs.Trace.{text}
+use Rattle.sg_trace.specs.Trace.{text}
 use Rattle.sg_parse.specs.Accepted.{IsAcceptedAs}
 use Rattle.sg_run.proofs.Fronts.{took_nothing, empty_run, no_front, writes_run, accepted_else}
 use Rattle.sg_run.proofs.top.conclude.Goals as goal

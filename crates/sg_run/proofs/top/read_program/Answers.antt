@@ -1,7 +1,7 @@
 use Rattle.std.specs.Prelude.{Result, Ok, Err, IfErr, IfSome, Option}
 use Rattle.std.proofs.Common.{List, ℕ, sym, subst}
 use Rattle.sg_parse.specs.Accepted.{IsAccepted}
-use Rattle.sg_graph.specs.declared.program.Program.{Program}
+use Rattle.sg_program.specs.declared.program.Program.{Program}
 use Rattle.sg_run.specs.declared.refusal.Cause.{Cause}
 use Rattle.sg_run.specs.Input.{ServesFor}
 use Rattle.sg_run.proofs.Refused.{none_served}

@@ -1,5 +1,5 @@
 use Rattle.std.proofs.Common.{◌≡◌, map, take}
-use Rattle.sg_graph.specs.declared.program.Class.{Class}
+use Rattle.sg_program.specs.declared.program.Class.{Class}
 use Rattle.sg_run.proofs.world.shapes_of.Given as goal
 
 -- the shapes of the classes so far

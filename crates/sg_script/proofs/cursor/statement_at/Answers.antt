@@ -1,6 +1,6 @@
 use Rattle.std.proofs.Common.{ap, ◌∙◌}
-use Rattle.sg_graph.specs.declared.program.Item.{out-Item}
-use Rattle.sg_graph.specs.declared.program.Item.TheVariants.{outs-Repeat, outs-One}
+use Rattle.sg_program.specs.declared.program.Item.{out-Item}
+use Rattle.sg_program.specs.declared.program.Item.TheVariants.{outs-Repeat, outs-One}
 use Rattle.sg_script.proofs.Frames.{last_item, at_one, no_repeat}
 use Rattle.sg_script.proofs.cursor.statement_at.Goals as goal
 

@@ -1,8 +1,8 @@
 use Rattle.std.proofs.Common.{◌≡◌, ◌+◌, ◌*◌, List, ◌++◌, length, inr, sym, ap, ◌∙◌, subst}
-use Rattle.sg_graph.specs.declared.program.Item.{Item, out-Item}
-use Rattle.sg_graph.specs.declared.program.Item.TheOpen.{Repeat}
-use Rattle.sg_graph.specs.declared.program.Item.TheVariants.{outs-Repeat, outs-One}
-use Rattle.sg_graph.specs.Scripts.{repeated, written_out}
+use Rattle.sg_program.specs.declared.program.Item.{Item, out-Item}
+use Rattle.sg_program.specs.declared.program.Item.TheOpen.{Repeat}
+use Rattle.sg_program.specs.declared.program.Item.TheVariants.{outs-Repeat, outs-One}
+use Rattle.sg_program.specs.Scripts.{repeated, written_out}
 use Rattle.sg_script.specs.Left.{left, Fits, items_cost, cost}
 use Rattle.sg_script.proofs.Frames.{ok_then, at_there, outer_nested, body_fits, again_left, again_cost, pass_nested, repeat_fits, repeat_left, repeat_cost}
 use Rattle.sg_script.proofs.cursor.step.Goals as goal

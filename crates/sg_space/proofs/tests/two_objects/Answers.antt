@@ -1,6 +1,6 @@
 use Rattle.std.proofs.Common.{subst, refl, arith}
 use Rattle.sg_desc.specs.declared.shapes.Descriptor.TheVariants.{PtrFree}
-use Rattle.sg_space.specs.Sections.{IsLayout}
+use Rattle.sg_words.specs.Sections.{IsLayout}
 use Rattle.sg_space.specs.Space.{Contents, AreShapes}
 use Rattle.sg_space.proofs.Pair.{pair_is_sound}
 use Rattle.sg_space.proofs.tests.two_objects.Goals as goal

@@ -1,5 +1,5 @@
 use Rattle.std.proofs.Common.{◌≡◌, ◌+◌, ◌++◌, drop}
-use Rattle.sg_graph.specs.Trace.{answer_lines}
+use Rattle.sg_trace.specs.Trace.{answer_lines}
 use Rattle.sg_trace.proofs.trace.append_answers.Given as goal
 
 -- what is written and the lines to come make up the whole

@@ -1,6 +1,6 @@
 use Rattle.std.proofs.Common.{◌≡◌, ◌++◌, take}
 use Rattle.std.specs.List.{flat_map}
-use Rattle.sg_graph.specs.Trace.{move_line}
+use Rattle.sg_trace.specs.Trace.{move_line}
 use Rattle.sg_trace.proofs.trace.append_moves.Given as goal
 
 -- the lines so far have been written

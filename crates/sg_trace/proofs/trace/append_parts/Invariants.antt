@@ -1,6 +1,6 @@
 use Rattle.std.proofs.Common.{◌≡◌, ◌++◌, take}
 use Rattle.std.specs.List.{flat_map}
-use Rattle.sg_graph.specs.Trace.{part_text}
+use Rattle.sg_trace.specs.Trace.{part_text}
 use Rattle.sg_trace.proofs.trace.append_parts.Given as goal
 
 -- the parts so far have been written

@@ -1,5 +1,5 @@
 use Rattle.std.proofs.Common.{◌≡◌}
-use Rattle.sg_order.specs.Rules.{taken}
+use Rattle.sg_rules.specs.Rules.{taken}
 use Rattle.sg_space.specs.Space.{words_of}
 use Rattle.sg_actor.specs.Views.{layout_of, actor_of}
 use Rattle.sg_actor.proofs.Steps.{went_claims}

@@ -1,6 +1,6 @@
 use Rattle.std.proofs.Common.{[]}
-use Rattle.sg_graph.specs.declared.program.Statement.TheVariants.{Drop}
-use Rattle.sg_order.specs.Rules.Comes.{drop_clears}
+use Rattle.sg_program.specs.declared.program.Statement.TheVariants.{Drop}
+use Rattle.sg_rules.specs.Rules.Comes.{drop_clears}
 use Rattle.sg_actor.specs.Views.{actor_of}
 use Rattle.sg_actor.proofs.Steps.{went_at_once}
 use Rattle.sg_actor.proofs.mutator.Mutator.clear.Goals as goal

@@ -1,9 +1,9 @@
 use Rattle.std.proofs.Common.{[], ◌∙◌, ap}
 use Rattle.sg_words.specs.Words.{put}
-use Rattle.sg_graph.specs.declared.program.Statement.TheVariants.{Move}
-use Rattle.sg_graph.specs.declared.reports.Answer.TheVariants.{Fine}
-use Rattle.sg_order.specs.Rules.{over_with}
-use Rattle.sg_order.specs.Rules.Comes.{move_sets}
+use Rattle.sg_program.specs.declared.program.Statement.TheVariants.{Move}
+use Rattle.sg_program.specs.declared.answers.Answer.TheVariants.{Fine}
+use Rattle.sg_rules.specs.Rules.{over_with}
+use Rattle.sg_rules.specs.Rules.Comes.{move_sets}
 use Rattle.sg_actor.specs.Views.{actor_of}
 use Rattle.sg_actor.proofs.Steps.{went_at_once}
 use Rattle.sg_actor.proofs.mutator.Mutator.copy.Goals as goal

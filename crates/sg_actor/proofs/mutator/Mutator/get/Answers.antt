@@ -1,9 +1,9 @@
 use Rattle.std.proofs.Common.{[], refl, ap, ◌∙◌}
 use Rattle.sg_words.specs.Words.{put}
-use Rattle.sg_graph.specs.declared.program.Statement.TheVariants.{Get}
+use Rattle.sg_program.specs.declared.program.Statement.TheVariants.{Get}
 use Rattle.sg_desc.specs.Shapes.{Reference}
-use Rattle.sg_graph.specs.Statements.{Test}
-use Rattle.sg_order.specs.Rules.{over}
+use Rattle.sg_program.specs.Tests.{Test}
+use Rattle.sg_rules.specs.Rules.{over}
 use Rattle.sg_space.specs.Space.{words_of}
 use Rattle.sg_actor.specs.Views.{layout_of, actor_of}
 use Rattle.sg_actor.proofs.Steps.{went_null, went_misses, went_finds, went_get}

@@ -1,7 +1,7 @@
 use Rattle.std.proofs.Common.{[], refl}
-use Rattle.sg_graph.specs.declared.program.Statement.TheVariants.{GetD}
+use Rattle.sg_program.specs.declared.program.Statement.TheVariants.{GetD}
 use Rattle.sg_desc.specs.Shapes.{Plain}
-use Rattle.sg_graph.specs.Statements.{Test}
+use Rattle.sg_program.specs.Tests.{Test}
 use Rattle.sg_space.specs.Space.{words_of}
 use Rattle.sg_actor.specs.Views.{layout_of, actor_of}
 use Rattle.sg_actor.proofs.Steps.{went_null, went_misses, went_finds, went_getd}

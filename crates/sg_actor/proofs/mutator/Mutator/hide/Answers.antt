@@ -1,10 +1,10 @@
 use Rattle.std.proofs.Common.{◌≡◌, ◌+◌, ◌/◌, ◌≢◌, [], sym, ◌∙◌, ap, arith}
 use Rattle.sg_words.specs.Words.{put}
-use Rattle.sg_graph.specs.declared.program.Statement.TheVariants.{Hide}
-use Rattle.sg_graph.specs.declared.reports.Answer.TheVariants.{Fine}
+use Rattle.sg_program.specs.declared.program.Statement.TheVariants.{Hide}
+use Rattle.sg_program.specs.declared.answers.Answer.TheVariants.{Fine}
 use Rattle.sg_space.specs.Space.{words_of}
-use Rattle.sg_order.specs.Rules.{over_with, object_in}
-use Rattle.sg_order.specs.Rules.Comes.{hide_null}
+use Rattle.sg_rules.specs.Rules.{over_with, object_in}
+use Rattle.sg_rules.specs.Rules.Comes.{hide_null}
 use Rattle.sg_actor.specs.Views.{actor_of, layout_of}
 use Rattle.sg_actor.proofs.Steps.{went_at_once, went_fits, went_past}
 use Rattle.sg_actor.proofs.mutator.Mutator.hide.Goals as goal

@@ -1,10 +1,10 @@
 use Rattle.std.proofs.Common.{◌≡◌, ◌+◌, ◌∙◌, ap, sym, subst, rules}
 use Rattle.sg_words.specs.Words.{put}
 use Rattle.sg_words.specs.Address.{byte_at}
-use Rattle.sg_graph.specs.Scripts.{made_words}
-use Rattle.sg_graph.specs.declared.reports.Answer.TheVariants.{At}
+use Rattle.sg_program.specs.Scripts.{made_words}
+use Rattle.sg_program.specs.declared.answers.Answer.TheVariants.{At}
 use Rattle.sg_space.specs.Space.{words_of}
-use Rattle.sg_order.specs.Rules.{over}
+use Rattle.sg_rules.specs.Rules.{over}
 use Rattle.sg_actor.specs.Views.{layout_of, actor_of, IsRequestOf}
 use Rattle.sg_actor.proofs.Steps.{went_then, went_to, went_leaves, needs}
 use Rattle.sg_actor.proofs.mutator.Mutator.make.Goals as goal

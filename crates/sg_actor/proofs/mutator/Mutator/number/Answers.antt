@@ -1,6 +1,6 @@
 use Rattle.std.proofs.Common.{[]}
-use Rattle.sg_graph.specs.declared.program.Statement.TheVariants.{Num}
-use Rattle.sg_order.specs.Rules.Comes.{num_sets}
+use Rattle.sg_program.specs.declared.program.Statement.TheVariants.{Num}
+use Rattle.sg_rules.specs.Rules.Comes.{num_sets}
 use Rattle.sg_actor.specs.Views.{actor_of}
 use Rattle.sg_actor.proofs.Steps.{went_at_once}
 use Rattle.sg_actor.proofs.mutator.Mutator.number.Goals as goal

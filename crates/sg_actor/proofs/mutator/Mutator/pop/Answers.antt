@@ -1,6 +1,6 @@
 use Rattle.std.proofs.Common.{[], map, reverse, ◌∙◌, ap}
-use Rattle.sg_graph.specs.declared.program.Statement.TheVariants.{Pop}
-use Rattle.sg_order.specs.Rules.Comes.{pop_sets}
+use Rattle.sg_program.specs.declared.program.Statement.TheVariants.{Pop}
+use Rattle.sg_rules.specs.Rules.Comes.{pop_sets}
 use Rattle.sg_actor.specs.Views.{actor_of, slot_of}
 use Rattle.sg_actor.proofs.Steps.{went_at_once, put_on_top}
 use Rattle.sg_actor.proofs.mutator.Mutator.pop.Goals as goal

@@ -1,8 +1,8 @@
 use Rattle.std.proofs.Common.{◌≡◌, ◌∷◌, [], ◌++◌, map, reverse, ◌∙◌, ap, rules}
-use Rattle.sg_graph.specs.declared.program.Statement.TheVariants.{Push}
-use Rattle.sg_graph.specs.declared.reports.Answer.TheVariants.{Fine}
-use Rattle.sg_order.specs.Rules.{over_with}
-use Rattle.sg_order.specs.Rules.Comes.{push_sets}
+use Rattle.sg_program.specs.declared.program.Statement.TheVariants.{Push}
+use Rattle.sg_program.specs.declared.answers.Answer.TheVariants.{Fine}
+use Rattle.sg_rules.specs.Rules.{over_with}
+use Rattle.sg_rules.specs.Rules.Comes.{push_sets}
 use Rattle.sg_actor.specs.declared.mutator.Held.{Held}
 use Rattle.sg_actor.specs.Views.{actor_of, slot_of}
 use Rattle.sg_actor.proofs.Steps.{went_at_once, put_on_top}

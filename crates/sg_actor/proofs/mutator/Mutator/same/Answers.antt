@@ -1,7 +1,7 @@
 use Rattle.std.proofs.Common.{[], ◌∙◌, ap}
-use Rattle.sg_graph.specs.declared.program.Statement.TheVariants.{Same}
-use Rattle.sg_order.specs.Rules.{over}
-use Rattle.sg_order.specs.Rules.Comes.{same_tells}
+use Rattle.sg_program.specs.declared.program.Statement.TheVariants.{Same}
+use Rattle.sg_rules.specs.Rules.{over}
+use Rattle.sg_rules.specs.Rules.Comes.{same_tells}
 use Rattle.sg_actor.specs.Views.{actor_of}
 use Rattle.sg_actor.proofs.Steps.{went_at_once, same_words, other_words}
 use Rattle.sg_actor.proofs.mutator.Mutator.same.Goals as goal

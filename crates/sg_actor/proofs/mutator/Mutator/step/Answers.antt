@@ -1,8 +1,8 @@
 use Rattle.std.proofs.Common.{◌≡◌, ◌∙◌, false, ◌∷◌, ap, sym, subst, rules}
-use Rattle.sg_graph.specs.declared.program.Statement.TheVariants.{Collect}
-use Rattle.sg_graph.specs.declared.reports.Request.TheVariants.{Minor}
+use Rattle.sg_program.specs.declared.program.Statement.TheVariants.{Collect}
+use Rattle.sg_program.specs.declared.answers.Request.TheVariants.{Minor}
 use Rattle.sg_space.specs.Space.{words_of}
-use Rattle.sg_order.specs.Rules.{within, Left, Went}
+use Rattle.sg_rules.specs.Rules.{within, Left, Went}
 use Rattle.sg_actor.specs.Views.{layout_of, actor_of, IsRequestOf}
 use Rattle.sg_actor.proofs.Steps.{went_minor, went_leaves}
 use Rattle.sg_actor.proofs.mutator.Mutator.step.Goals as goal

@@ -1,5 +1,5 @@
 use Rattle.std.proofs.Common.{[], ap, ◌∙◌}
-use Rattle.sg_order.specs.Rules.{Actor, over}
+use Rattle.sg_rules.specs.Rules.{Actor, over}
 use Rattle.sg_actor.proofs.mutator.Mutator.tell.Goals as goal
 
 pub returns-clause-told : goal.returns-clause-told

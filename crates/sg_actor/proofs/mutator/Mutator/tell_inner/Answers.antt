@@ -1,6 +1,6 @@
 use Rattle.std.proofs.Common.{[], ap, ◌∙◌}
 use Rattle.sg_words.specs.Words.{put}
-use Rattle.sg_order.specs.Rules.{Actor, over}
+use Rattle.sg_rules.specs.Rules.{Actor, over}
 use Rattle.sg_actor.proofs.mutator.Mutator.tell_inner.Goals as goal
 
 pub returns-clause-told : goal.returns-clause-told

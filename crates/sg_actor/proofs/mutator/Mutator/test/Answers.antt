@@ -1,6 +1,6 @@
 use Rattle.std.proofs.Common.{◌≢◌, sym, subst, ◌∙◌, arith}
 use Rattle.sg_words.specs.Address.{word_at}
-use Rattle.sg_space.specs.Sections.{words_end}
+use Rattle.sg_words.specs.Sections.{words_end}
 use Rattle.sg_space.specs.Space.{words_of}
 use Rattle.sg_actor.specs.Views.{class_at, IsObject}
 use Rattle.sg_actor.proofs.Steps.{not_no_tag, not_forwarded, not_pinned, not_cemented}

@@ -1,8 +1,8 @@
 use Rattle.std.proofs.Common.{◌≡◌, [], ◌-◌, ◌∙◌, ap}
 use Rattle.sg_words.specs.Words.{put}
-use Rattle.sg_graph.specs.declared.program.Statement.TheVariants.{Unhide}
-use Rattle.sg_order.specs.Rules.{over, reference_answer, unhidden}
-use Rattle.sg_order.specs.Rules.Comes.{unhide_sets}
+use Rattle.sg_program.specs.declared.program.Statement.TheVariants.{Unhide}
+use Rattle.sg_rules.specs.Rules.{over, reference_answer, unhidden}
+use Rattle.sg_rules.specs.Rules.Comes.{unhide_sets}
 use Rattle.sg_actor.specs.Views.{actor_of}
 use Rattle.sg_actor.proofs.Steps.{went_at_once, unhidden_none, unhidden_some}
 use Rattle.sg_actor.proofs.mutator.Mutator.unhide.Goals as goal

@@ -1,6 +1,6 @@
 use Rattle.std.proofs.Common.{◌≡◌, ℕ, ◌+◌, ◌<◌, length, slice_set, arith, sym, refl, ap, ◌∙◌}
 use Rattle.sg_words.specs.Address.{byte_at, word_at}
-use Rattle.sg_space.specs.Sections.{large_base}
+use Rattle.sg_words.specs.Sections.{large_base}
 use Rattle.sg_space.specs.Standing.{word}
 use Rattle.sg_copy.proofs.Handled.{fails_handled, copies_handled, no_room, has_room, one_up}
 use Rattle.sg_copy.proofs.copier.Copier.keep.Goals as goal

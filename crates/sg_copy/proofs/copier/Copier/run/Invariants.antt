@@ -1,6 +1,6 @@
 use Rattle.std.proofs.Common.{◌≡◌, ◌≤◌, ◌+◌, ◌-◌, ◌*◌, map, drop, length}
 use Rattle.sg_words.specs.Address.{byte_at, word_at}
-use Rattle.sg_graph.specs.Reach.{AreDistinct}
+use Rattle.sg_words.specs.Reach.{AreDistinct}
 use Rattle.sg_space.specs.Standing.{word}
 use Rattle.sg_copy.specs.Round.{Round, IsGoing}
 use Rattle.sg_copy.specs.Copying.{area_of, IsStill, IsFront, moved_to}

@@ -1,5 +1,5 @@
 use Rattle.std.proofs.Common.{sym, subst, IsTrue, nat_lt}
-use Rattle.sg_graph.specs.Kinds.{Needs}
+use Rattle.sg_program.specs.Kinds.{Needs}
 use Rattle.sg_kinds.specs.Table.{kinds_of}
 use Rattle.sg_kinds.proofs.Tables.{has_room}
 use Rattle.sg_kinds.proofs.table.Table.meets.Goals as goal

@@ -1,5 +1,5 @@
 use Rattle.std.proofs.Common.{List, length, ◌<◌, slice_index_or, ap, arith}
-use Rattle.sg_graph.specs.Kinds.{Kind}
+use Rattle.sg_program.specs.Kinds.{Kind}
 use Rattle.sg_kinds.specs.declared.table.Kind.TheVariants.{Ref}
 use Rattle.sg_kinds.specs.Table.{kinds_of}
 use Rattle.sg_kinds.proofs.Tables.{stack_pushed, stack_length}

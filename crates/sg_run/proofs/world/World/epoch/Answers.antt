@@ -1,5 +1,5 @@
 use Rattle.std.proofs.Common.{ℕ, Bool, List, [], ◌∷◌, ◌≡◌, ap, refl, ◌∙◌, rules, arith}
-use Rattle.sg_graph.specs.declared.reports.Answer.{Answer}
+use Rattle.sg_program.specs.declared.answers.Answer.{Answer}
 use Rattle.sg_graph.specs.declared.reports.Part.{Part}
 use Rattle.sg_run.proofs.Classes.{few_statements}
 use Rattle.sg_run.proofs.Epochs.{report_of}

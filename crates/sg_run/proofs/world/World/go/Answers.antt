@@ -1,7 +1,7 @@
 use Rattle.std.proofs.Common.{◌≡◌, ◌+◌, [], ◌∷◌, sym, ◌∙◌, subst, arith}
 use Rattle.sg_space.specs.Space.{words_of}
 use Rattle.sg_run.specs.declared.world.World.{World}
-use Rattle.sg_order.specs.Rules.{Went}
+use Rattle.sg_rules.specs.Rules.{Went}
 use Rattle.sg_actor.specs.Views.{layout_of, actor_of}
 use Rattle.sg_run.specs.Worlds.{rest_of}
 use Rattle.sg_run.proofs.Rounds.{contents_now, then_goes, can_step, can_serve, next_place, at_end, keeps_then}

@@ -1,7 +1,7 @@
 use Rattle.std.proofs.Common.{◌≡◌, ◌+◌, ◌-◌, ◌≤◌, length, vec_len, vec_capacity}
-use Rattle.sg_graph.specs.Scripts.{script_of}
+use Rattle.sg_program.specs.Scripts.{script_of}
 use Rattle.sg_space.specs.Space.{words_of, IsContents}
-use Rattle.sg_order.specs.Rules.{Went}
+use Rattle.sg_rules.specs.Rules.{Went}
 use Rattle.sg_actor.specs.Views.{layout_of, actor_of, KeepsSpace}
 use Rattle.sg_run.specs.Worlds.{rest_of}
 use Rattle.sg_run.proofs.world.World.go.Given as goal

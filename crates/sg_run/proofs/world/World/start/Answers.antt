@@ -1,7 +1,7 @@
-use Rattle.sg_graph.specs.declared.program.Class.{Class}
+use Rattle.sg_program.specs.declared.program.Class.{Class}
 use Rattle.std.proofs.Common.{map, ap, sym, refl, ◌∙◌, subst}
 use Rattle.sg_space.specs.Space.{AreShapes, clear_space}
-use Rattle.sg_space.specs.declared.layout.Layout.{Layout}
+use Rattle.sg_words.specs.declared.layout.Layout.{Layout}
 use Rattle.sg_actor.specs.Views.{IsFresh}
 use Rattle.sg_run.proofs.Classes.{accepted_shapes, total_is}
 use Rattle.sg_run.proofs.Rounds.{begins, script_is}

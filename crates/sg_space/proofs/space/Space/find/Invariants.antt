@@ -1,6 +1,6 @@
 -- No object below the word that the walk reached ends above it, and the object with the word that is looked for is ahead.
 use Rattle.std.proofs.Common.{◌+◌, ◌-◌, ◌≤◌}
-use Rattle.sg_space.specs.Sections.{nursery_base}
+use Rattle.sg_words.specs.Sections.{nursery_base}
 use Rattle.sg_space.specs.Standing.{IsClearAt}
 use Rattle.sg_space.proofs.Reached.{IsAhead}
 use Rattle.sg_space.proofs.space.Space.find.Given as goal

@@ -1,5 +1,5 @@
 use Rattle.std.proofs.Common.{◌≡◌, ◌+◌, ◌<◌, ◌≤◌, ap, sym, ◌∙◌, subst, arith}
-use Rattle.sg_space.specs.Sections.{old_base}
+use Rattle.sg_words.specs.Sections.{old_base}
 use Rattle.sg_space.specs.Standing.{TellsYoung}
 use Rattle.sg_space.proofs.Reached.{clear_skip, clear_step}
 use Rattle.sg_space.proofs.Told.{HasTold, told_skip, told_push, told_all}

@@ -1,6 +1,6 @@
 -- What was told is exactly what begins in the nursery below the word that the walk reached, and ends there.
 use Rattle.std.proofs.Common.{◌-◌, ◌≤◌}
-use Rattle.sg_space.specs.Sections.{nursery_base}
+use Rattle.sg_words.specs.Sections.{nursery_base}
 use Rattle.sg_space.specs.Standing.{IsClearAt}
 use Rattle.sg_space.proofs.Told.{HasTold}
 use Rattle.sg_space.proofs.space.Space.walk_nursery.Given as goal

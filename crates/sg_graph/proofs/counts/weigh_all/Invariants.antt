@@ -1,6 +1,0 @@
-use Rattle.std.proofs.Common.{◌≡◌, take}
-use Rattle.sg_graph.specs.Counts.{capped, weight_of_all}
-use Rattle.sg_graph.proofs.counts.weigh_all.Given as goal
-
-abbrev pub invariant-loop-item : goal.invariant-loop-item
-invariant-loop-item l = l.sum ≡ capped (weight_of_all l.finals (take l.item-index l.items))

@@ -1,0 +1,23 @@
+-- A space that holds a graph of named objects, by the book of their addresses.
+use Rattle.std.specs.Prelude.{◌≡◌, ℕ, ◌<◌, map, length, slice_index}
+use Rattle.sg_words.specs.Address.{byte_at}
+use Rattle.sg_program.specs.declared.program.Class.{Class}
+use Rattle.sg_program.specs.declared.program.Program.{Program}
+use Rattle.sg_graph.specs.Graph.{Graph}
+use Rattle.sg_graph.specs.Book.{Book}
+use Rattle.sg_graph.specs.Heap.{Owner, IsHeap, layout_of}
+use Rattle.sg_space.specs.Space.{Contents}
+use Rattle.sg_space.specs.Standing.{word}
+
+-- the space has the program's sections and classes, and the book's fragments
+pub record IsSpaceOf (p : Program) (s : Contents) (b : Book) : Type 0 where
+  pub layout : s.layout ≡ layout_of p
+  pub shapes : s.shapes ≡ map (λ (class : Class). class.shape) p.classes
+  pub fragments : b.fragments ≡ length s.ends
+  pub same : length s.next ≡ length s.ends
+  pub next : (f : ℕ) → f < b.fragments → slice_index s.next f ≡ byte_at (b.next f)
+  pub limit : (f : ℕ) → f < b.fragments → slice_index s.ends f ≡ byte_at (b.limit f)
+
+-- the space holds the graph by the book
+abbrev pub HoldsHeap : Program → Contents → Graph → Book → Type 0
+HoldsHeap p s g b = IsSpaceOf p s b × ((owner : ℕ → Owner) × IsHeap p (word s) g b owner)

@@ -1,0 +1,13 @@
+//! Programs: settings, classes, statements and scripts, and what a statement answers or asks for.
+//!
+//! What a script does with its repeats written out, the limits that a program keeps to and the kinds of its operands stand
+//! in `specs/`.
+#![tactic(auto)]
+
+mod answers;
+mod counts;
+mod program;
+
+pub use answers::{Answer, Request};
+pub use counts::{script_finals, script_total, total};
+pub use program::{Class, Config, Item, Name, Program, Script, Statement};

@@ -1,0 +1,9 @@
+-- Facts of lists.
+use Rattle.std.specs.Prelude.{List, [], ◌∷◌}
+
+-- the fact holds of the two lists, one pair after another
+abbrev pub Pairwise : {A B : Type 0} → (A → B → Type 0) → List A → List B → Type 0
+Pairwise R [] [] = Unit {0}
+Pairwise R [] (y ∷ ys) = ⊥
+Pairwise R (x ∷ xs) [] = ⊥
+Pairwise R (x ∷ xs) (y ∷ ys) = R x y × Pairwise R xs ys
