@@ -5,10 +5,10 @@ use Rattle.sg_words.specs.Words.{Words}
 use Rattle.sg_program.specs.declared.program.Program.{Program}
 use Rattle.sg_graph.specs.Book.{nursery_end}
 use Rattle.sg_words.specs.Sections.{nursery_base}
-use Rattle.sg_rules.specs.Rules.{Layout}
+use Rattle.sg_rules.specs.Rules.{Constants}
 
 -- the whole nursery is one fragment
-pub record IsFirstLayout (p : Program) (lay : Layout) : Type 0 where
+pub record IsFirstLayout (p : Program) (lay : Constants) : Type 0 where
   pub fragments : lay.fragments ≡ 1
   pub limit : lay.limit 0 ≡ nursery_end p
 

@@ -1,5 +1,5 @@
 -- How the mutators and the words stand to the graph and the book between two epochs.
-use Rattle.std.specs.Prelude.{◌≡◌, ◌≢◌, ℕ, ◌<◌, ◌≤◌, ◌⊎◌, true, false, List, [], ◌∷◌, map}
+use Rattle.std.specs.Prelude.{◌≡◌, ◌≢◌, ℕ, ◌<◌, ◌≤◌, ◌⊎◌, true, List, [], ◌∷◌, map}
 use Rattle.std.specs.List.{AllByRecursion}
 use Rattle.sg_words.specs.Address.{byte_at}
 use Rattle.sg_words.specs.Words.{Words}
@@ -13,7 +13,7 @@ use Rattle.sg_graph.specs.Book.{Book, word_of}
 use Rattle.sg_words.specs.Lists.{Pairwise}
 use Rattle.sg_graph.specs.Invariants.{IsPlain}
 use Rattle.sg_graph.specs.Heap.{Owner, IsHeap}
-use Rattle.sg_rules.specs.Rules.{Layout, Slot, Actor, Mid, Idle, Left}
+use Rattle.sg_rules.specs.Rules.{Constants, Slot, Actor, Mid, Idle, Left}
 
 abbrev pub kind_of_entry : Entry → Kind
 kind_of_entry (Ref n) = IsRef
@@ -43,19 +43,20 @@ pub record IsRunnable (p : Program) (s : Statement) : Type 0 where
   pub small : made_fields p s ≤ 62
 
 -- mutator k between two statements, with these before it: its registers and its stack hold what the graph says, and what they
--- refer to stands; its buffer is the book's; the kinds of its operands are right, and its statements are run now
+-- refer to stands; it has ended only where no statement is left; its buffer is the book's; the kinds of its operands are right,
+-- and its statements are run now
 pub record IsReady (p : Program) (g : Graph) (b : Book) (k : ℕ) (a : Actor) (script : List Statement) : Type 0 where
   pub regs : (r : ℕ) → Holds g b (a.reg r) (a.offset r) ((g.mutator k).register r)
   pub stack : Pairwise (λ (slot : Slot) (entry : Entry). Holds g b slot.word slot.offset entry) a.stack (g.mutator k).stack
   pub script_is : (g.mutator k).script ≡ script
-  pub awake : (g.mutator k).ended ≡ false
+  pub asleep : (g.mutator k).ended ≡ true → script ≡ []
   pub from_is : a.from ≡ b.from k
   pub to_is : a.to ≡ b.to k
   pub kinds : FindKinds (kinds_in (g.mutator k)) script
   pub runnable : AllByRecursion (IsRunnable p) script
 
 -- the words hold the graph, and the fragments are the book's
-pub record IsHeld (p : Program) (lay : Layout) (w : Words) (g : Graph) (b : Book) : Type 0 where
+pub record IsHeld (p : Program) (lay : Constants) (w : Words) (g : Graph) (b : Book) : Type 0 where
   pub owner : ℕ → Owner
   pub heap : IsHeap p w.word g b owner
   pub plain : IsPlain p g
@@ -64,7 +65,7 @@ pub record IsHeld (p : Program) (lay : Layout) (w : Words) (g : Graph) (b : Book
   pub nexts : (f : ℕ) → f < b.fragments → w.next f ≡ byte_at (b.next f)
 
 -- how an epoch opens: no mutator has an answer in it yet
-pub record IsEpochOpening (p : Program) (lay : Layout) (w : Words) (g : Graph) (b : Book) (actors : ℕ → Actor) : Type 0 where
+pub record IsEpochOpening (p : Program) (lay : Constants) (w : Words) (g : Graph) (b : Book) (actors : ℕ → Actor) : Type 0 where
   pub held : IsHeld p lay w g b
   pub ready : (k : ℕ) → IsReady p g b k (actors k) (actors k).script
   pub idle : (k : ℕ) → (actors k).mid ≡ Idle
