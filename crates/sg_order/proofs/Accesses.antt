@@ -21,7 +21,7 @@ use Rattle.sg_words.specs.Sections.{globals_base}
 use Rattle.sg_graph.specs.Heap.{Owner, IsKnown, IsKnownEntry, IsOfSort, layout_of}
 use Rattle.sg_rules.specs.Rules.{Constants, Access, Actor, within, over, reference_answer, object_in}
 use Rattle.sg_order.specs.Rest.{kind_of_entry}
-use Rattle.sg_order.specs.Rest.{Stands as StandsAt}
+use Rattle.sg_order.specs.Rest.{StandsAt}
 use Rattle.sg_words.proofs.Puts.{put-at, put-other, put-all, put-along}
 use Rattle.sg_order.proofs.Frame.{entry_later}
 use Rattle.sg_order.proofs.Relation.{Ground, Tested, Stands, Later, Kept}

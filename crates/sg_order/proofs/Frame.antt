@@ -15,11 +15,11 @@ use Rattle.sg_graph.specs.Graph.{Entry, Ref, Int, Inner, Mutator, Graph}
 use Rattle.sg_program.specs.Tests.{Test}
 use Rattle.sg_graph.specs.Book.{Book, word_of}
 use Rattle.sg_graph.specs.Epoch.{by_address}
-use Rattle.sg_rules.specs.Rules.{Constants, Slot, Mid, Idle, TestTag, TestLength, Access, Look, Claim, StoreLength, StoreTag, HideLength, Ask, Left, Actor}
+use Rattle.sg_rules.specs.Rules.{Constants, StackWord, Mid, Idle, TestTag, TestLength, Access, Look, Claim, StoreLength, StoreTag, HideLength, Ask, Left, Actor}
 use Rattle.sg_order.specs.Rest.{kinds_in, IsRunnable}
-use Rattle.sg_order.specs.Rest.{Stands as StandsAt}
+use Rattle.sg_order.specs.Rest.{StandsAt}
 use Rattle.sg_graph.specs.Heap.{IsKnown, IsKnownEntry}
-use Rattle.sg_order.proofs.Relation.{IsGiven, AreGiven, IsMutator, Tight, IsAsked, Tested, Placed, AtMid, Keeps, Stacked, Stands, Later}
+use Rattle.sg_order.proofs.Relation.{IsGiven, AreGiven, IsMutator, Tight, AsksForRoom, Tested, Placed, AtMid, Keeps, Stacked, Stands, Later}
 
 address_later : (b c : Book) (answer : Answer) → IsGiven b.stands answer → ((n : ℕ) → b.stands n ≡ true → c.address n ≡ b.address n) → by_address c answer ≡ by_address b answer
 address_later b c (At n) g e = ap (λ x. At (byte_at x)) (e n g)
@@ -98,7 +98,7 @@ keeps_later w g b v h c known stands address size word offset entry q = record {
 
 pub stack_later : (w : Words) (g : Graph) (b : Book) (v : Words) (h : Graph) (c : Book) → ((n : ℕ) → IsKnown w.word g b n → IsKnown v.word h c n) → ((n : ℕ) → b.stands n ≡ true → c.stands n ≡ true) →
     ((n : ℕ) → b.stands n ≡ true → c.address n ≡ b.address n) → ((n : ℕ) → b.stands n ≡ true → h.size n ≡ g.size n) →
-    (slots : List Slot) (entries : List Entry) → Stacked w.word g b slots entries → Stacked v.word h c slots entries
+    (slots : List StackWord) (entries : List Entry) → Stacked w.word g b slots entries → Stacked v.word h c slots entries
 stack_later w g b v h c known stands address size [] [] q = tt
 stack_later w g b v h c known stands address size [] (y ∷ ys) q = absurd q
 stack_later w g b v h c known stands address size (x ∷ xs) [] q = absurd q
@@ -155,7 +155,7 @@ module _ (p : Program) (lay : Constants) (w : Words) (g : Graph) (b : Book) (sai
     ahead = moved _ _ _ m.ahead;
   }
 
-  asked : (s : Statement) → IsAsked p lay b j s → IsAsked p lay c j s
+  asked : (s : Statement) → AsksForRoom p lay b j s → AsksForRoom p lay c j s
   asked (New r class) t = tight (made_words p (New r class)) lay.fragments t
   asked (NewV r class count) t = tight (made_words p (NewV r class count)) lay.fragments t
   asked (Mature r class) t = absurd t

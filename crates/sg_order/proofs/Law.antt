@@ -17,15 +17,15 @@ use Rattle.sg_words.specs.Sections.{nursery_base}
 use Rattle.sg_graph.specs.Epoch.{Said, Explains, answers_of, by_address}
 use Rattle.sg_words.specs.Lists.{Pairwise}
 use Rattle.sg_graph.specs.Heap.{Owner, Of, Frag, Nobody, IsKnownEntry, IsHeap}
-use Rattle.sg_rules.specs.Rules.{Constants, Slot, Mid, Left, Actor, fresh, Went}
+use Rattle.sg_rules.specs.Rules.{Constants, StackWord, Mid, Left, Actor, fresh, Went}
 use Rattle.sg_order.specs.Rest.{Holds, IsReady, IsHeld, IsEpochOpening, IsRunnable, before_it, IsOver, kinds_in}
-use Rattle.sg_order.specs.Rest.{Stands as StandsAt}
-use Rattle.sg_order.specs.Opening.{IsFirstLayout, IsOpening}
+use Rattle.sg_order.specs.Rest.{StandsAt}
+use Rattle.sg_order.specs.Opening.{AreFirstConstants, AreFirstWords}
 use Rattle.sg_order.specs.OneOrder.{OneOrder}
 use Rattle.sg_words.proofs.Puts.{put-same, within_range, range-in, range-below}
 use Rattle.sg_order.proofs.Events.{range-was, ticks-own}
 use Rattle.sg_order.proofs.Cases.{by_making}
-use Rattle.sg_order.proofs.Relation.{Ground, IsMutator, Tight, IsAsked, AtMid, Stacked, Stands, IsHeading, World}
+use Rattle.sg_order.proofs.Relation.{Ground, IsMutator, Tight, AsksForRoom, AtMid, Stacked, Stands, IsHeading, World}
 use Rattle.sg_order.proofs.Loads.{same_object}
 use Rattle.sg_order.proofs.Whole.{one_by_one, by_one_mutator}
 
@@ -75,7 +75,7 @@ at_opening p lay w g b actors o = record {
       elim (cases_eq n 0) [ inl z ↦ inl z | inr some ↦ inr (o.held.heap.headed n (omega arith) q.0) ],
     )
 
-    stacked : (slots : List Slot) (entries : List Entry) → Pairwise (λ (slot : Slot) (entry : Entry). Holds g b slot.word slot.offset entry) slots entries → Stacked w.word g b slots entries
+    stacked : (slots : List StackWord) (entries : List Entry) → Pairwise (λ (slot : StackWord) (entry : Entry). Holds g b slot.word slot.offset entry) slots entries → Stacked w.word g b slots entries
     stacked [] [] q = tt
     stacked [] (y ∷ ys) q = absurd q
     stacked (x ∷ xs) [] q = absurd q
@@ -115,7 +115,7 @@ at_rest p lay w g b said k a s over = go a.mid over s.at
     ]
 
 -- the places of a stack hold what they keep
-held_stack : (w : ℕ → ℕ) (g : Graph) (b : Book) (slots : List Slot) (entries : List Entry) → Stacked w g b slots entries → Pairwise (λ (slot : Slot) (entry : Entry). Holds g b slot.word slot.offset entry) slots entries
+held_stack : (w : ℕ → ℕ) (g : Graph) (b : Book) (slots : List StackWord) (entries : List Entry) → Stacked w g b slots entries → Pairwise (λ (slot : StackWord) (entry : Entry). Holds g b slot.word slot.offset entry) slots entries
 held_stack w g b [] [] q = tt
 held_stack w g b [] (y ∷ ys) q = absurd q
 held_stack w g b (x ∷ xs) [] q = absurd q
@@ -140,8 +140,8 @@ ready_at_rest p lay w g b said k a s over =
     }
 
 -- who asks for a new object is short of room
-asked_tight : (p : Program) (lay : Constants) (b : Book) (k : ℕ) (s : Statement) → IsMaking s → IsAsked p lay b k s → Tight b k (made_words p s) lay.fragments
-asked_tight p lay b k s making = by_making (λ s. IsAsked p lay b k s → Tight b k (made_words p s) lay.fragments) (λ r class t. t) (λ r class count t. t) s making
+asked_tight : (p : Program) (lay : Constants) (b : Book) (k : ℕ) (s : Statement) → IsMaking s → AsksForRoom p lay b k s → Tight b k (made_words p s) lay.fragments
+asked_tight p lay b k s making = by_making (λ s. AsksForRoom p lay b k s → Tight b k (made_words p s) lay.fragments) (λ r class t. t) (λ r class count t. t) s making
 
 -- who left with a new object has no place for it
 pub no_place : (p : Program) (lay : Constants) (w : Words) (g : Graph) (b : Book) (said : ℕ → List Answer) (owner : ℕ → Owner) → Ground p lay w g b owner → (k : ℕ) (a : Actor) (st : Stands p lay w g b said k a) (s : Statement) →
@@ -202,7 +202,7 @@ is_one_order p lay w g b es actors last opening legal follows =
 first_owner : Program → ℕ → Owner
 first_owner p = within_range (within_range (λ _. Nobody) 0 2 (Of 0)) nursery_base (nursery_end p) (Frag 0)
 
-module _ (p : Program) (lay : Constants) (w : Words) (kinds : (k : ℕ) → FindKinds first_kinds (script_of p k)) (runnable : (k : ℕ) → AllByRecursion (IsRunnable p) (script_of p k)) (first : IsFirstLayout p lay) (opening : IsOpening w) where
+module _ (p : Program) (lay : Constants) (w : Words) (kinds : (k : ℕ) → FindKinds first_kinds (script_of p k)) (runnable : (k : ℕ) → AllByRecursion (IsRunnable p) (script_of p k)) (first : AreFirstConstants p lay) (opening : AreFirstWords w) where
   nil : (n : ℕ) → (n == 0) ≡ true → n ≡ 0
   nil n q = eqb-true n 0 q
 

@@ -20,9 +20,9 @@ use Rattle.sg_graph.specs.Heap.{Owner, IsKnown, IsKnownEntry}
 use Rattle.sg_words.specs.declared.steps.Place.TheVariants.{Stop}
 use Rattle.sg_rules.specs.Rules.{Constants, Mid, Idle, TestTag, TestLength, Access, Look, Claim, Ask, Left, Actor, before, within, over, cleared, object_in, looking}
 use Rattle.sg_order.specs.Rest.{kind_of_entry}
-use Rattle.sg_order.specs.Rest.{Stands as StandsAt}
+use Rattle.sg_order.specs.Rest.{StandsAt}
 use Rattle.sg_words.proofs.Puts.{put-all, put-along}
-use Rattle.sg_order.proofs.Relation.{Ground, IsMutator, Tight, IsAsked, AtMid, Stands, Later, Kept}
+use Rattle.sg_order.proofs.Relation.{Ground, IsMutator, Tight, AsksForRoom, AtMid, Stands, Later, Kept}
 use Rattle.sg_order.proofs.Cases.{by_test, by_making}
 use Rattle.sg_order.proofs.Moves.{kinds_of, offsets_put, unchanged, still, no_heads, again, fits_as, decided}
 
@@ -92,8 +92,8 @@ books_field : (p : Program) (b : Book) (k : ℕ) (s : Statement) (test : Test) �
 books_field p b k s test e = by_test (λ s. Books p b k s Field b) (λ r i s. refl) (λ d r i. refl) (λ r i s. refl) (λ d r i. refl) s test e
 
 -- who finds no room asks
-to_ask : (p : Program) (lay : Constants) (b : Book) (k : ℕ) (s : Statement) → IsMaking s → Tight b k (made_words p s) lay.fragments → IsAsked p lay b k s
-to_ask p lay b k s e = by_making (λ s. Tight b k (made_words p s) lay.fragments → IsAsked p lay b k s) (λ r class t. t) (λ r class count t. t) s e
+to_ask : (p : Program) (lay : Constants) (b : Book) (k : ℕ) (s : Statement) → IsMaking s → Tight b k (made_words p s) lay.fragments → AsksForRoom p lay b k s
+to_ask p lay b k s e = by_making (λ s. Tight b k (made_words p s) lay.fragments → AsksForRoom p lay b k s) (λ r class t. t) (λ r class count t. t) s e
 
 module _ (p : Program) (lay : Constants) (w : Words) (g : Graph) (b : Book) (said : ℕ → List Answer) (k : ℕ) (owner : ℕ → Owner) (t : Ground p lay w g b owner) where
   -- two standing objects that share a word are one

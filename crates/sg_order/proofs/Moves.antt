@@ -14,9 +14,9 @@ use Rattle.sg_graph.specs.Book.{Book, Books, word_of}
 use Rattle.sg_graph.specs.Epoch.{by_address}
 use Rattle.sg_graph.specs.Invariants.{IsPlain}
 use Rattle.sg_graph.specs.Heap.{Owner, IsKnownEntry, IsLaid}
-use Rattle.sg_rules.specs.Rules.{Constants, Slot, Mid, Idle, Actor, within, over, over_with}
+use Rattle.sg_rules.specs.Rules.{Constants, StackWord, Mid, Idle, Actor, within, over, over_with}
 use Rattle.sg_order.specs.Rest.{kind_of_entry, kinds_in, IsRunnable}
-use Rattle.sg_order.specs.Rest.{Stands as StandsAt}
+use Rattle.sg_order.specs.Rest.{StandsAt}
 use Rattle.sg_words.proofs.Puts.{put-same, put-other, put-all}
 use Rattle.sg_order.proofs.Frame.{answers_push, given_push, stack_later}
 use Rattle.sg_order.proofs.Relation.{Ground, IsGiven, IsMutator, AtMid, Stacked, Stands, Later, IsHeading, Heads, Kept}
@@ -179,14 +179,14 @@ module _ (p : Program) (lay : Constants) (w : Words) (g : Graph) (b : Book) (sai
       }
 
   -- the stack of the graph's mutator after the statement
-  pub stack_after : (v : Words) (h : Graph) (c : Book) (rest : List Statement) (register : ℕ → Entry) (slots : List Slot) (stack : List Entry) → Stacked v.word h c slots stack →
+  pub stack_after : (v : Words) (h : Graph) (c : Book) (rest : List Statement) (register : ℕ → Entry) (slots : List StackWord) (stack : List Entry) → Stacked v.word h c slots stack →
       Stacked v.word (handed_with h k rest register stack) c slots ((handed_with h k rest register stack).mutator k).stack
   stack_after v h c rest register slots stack q =
       subst (λ (m : Mutator). Stacked v.word (handed_with h k rest register stack) c slots m.stack) (sym (put-same h.mutator k (record (h.mutator k) { register = register; stack = stack; script = rest })))
       (stack_later v h c v (handed_with h k rest register stack) c (λ n q. q) (λ n q. q) (λ n q. refl) (λ n q. refl) slots stack q)
 
   -- the stack that no statement touched
-  pub stack_kept : (v : Words) (h : Graph) (c : Book) → Change p lay w g b said k v h c → (slots : List Slot) → Stacked w.word g b slots (g.mutator k).stack → Stacked v.word h c slots (h.mutator k).stack
+  pub stack_kept : (v : Words) (h : Graph) (c : Book) → Change p lay w g b said k v h c → (slots : List StackWord) → Stacked w.word g b slots (g.mutator k).stack → Stacked v.word h c slots (h.mutator k).stack
   stack_kept v h c ch slots q =
       subst (λ (m : ℕ → Mutator). Stacked v.word h c slots (m k).stack) (sym ch.mutators)
       (stack_later w g b v h c ch.later.known ch.later.stands ch.later.address ch.later.size slots (g.mutator k).stack q)
@@ -226,7 +226,7 @@ module _ (p : Program) (lay : Constants) (w : Words) (g : Graph) (b : Book) (sai
 
   -- a deciding step with which the statement ends
   pub decided_with : (mid : Mid) → ((x : ℕ) → IsHeading x mid → ⊥) → (v : Words) (h : Graph) → Change p lay w g b said k v h b → (a : Actor) (s : Statement) (rest : List Statement) (st : Stands p lay w g b said k a)
-      (register : ℕ → Entry) (stack : List Entry) (answer : Answer) (areg aoffset : ℕ → ℕ) (slots : List Slot) (word : Answer) →
+      (register : ℕ → Entry) (stack : List Entry) (answer : Answer) (areg aoffset : ℕ → ℕ) (slots : List StackWord) (word : Answer) →
       IsMutator g said k st.entry (s ∷ rest) st.answers →
       Does p g k (record (g.mutator k) { register = st.entry; script = s ∷ rest }) s rest answer (handed_with h k rest register stack) →
       Books p b k s answer b →

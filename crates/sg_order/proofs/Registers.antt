@@ -14,23 +14,23 @@ use Rattle.sg_graph.specs.Graph.{Entry, Ref, Inner, Graph, advanced}
 use Rattle.sg_graph.specs.Statements.{popped, setting, name_in}
 use Rattle.sg_graph.specs.Book.{Book, word_of}
 use Rattle.sg_graph.specs.Heap.{Owner, IsKnown, IsKnownEntry}
-use Rattle.sg_rules.specs.Rules.{Constants, Slot, Idle, HideLength, Actor, before, within, over, over_with, reference_answer, object_in, hides_none, unhidden}
+use Rattle.sg_rules.specs.Rules.{Constants, StackWord, Idle, HideLength, Actor, before, within, over, over_with, reference_answer, object_in, hides_none, unhidden}
 use Rattle.sg_order.specs.Rest.{kind_of_entry}
-use Rattle.sg_order.specs.Rest.{Stands as StandsAt}
+use Rattle.sg_order.specs.Rest.{StandsAt}
 use Rattle.sg_words.proofs.Puts.{put-along}
 use Rattle.sg_order.proofs.Relation.{Ground, Keeps, Stacked, Stands, Kept}
 use Rattle.sg_order.proofs.Moves.{kinds_of, offsets_put, offsets_both, unchanged, still, again, decided, decided_with}
 use Rattle.sg_order.proofs.Loads.{is_ref, is_inner, same_object, name_nil, known_nil, length_says, reg_at, object_at, known_at, is_nil, not_nil, known_put, needs_now}
 
 -- the entry under the top of the stack
-pub record Topped (w : ℕ → ℕ) (g : Graph) (b : Book) (top : Slot) (slots : List Slot) (entries : List Entry) : Type 0 where
+pub record Topped (w : ℕ → ℕ) (g : Graph) (b : Book) (top : StackWord) (slots : List StackWord) (entries : List Entry) : Type 0 where
   pub entry : Entry
   pub rest : List Entry
   pub is : entries ≡ entry ∷ rest
   pub keeps : Keeps w g b top.word top.offset entry
   pub under : Stacked w g b slots rest
 
-topped : (w : ℕ → ℕ) (g : Graph) (b : Book) (top : Slot) (slots : List Slot) (entries : List Entry) → Stacked w g b (top ∷ slots) entries → Topped w g b top slots entries
+topped : (w : ℕ → ℕ) (g : Graph) (b : Book) (top : StackWord) (slots : List StackWord) (entries : List Entry) → Stacked w g b (top ∷ slots) entries → Topped w g b top slots entries
 topped w g b top slots [] q = absurd q
 topped w g b top slots (x ∷ xs) q = record { entry = x; rest = xs; is = refl; keeps = q.0; under = q.1 }
 
@@ -76,7 +76,7 @@ module _ (p : Program) (lay : Constants) (w : Words) (g : Graph) (b : Book) (sai
         st.regs st.known st.offsets (record { holds = record { word_is = st.regs r; stands = st.offsets r }; known = st.known r }, st.stack) refl tt (λ q. refl) refl
 
     -- and back from it
-    pub takes_top : (r : ℕ) (top : Slot) (slots : List Slot) → a.stack ≡ top ∷ slots → Stands p lay w g b said k (before a (Pop r) rest) →
+    pub takes_top : (r : ℕ) (top : StackWord) (slots : List StackWord) → a.stack ≡ top ∷ slots → Stands p lay w g b said k (before a (Pop r) rest) →
         Kept p lay w g b said k Idle true w (over_with a rest (put a.reg r top.word) (put a.offset r top.offset) slots Fine)
     takes_top r top slots e st =
         let x = topped w.word g b top slots (g.mutator k).stack (subst (λ s. Stacked w.word g b s (g.mutator k).stack) e st.stack) in

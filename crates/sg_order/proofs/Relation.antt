@@ -18,9 +18,9 @@ use Rattle.sg_graph.specs.Epoch.{Turn, by_address}
 use Rattle.sg_words.specs.Lists.{Pairwise}
 use Rattle.sg_graph.specs.Invariants.{IsPlain}
 use Rattle.sg_graph.specs.Heap.{Owner, IsHeaded, IsKnown, IsKnownEntry, IsLaid}
-use Rattle.sg_rules.specs.Rules.{Constants, Slot, Mid, Idle, TestTag, TestLength, Access, Look, Claim, StoreLength, StoreTag, HideLength, Ask, Left, Actor}
+use Rattle.sg_rules.specs.Rules.{Constants, StackWord, Mid, Idle, TestTag, TestLength, Access, Look, Claim, StoreLength, StoreTag, HideLength, Ask, Left, Actor}
 use Rattle.sg_order.specs.Rest.{kinds_in, Holds, IsRunnable}
-use Rattle.sg_order.specs.Rest.{Stands as StandsAt}
+use Rattle.sg_order.specs.Rest.{StandsAt}
 
 -- what no mutator's private state enters into: the words hold the graph, and the fragments are the book's
 pub record Ground (p : Program) (lay : Constants) (w : Words) (g : Graph) (b : Book) (owner : ℕ → Owner) : Type 0 where
@@ -59,11 +59,11 @@ pub record Tight (b : Book) (k n f : ℕ) : Type 0 where
   pub below : (j : ℕ) → j < f → LacksRoom b n j
 
 -- a statement that asks: a new object, for which neither the buffer nor any fragment has room, or a collection
-abbrev pub IsAsked : Program → Constants → Book → ℕ → Statement → Type 0
-IsAsked p lay b k (New r class) = Tight b k (made_words p (New r class)) lay.fragments
-IsAsked p lay b k (NewV r class count) = Tight b k (made_words p (NewV r class count)) lay.fragments
-IsAsked p lay b k (Collect false) = Unit {0}
-IsAsked p lay b k s = ⊥
+abbrev pub AsksForRoom : Program → Constants → Book → ℕ → Statement → Type 0
+AsksForRoom p lay b k (New r class) = Tight b k (made_words p (New r class)) lay.fragments
+AsksForRoom p lay b k (NewV r class count) = Tight b k (made_words p (NewV r class count)) lay.fragments
+AsksForRoom p lay b k (Collect false) = Unit {0}
+AsksForRoom p lay b k s = ⊥
 
 -- the tested register holds the object with this name
 pub record Testing (entry : ℕ → Entry) (s : Statement) (test : Test) : Type 0 where
@@ -105,8 +105,8 @@ AtMid p lay w g b said k entry answers rest (StoreLength s x) = Placed p g b sai
 AtMid p lay w g b said k entry answers rest (StoreTag s x) = Placed p g b said k entry answers rest s x × (w.word (x + 1) ≡ made_fields p s)
 AtMid p lay w g b said k entry answers rest (HideLength d s offset) =
     (name : ℕ) × (entry s ≡ Ref name) × (name ≢ 0) × IsMutator g said k entry (Hide d s offset ∷ rest) answers
-AtMid p lay w g b said k entry answers rest (Ask s) = IsAsked p lay b k s × IsMutator g said k entry (s ∷ rest) answers
-AtMid p lay w g b said k entry answers rest (Left s) = IsAsked p lay b k s × IsMutator g said k entry (s ∷ rest) answers
+AtMid p lay w g b said k entry answers rest (Ask s) = AsksForRoom p lay b k s × IsMutator g said k entry (s ∷ rest) answers
+AtMid p lay w g b said k entry answers rest (Left s) = AsksForRoom p lay b k s × IsMutator g said k entry (s ∷ rest) answers
 
 -- the word and the offset are those of the entry, which is known
 pub record Keeps (w : ℕ → ℕ) (g : Graph) (b : Book) (word offset : ℕ) (entry : Entry) : Type 0 where
@@ -114,8 +114,8 @@ pub record Keeps (w : ℕ → ℕ) (g : Graph) (b : Book) (word offset : ℕ) (e
   pub known : IsKnownEntry w g b entry
 
 -- the places of a stack keep these entries
-abbrev pub Stacked : (ℕ → ℕ) → Graph → Book → List Slot → List Entry → Type 0
-Stacked w g b slots entries = Pairwise (λ (slot : Slot) (entry : Entry). Keeps w g b slot.word slot.offset entry) slots entries
+abbrev pub Stacked : (ℕ → ℕ) → Graph → Book → List StackWord → List Entry → Type 0
+Stacked w g b slots entries = Pairwise (λ (slot : StackWord) (entry : Entry). Keeps w g b slot.word slot.offset entry) slots entries
 
 pub record Stands (p : Program) (lay : Constants) (w : Words) (g : Graph) (b : Book) (said : ℕ → List Answer) (k : ℕ) (a : Actor) : Type 0 where
   pub entry : ℕ → Entry

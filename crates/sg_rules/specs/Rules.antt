@@ -45,7 +45,7 @@ pub data Mid : Type 0 where
   Left : (s : Statement) → Mid
 
 -- a place of the stack: its word, and the offset that stands beside it where the word is an address inside an object
-pub record Slot : Type 0 where
+pub record StackWord : Type 0 where
   pub word : ℕ
   pub offset : ℕ
 
@@ -54,7 +54,7 @@ pub record Slot : Type 0 where
 pub record Actor : Type 0 where
   pub reg : ℕ → ℕ
   pub offset : ℕ → ℕ
-  pub stack : List Slot
+  pub stack : List StackWord
   pub from : ℕ
   pub to : ℕ
   pub script : List Statement
@@ -78,7 +78,7 @@ abbrev pub over : Actor → List Statement → (ℕ → ℕ) → Answer → Acto
 over a rest reg answer = record a { reg = reg; script = rest; told = a.told ++ answer ∷ []; mid = Idle }
 
 -- the same, with these offsets beside the registers and this stack
-abbrev pub over_with : Actor → List Statement → (ℕ → ℕ) → (ℕ → ℕ) → List Slot → Answer → Actor
+abbrev pub over_with : Actor → List Statement → (ℕ → ℕ) → (ℕ → ℕ) → List StackWord → Answer → Actor
 over_with a rest reg offset stack answer = record a { reg = reg; offset = offset; stack = stack; script = rest; told = a.told ++ answer ∷ []; mid = Idle }
 
 -- the mutator has this buffer
@@ -146,7 +146,7 @@ pub data Comes (p : Program) (lay : Constants) : Actor → Step → Bool → Act
       Comes p lay (before a (Move d s) rest) (Load Stop 0) true (over_with a rest (put a.reg d (a.reg s)) (put a.offset d (a.offset s)) a.stack Fine)
   push_sets : (a : Actor) (rest : List Statement) (r : ℕ) →
       Comes p lay (before a (Push r) rest) (Load Stop 0) true (over_with a rest a.reg a.offset (record { word = a.reg r; offset = a.offset r } ∷ a.stack) Fine)
-  pop_sets : (a : Actor) (rest : List Statement) (r : ℕ) (top : Slot) (stack : List Slot) → a.stack ≡ top ∷ stack →
+  pop_sets : (a : Actor) (rest : List Statement) (r : ℕ) (top : StackWord) (stack : List StackWord) → a.stack ≡ top ∷ stack →
       Comes p lay (before a (Pop r) rest) (Load Stop 0) true (over_with a rest (put a.reg r top.word) (put a.offset r top.offset) stack Fine)
   -- an address inside an object: no object, or else the load of its length, by which it has the byte or it hasn't
   hide_null : (a : Actor) (rest : List Statement) (d s offset : ℕ) → a.reg s ≡ 0 →
