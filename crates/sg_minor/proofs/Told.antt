@@ -9,12 +9,14 @@ use Rattle.sg_graph.specs.Book.{Young, Old, nursery_end, old_end, IsWordOf, IsAp
 use Rattle.sg_words.specs.Sections.{nursery_base}
 use Rattle.sg_graph.specs.Pause.{IsPinned, StandsYoung, IsRoot}
 use Rattle.sg_graph.proofs.Quiet.{quiet}
-use Rattle.sg_graph.specs.Tiling.{IsCovered, IsTiled}
-use Rattle.sg_graph.specs.Tiling.{IsGap as IsGapOf}
+use Rattle.sg_graph.specs.Tiling.{IsCovered, IsTiled, IsGap as IsGapOf}
 use Rattle.sg_graph.specs.Minor.{IsLoose, HasMoved, HasFailed, IsStill, Keeping, Staying, Telling, Tidying, IsMinorPause, move_of}
 use Rattle.sg_graph.specs.Heap.{layout_of}
-use Rattle.sg_copy.specs.Area.{In, has, IsYoung, size_of}
-use Rattle.sg_copy.proofs.Members.{in-left, in-right, in-cases, not-in, placed-in}
+use Rattle.sg_copy.specs.Area.{IsYoung}
+use Rattle.sg_words.specs.Lists.{In, has}
+use Rattle.sg_words.specs.Objects.{size_of}
+use Rattle.sg_words.proofs.Members.{in-left, in-right, in-cases, not-in}
+use Rattle.sg_words.proofs.Objects.{placed-in}
 use Rattle.sg_minor.specs.Pieces.{IsTaken, IsGap}
 use Rattle.sg_minor.specs.Joined.{ArePins, IsKept}
 use Rattle.sg_minor.specs.Law.{IsReportOf}
