@@ -8,6 +8,6 @@ mod answers;
 mod counts;
 mod program;
 
-pub use answers::{Answer, Request};
+pub use answers::{Answer, Leave, Request};
 pub use counts::{script_finals, script_total, total};
 pub use program::{Class, Config, Item, Name, Program, Script, Statement};
