@@ -9,13 +9,13 @@ use Rattle.sg_words.specs.Lists.{Pairwise}
 use Rattle.sg_parse.specs.declared.refusal.Refusal.{Refusal}
 use Rattle.sg_parse.specs.declared.refusal.Refusal.TheVariants.{TooLong, Syntax, Class, Limit, Later, Memory}
 use Rattle.sg_parse.specs.declared.refusal.Which.{Which}
-use Rattle.sg_parse.specs.Words.{lines_of}
-use Rattle.sg_parse.specs.Lines.{Sentence, IsLine}
-use Rattle.sg_parse.specs.Text.{AreItems, NoItem, OneSays, OneMakes, NoRepeat, OneRepeat, AreScripts, IsProgram, IsAnyName, IsText, MayGoOn, StandsFor, IsFirstRefused, Reads, HasOneReading}
+use Rattle.sg_text.specs.Words.{lines_of}
+use Rattle.sg_text.specs.Lines.{Sentence, IsLine}
+use Rattle.sg_grammar.specs.Text.{AreItems, NoItem, OneSays, OneMakes, NoRepeat, OneRepeat, AreScripts, IsProgram, IsAnyName, IsText, MayGoOn, StandsFor, IsFirstRefused, Reads, HasOneReading}
 use Rattle.sg_parse.specs.Faults.{IsFirstFault, HasNone, IsMisnamed, IsLimitFault, BreaksSome, KeepsLimits, IsLater}
 use Rattle.sg_parse.specs.Accepted.{IsReadAs, IsRefusedBy}
-use Rattle.sg_parse.proofs.OneSentence.{one_saying}
-use Rattle.sg_parse.proofs.Uniqueness.{one_program}
+use Rattle.sg_text.proofs.OneSentence.{one_saying}
+use Rattle.sg_grammar.proofs.Uniqueness.{one_program}
 
 module _ (names : List ℕ → ℕ → Type 0) where
   any-items : (lines : List Sentence) (items : List Item) → AreItems names lines items → AreItems IsAnyName lines items

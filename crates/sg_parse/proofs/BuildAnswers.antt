@@ -9,14 +9,14 @@ use Rattle.sg_program.specs.declared.program.Class.{Class}
 use Rattle.sg_program.specs.declared.program.Script.{Script}
 use Rattle.sg_program.specs.declared.program.Program.{Program}
 use Rattle.sg_parse.specs.declared.refusal.Which.{Which}
-use Rattle.sg_parse.specs.declared.line.Line.{Line}
+use Rattle.sg_text.specs.declared.line.Line.{Line}
 use Rattle.sg_parse.specs.declared.scripts.Scripts.{Scripts}
 use Rattle.sg_parse.specs.declared.scripts.Scripts.TheVariants.{Read, Heavy}
 use Rattle.sg_parse.specs.declared.build.Built.TheVariants.{Program as Made, Over, NoMutator}
-use Rattle.sg_parse.specs.Lines.{Sentence, Begins}
-use Rattle.sg_parse.specs.Text.{IsWhole, IsProgram, StandsFor}
+use Rattle.sg_text.specs.Lines.{Sentence, Begins}
+use Rattle.sg_grammar.specs.Text.{IsWhole, IsProgram, StandsFor}
 use Rattle.sg_parse.specs.Faults.{classes_in, IsMisnamed}
-use Rattle.sg_parse.specs.Reading.{sentence_of, HasNoneIn}
+use Rattle.sg_text.specs.Reading.{sentence_of, HasNoneIn}
 use Rattle.sg_parse.specs.Building.{IsSmall, AreRead, AreLines, IsToldWithin, IsBuilt, config_of, total_of, finals_of}
 use Rattle.sg_parse.specs.LineLimits.{HasNoLineFault, IsLineFault}
 use Rattle.sg_parse.proofs.NamedProgram.{named_program}

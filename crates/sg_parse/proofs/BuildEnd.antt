@@ -10,11 +10,11 @@ use Rattle.sg_program.specs.declared.program.Script.{Script}
 use Rattle.sg_program.specs.declared.program.Program.{Program}
 use Rattle.sg_words.specs.Lists.{Pairwise}
 use Rattle.sg_program.specs.Scripts.{statements_in, finals_in, is_final, written_out}
-use Rattle.sg_parse.specs.Lines.{Sentence, Heads, Begins, Ends}
-use Rattle.sg_parse.specs.Text.{AreItems, AreScripts, IsClass, IsSetting, IsProgram, StandsFor}
+use Rattle.sg_text.specs.Lines.{Sentence, Heads, Begins, Ends}
+use Rattle.sg_grammar.specs.Text.{AreItems, AreScripts, IsClass, IsSetting, IsProgram, StandsFor}
 use Rattle.sg_parse.specs.Faults.{classes_in, is_begin, is_opening, is_ending}
 use Rattle.sg_parse.specs.Building.{AreFront, total_of, finals_of}
-use Rattle.sg_parse.proofs.Uniqueness.{IsFunctional, one_body, functional}
+use Rattle.sg_grammar.proofs.Uniqueness.{IsFunctional, one_body, functional}
 use Rattle.sg_parse.proofs.NamedProgram.{classes_are}
 use Rattle.sg_parse.proofs.LineFaults.{take_next}
 use Rattle.sg_parse.proofs.ScriptLemmas.{same_script}

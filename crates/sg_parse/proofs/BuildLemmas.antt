@@ -3,13 +3,13 @@ use Rattle.std.proofs.Common.{◌≡◌, Bor, ℕ, ◌+◌, ◌<◌, Some, List,
 use Rattle.std.proofs.lemmas.List.Sums.{fold-append}
 use Rattle.sg_program.specs.declared.program.Config.{Config}
 use Rattle.sg_program.specs.declared.program.Class.{Class}
-use Rattle.sg_parse.specs.declared.line.Form.{Form}
-use Rattle.sg_parse.specs.declared.line.Line.{Line}
-use Rattle.sg_parse.specs.declared.line.Line.TheVariants.{Head, Setting, Class as ClassLine, Mutator, Repeat, End, Make, At, Do}
-use Rattle.sg_parse.specs.Lines.{Sentence, Begins}
+use Rattle.sg_text.specs.declared.line.Form.{Form}
+use Rattle.sg_text.specs.declared.line.Line.{Line}
+use Rattle.sg_text.specs.declared.line.Line.TheVariants.{Head, Setting, Class as ClassLine, Mutator, Repeat, End, Make, At, Do}
+use Rattle.sg_text.specs.Lines.{Sentence, Begins}
 use Rattle.sg_parse.specs.Faults.{classes_in, class_in}
 use Rattle.sg_desc.specs.declared.shapes.Shape.{Shape}
-use Rattle.sg_parse.specs.Reading.{sentence_of, shape_in}
+use Rattle.sg_text.specs.Reading.{sentence_of, shape_in}
 use Rattle.sg_parse.specs.Building.{config_with, first_config, config_of}
 use Rattle.sg_parse.proofs.LineFaults.{read_at, take_next, classes-push}
 

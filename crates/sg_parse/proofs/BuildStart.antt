@@ -11,8 +11,8 @@ use Rattle.sg_program.specs.declared.program.Program.{Program}
 use Rattle.sg_parse.specs.declared.refusal.Which.{Which}
 use Rattle.sg_parse.specs.declared.refusal.Which.TheVariants.{Statements, Finals}
 use Rattle.sg_parse.specs.declared.scripts.Scripts.TheVariants.{Read, Heavy}
-use Rattle.sg_parse.specs.Lines.{Sentence, Heads, Begins}
-use Rattle.sg_parse.specs.Text.{AreScripts, IsProgram, StandsFor}
+use Rattle.sg_text.specs.Lines.{Sentence, Heads, Begins}
+use Rattle.sg_grammar.specs.Text.{AreScripts, IsProgram, StandsFor}
 use Rattle.sg_parse.specs.Faults.{classes_in, class_in, is_ending, Breaks, BreaksSome}
 use Rattle.sg_parse.specs.Building.{IsSmall, AreFront, IsHeavy, AreRead}
 use Rattle.sg_parse.specs.LineLimits.{HasNoLineFault}

@@ -15,13 +15,13 @@ use Rattle.sg_parse.specs.declared.refusal.Which.{Which}
 use Rattle.sg_parse.specs.declared.refusal.Which.TheVariants.{Nursery, Blocks, Pages, Buffer, Workers, Cement, Classes, Fields, Vector, Global, Weak, Times, Nesting, Statements, Finals, Mutators}
 use Rattle.sg_parse.specs.declared.scripts.Scripts.TheVariants.{Read}
 use Rattle.sg_parse.specs.declared.build.Built.TheVariants.{Program as Made, Over, NoMutator}
-use Rattle.sg_parse.specs.Lines.{Sentence, Begins, Repeats, Ends, Says, Makes}
-use Rattle.sg_parse.specs.Text.{AreItems, NoItem, OneSays, OneMakes, NoRepeat, OneRepeat, AreScripts, IsProgram, StandsFor}
+use Rattle.sg_text.specs.Lines.{Sentence, Begins, Repeats, Ends, Says, Makes}
+use Rattle.sg_grammar.specs.Text.{AreItems, NoItem, OneSays, OneMakes, NoRepeat, OneRepeat, AreScripts, IsProgram, StandsFor}
 use Rattle.sg_parse.specs.Faults.{classes_in, is_opening, is_ending, open_behind, BreaksFirst, BreaksSome, IsMisnamed}
-use Rattle.sg_parse.specs.Reading.{HasNoneIn}
+use Rattle.sg_text.specs.Reading.{HasNoneIn}
 use Rattle.sg_parse.specs.Building.{IsSmall, AreFront, IsHeavy, IsTooMuch, AreRead, AreLines, IsBuilt, config_of, total_of, finals_of}
 use Rattle.sg_parse.specs.LineLimits.{HasNoLineFault, IsLineFault}
-use Rattle.sg_parse.proofs.Uniqueness.{one_program}
+use Rattle.sg_grammar.proofs.Uniqueness.{one_program}
 use Rattle.sg_parse.proofs.NamedProgram.{classes_are}
 use Rattle.sg_parse.proofs.SettingsOf.{config_is}
 use Rattle.sg_parse.proofs.WithinLimits.{within_limits}

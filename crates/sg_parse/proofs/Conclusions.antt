@@ -8,12 +8,12 @@ use Rattle.sg_parse.specs.declared.refusal.Refusal.{Refusal}
 use Rattle.sg_parse.specs.declared.refusal.Refusal.TheVariants.{Class, Limit, Later, Memory}
 use Rattle.sg_parse.specs.declared.refusal.Which.{Which}
 use Rattle.sg_parse.specs.declared.refusal.Which.TheVariants.{Mutators}
-use Rattle.sg_parse.specs.Words.{lines_of}
-use Rattle.sg_parse.specs.Lines.{Sentence, Begins}
-use Rattle.sg_parse.specs.Text.{IsProgram, IsWhole, IsText, StandsFor, HasOneReading}
+use Rattle.sg_text.specs.Words.{lines_of}
+use Rattle.sg_text.specs.Lines.{Sentence, Begins}
+use Rattle.sg_grammar.specs.Text.{IsProgram, IsWhole, IsText, StandsFor, HasOneReading}
 use Rattle.sg_parse.specs.Faults.{HasNone, IsMisnamed, BreaksSome, BreaksFirst, KeepsLimits, IsLater}
 use Rattle.sg_parse.specs.Accepted.{byte_limit, IsReadAs, IsRefusedBy, IsReadProgram}
-use Rattle.sg_parse.specs.Reading.{AreRead, IsFirstIn, HasNoneIn}
+use Rattle.sg_text.specs.Reading.{AreRead, IsFirstIn, HasNoneIn}
 use Rattle.sg_parse.proofs.Glue.{first-fault, none-at-all, there-below}
 use Rattle.sg_parse.proofs.Refused.{there-is}
 use Rattle.sg_parse.proofs.Run.{run_now, said_each}

@@ -9,13 +9,13 @@ use Rattle.std.proofs.lemmas.Option.{none-some}
 use Rattle.sg_program.specs.Scripts.{repeated}
 use Rattle.sg_words.specs.Lists.{Pairwise}
 use Rattle.sg_program.specs.declared.program.Program.{Program}
-use Rattle.sg_parse.specs.Words.{is_proper, words_of, content, is_empty}
+use Rattle.sg_text.specs.Words.{is_proper, words_of, content, is_empty}
 use Rattle.sg_program.specs.declared.program.Statement.{Statement}
 use Rattle.sg_program.specs.declared.program.Statement.TheVariants.{New, NewV, Mature, Put, Get, PutD, GetD, Num, Move, Hide, Unhide, Drop, Push, Pop, GPut, GGet, WSet, WGet, Final, NextFin, Same, Collect, Sections}
-use Rattle.sg_parse.specs.Lines.{Maker, AsNew, AsVector, AsMature, Sentence, Heads, Sets, Declares, Begins, Repeats, Ends, Makes, Says, IsMakerLine, IsStatementLine, IsLine}
-use Rattle.sg_parse.specs.Text.{IsProgram, IsAnyName, IsWhole, CanGoOn, Say, IsText, MayGoOn, IsFirstRefused}
+use Rattle.sg_text.specs.Lines.{Maker, AsNew, AsVector, AsMature, Sentence, Heads, Sets, Declares, Begins, Repeats, Ends, Makes, Says, IsMakerLine, IsStatementLine, IsLine}
+use Rattle.sg_grammar.specs.Text.{IsProgram, IsAnyName, IsWhole, CanGoOn, Say, IsText, MayGoOn, IsFirstRefused}
 use Rattle.sg_parse.specs.Faults.{IsAt, IsFirstFault, HasNone}
-use Rattle.sg_parse.specs.Reading.{AreRead, IsNoLine, IsScan, IsPrefix, IsFirstIn, HasNoneIn}
+use Rattle.sg_text.specs.Reading.{AreRead, IsNoLine, IsScan, IsPrefix, IsFirstIn, HasNoneIn}
 
 content-append : (xs ys : List (List ℕ)) → content (xs ++ ys) ≡ content xs ++ content ys
 content-append xs ys = ap (filter (λ words. not (is_empty words))) (map-append words_of xs ys) ∙ filter-append (λ words. not (is_empty words)) (map words_of xs) (map words_of ys)

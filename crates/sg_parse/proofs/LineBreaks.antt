@@ -12,7 +12,7 @@ use Rattle.sg_program.specs.declared.program.Statement.{Statement}
 use Rattle.sg_program.specs.declared.program.Statement.TheVariants.{New, NewV, Mature, Put, Get, PutD, GetD, Num, Move, Hide, Unhide, Drop, Push, Pop, GPut, GGet, WSet, WGet, Final, NextFin, Same, Collect, Sections}
 use Rattle.sg_parse.specs.declared.refusal.Which.{Which}
 use Rattle.sg_parse.specs.declared.refusal.Which.TheVariants.{Nursery, Blocks, Pages, Buffer, Workers, Cement, Classes, Fields, Vector, Global, Weak, Times, Nesting, Statements, Finals, Mutators}
-use Rattle.sg_parse.specs.Lines.{Maker, AsNew, AsVector, AsMature, Sentence, Heads, Sets, Declares, Begins, Repeats, Ends, Makes, Says}
+use Rattle.sg_text.specs.Lines.{Maker, AsNew, AsVector, AsMature, Sentence, Heads, Sets, Declares, Begins, Repeats, Ends, Makes, Says}
 use Rattle.sg_parse.specs.Faults.{classes_in, class_in, open_behind, is_begin, Breaks, BreaksFirst, place}
 use Rattle.sg_parse.specs.Building.{HasSmallPlace, IsSmall}
 use Rattle.sg_parse.specs.LineLimits.{is_within, is_nursery_size, may_have, unless, setting_fault, class_fault, repeat_fault, maker_fault, statement_fault, fault_behind}

@@ -8,13 +8,13 @@ use Rattle.sg_parse.specs.declared.refusal.Refusal.{Refusal}
 use Rattle.sg_parse.specs.declared.refusal.Refusal.TheVariants.{TooLong, Syntax, Class, Limit, Later, Memory}
 use Rattle.sg_parse.specs.declared.refusal.Which.{Which}
 use Rattle.sg_parse.specs.declared.refusal.Which.TheVariants.{Nursery, Blocks, Pages, Buffer, Workers, Cement, Classes, Fields, Vector, Global, Weak, Times, Nesting, Statements, Finals, Mutators}
-use Rattle.sg_parse.specs.Words.{words_of, content, lines_of}
-use Rattle.sg_parse.specs.Lines.{Sentence, IsLine}
-use Rattle.sg_parse.specs.Text.{IsText, MayGoOn, IsFirstRefused}
+use Rattle.sg_text.specs.Words.{words_of, content, lines_of}
+use Rattle.sg_text.specs.Lines.{Sentence, IsLine}
+use Rattle.sg_grammar.specs.Text.{IsText, MayGoOn, IsFirstRefused}
 use Rattle.sg_words.specs.Lists.{Pairwise}
 use Rattle.sg_parse.specs.Faults.{IsAt, IsFirstFault, IsMisnamed, place, Breaks, BreaksFirst, BreaksSome, IsLimitFault, IsLater}
 use Rattle.sg_parse.specs.Accepted.{IsRefusedBy, HasOneRefusal}
-use Rattle.sg_parse.proofs.OneSentence.{one_sentence, one_list}
+use Rattle.sg_text.proofs.OneSentence.{one_sentence, one_list}
 use Rattle.sg_parse.proofs.Apart.{no-text-refused, first-and-none, limit-and-none, refused-apart}
 
 -- two numbers of which neither is below the other are the same

@@ -1,11 +1,11 @@
 -- Why a text isn't read, by what the scan and the order of its sentences say.
 use Rattle.std.proofs.Common.{◌≡◌, ℕ, zero, suc, ◌<◌, Option, Some, None, List, [], ◌∷◌, length, take, map, slice_get, refl, sym, ap, subst, arith}
 use Rattle.std.proofs.lemmas.List.{length-map}
-use Rattle.sg_parse.specs.declared.line.Line.{Line}
-use Rattle.sg_parse.specs.Lines.{Sentence}
-use Rattle.sg_parse.specs.Text.{IsWhole, CanGoOn, IsFirstRefused}
-use Rattle.sg_parse.specs.Reading.{sentence_of, IsScan, IsPrefix}
-use Rattle.sg_parse.proofs.OneSentence.{one_list}
+use Rattle.sg_text.specs.declared.line.Line.{Line}
+use Rattle.sg_text.specs.Lines.{Sentence}
+use Rattle.sg_grammar.specs.Text.{IsWhole, CanGoOn, IsFirstRefused}
+use Rattle.sg_text.specs.Reading.{sentence_of, IsScan, IsPrefix}
+use Rattle.sg_text.proofs.OneSentence.{one_list}
 use Rattle.sg_parse.proofs.Glue.{refused-misplaced, refused-bad, refused-end, whole-prefix}
 
 pub there-is : {A : Type 0} (xs : List A) (i : ℕ) → i < length xs → (x : A) × (slice_get xs i ≡ Some x)

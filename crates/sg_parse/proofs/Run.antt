@@ -15,12 +15,12 @@ use Rattle.sg_program.specs.declared.program.Program.{Program}
 use Rattle.sg_words.specs.Lists.{Pairwise}
 use Rattle.sg_program.specs.Scripts.{shape_at, item_text, written}
 use Rattle.sg_program.proofs.Items.{text_one, text_repeat}
-use Rattle.sg_parse.specs.Lines.{Maker, AsNew, AsVector, AsMature, made_by, Sentence, Heads, Begins, Repeats, Ends, Makes, Says, IsLine}
-use Rattle.sg_parse.specs.Text.{AreItems, NoItem, OneSays, OneMakes, NoRepeat, OneRepeat, AreScripts, IsClass, IsSetting, IsProgram, StandsFor}
+use Rattle.sg_text.specs.Lines.{Maker, AsNew, AsVector, AsMature, made_by, Sentence, Heads, Begins, Repeats, Ends, Makes, Says, IsLine}
+use Rattle.sg_grammar.specs.Text.{AreItems, NoItem, OneSays, OneMakes, NoRepeat, OneRepeat, AreScripts, IsClass, IsSetting, IsProgram, StandsFor}
 use Rattle.sg_parse.specs.Faults.{class_in, classes_in, is_begin, IsPairClass, IsLater, Another}
 use Rattle.sg_program.specs.Invariants.{IsBuilt}
 use Rattle.sg_parse.specs.Names.{IsLaterBy}
-use Rattle.sg_parse.specs.Reading.{HasNoneIn}
+use Rattle.sg_text.specs.Reading.{HasNoneIn}
 use Rattle.sg_parse.proofs.Naming.{name_of_class}
 use Rattle.sg_parse.proofs.LaterLemmas.{get_front, later_front}
 

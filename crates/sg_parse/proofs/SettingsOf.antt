@@ -12,10 +12,10 @@ use Rattle.sg_program.specs.declared.program.Item.{Item}
 use Rattle.sg_program.specs.declared.program.Script.{Script}
 use Rattle.sg_program.specs.declared.program.Program.{Program}
 use Rattle.sg_words.specs.Lists.{Pairwise}
-use Rattle.sg_parse.specs.Lines.{Sentence, Sets, Begins, Repeats, Ends}
-use Rattle.sg_parse.specs.Text.{AreItems, NoItem, OneSays, OneMakes, NoRepeat, OneRepeat, AreScripts, IsClass, settings_of, IsSetting, AreSettings, IsProgram}
+use Rattle.sg_text.specs.Lines.{Sentence, Sets, Begins, Repeats, Ends}
+use Rattle.sg_grammar.specs.Text.{AreItems, NoItem, OneSays, OneMakes, NoRepeat, OneRepeat, AreScripts, IsClass, settings_of, IsSetting, AreSettings, IsProgram}
 use Rattle.sg_parse.specs.Building.{config_with, first_config, config_of}
-use Rattle.sg_parse.proofs.Uniqueness.{not_head}
+use Rattle.sg_grammar.proofs.Uniqueness.{not_head}
 
 -- ---- one more setting
 

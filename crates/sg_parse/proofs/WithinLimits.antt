@@ -22,16 +22,16 @@ use Rattle.sg_program.specs.Invariants.{IsSmallClass, AreWithinLimits, HasOperan
 use Rattle.sg_program.specs.Scripts.{shape_at, kind_of, item_text, written, NamesClass, statements_in, finals_in}
 use Rattle.sg_program.proofs.Items.{text_one, text_repeat}
 use Rattle.sg_parse.specs.declared.refusal.Which.TheVariants.{Nursery, Blocks, Pages, Buffer, Workers, Cement, Fields, Vector, Global, Weak, Times, Statements, Finals}
-use Rattle.sg_parse.specs.Lines.{Maker, AsNew, AsVector, AsMature, made_by, Sentence, Heads, Sets, Declares, Begins, Repeats, Ends, Makes, Says}
-use Rattle.sg_parse.specs.Text.{AreItems, NoItem, OneSays, OneMakes, NoRepeat, OneRepeat, AreScripts, IsClass, settings_of, defaults, AreSettings, IsProgram, StandsFor}
+use Rattle.sg_text.specs.Lines.{Maker, AsNew, AsVector, AsMature, made_by, Sentence, Heads, Sets, Declares, Begins, Repeats, Ends, Makes, Says}
+use Rattle.sg_grammar.specs.Text.{AreItems, NoItem, OneSays, OneMakes, NoRepeat, OneRepeat, AreScripts, IsClass, settings_of, defaults, AreSettings, IsProgram, StandsFor}
 use Rattle.sg_parse.specs.Faults.{classes_in, wants_vector, IsMisnamed, open_behind, BreaksSome}
-use Rattle.sg_parse.specs.Reading.{HasNoneIn}
+use Rattle.sg_text.specs.Reading.{HasNoneIn}
 use Rattle.sg_parse.specs.Building.{AreLines}
 use Rattle.sg_parse.proofs.LaterLemmas.{front_class, made_fit}
 use Rattle.sg_parse.proofs.NamedProgram.{all_at, around, classes_are}
 use Rattle.sg_parse.proofs.Nesting.{keep_from, few_classes, few_mutators, IsDeep, deep_plain, deep_open, deep_end, nested_items, deep_settings, deep_classes, last_end}
 use Rattle.sg_parse.proofs.Run.{all_append, all_front, all_back, IsSaid, head_of}
-use Rattle.sg_parse.proofs.Uniqueness.{gives, one_class}
+use Rattle.sg_grammar.proofs.Uniqueness.{gives, one_class}
 
 -- ---- what one line keeps
 

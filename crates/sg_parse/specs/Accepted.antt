@@ -8,8 +8,8 @@ use Rattle.sg_program.specs.Kinds.{HasNoMisuse}
 use Rattle.sg_program.specs.Invariants.{IsWithinLimits, IsBuilt}
 use Rattle.sg_parse.specs.declared.refusal.Refusal.{Refusal}
 use Rattle.sg_parse.specs.declared.refusal.Refusal.TheVariants.{TooLong, Syntax, Class, Limit, Later, Memory}
-use Rattle.sg_parse.specs.Words.{lines_of}
-use Rattle.sg_parse.specs.Text.{IsText, IsFirstRefused, Reads}
+use Rattle.sg_text.specs.Words.{lines_of}
+use Rattle.sg_grammar.specs.Text.{IsText, IsFirstRefused, Reads}
 use Rattle.sg_parse.specs.Faults.{IsFirstFault, HasNone, IsMisnamed, IsLimitFault, KeepsLimits, IsLater}
 
 -- the most bytes of an input

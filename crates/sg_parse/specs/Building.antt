@@ -17,10 +17,10 @@ use Rattle.sg_parse.specs.declared.scripts.Scripts.{Scripts}
 use Rattle.sg_parse.specs.declared.scripts.Scripts.TheVariants.{Read, Heavy}
 use Rattle.sg_parse.specs.declared.build.Built.{Built}
 use Rattle.sg_parse.specs.declared.build.Built.TheVariants.{Program as Made, Over, NoMutator}
-use Rattle.sg_parse.specs.Lines.{AsVector, made_by, Sentence, Sets, Declares, Begins, Repeats, Ends, Makes, Says, IsLine}
-use Rattle.sg_parse.specs.Text.{AreItems, AreScripts, IsProgram, StandsFor}
+use Rattle.sg_text.specs.Lines.{AsVector, made_by, Sentence, Sets, Declares, Begins, Repeats, Ends, Makes, Says, IsLine}
+use Rattle.sg_grammar.specs.Text.{AreItems, AreScripts, IsProgram, StandsFor}
 use Rattle.sg_parse.specs.Faults.{BreaksFirst, BreaksSome}
-use Rattle.sg_parse.specs.Reading.{IsFirstIn, HasNoneIn}
+use Rattle.sg_text.specs.Reading.{IsFirstIn, HasNoneIn}
 
 -- the numbers of the line fit the fields of a program
 abbrev pub HasSmallPlace : Statement → Type 0

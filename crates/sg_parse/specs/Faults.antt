@@ -12,9 +12,9 @@ use Rattle.sg_program.specs.Limits.{MayHave, IsNurserySize}
 use Rattle.sg_program.specs.Scripts.{statements_in, finals_in}
 use Rattle.sg_parse.specs.declared.refusal.Which.{Which}
 use Rattle.sg_parse.specs.declared.refusal.Which.TheVariants.{Nursery, Blocks, Pages, Buffer, Workers, Cement, Classes, Fields, Vector, Global, Weak, Times, Nesting, Statements, Finals, Mutators}
-use Rattle.sg_parse.specs.Words.{words_of, content}
-use Rattle.sg_parse.specs.Lines.{Maker, AsNew, AsVector, AsMature, Sentence, Sets, Declares, Begins, Repeats, Ends, Makes, Says, IsLine}
-use Rattle.sg_parse.specs.Text.{IsProgram, IsClassName, StandsFor}
+use Rattle.sg_text.specs.Words.{words_of, content}
+use Rattle.sg_text.specs.Lines.{Maker, AsNew, AsVector, AsMature, Sentence, Sets, Declares, Begins, Repeats, Ends, Makes, Says, IsLine}
+use Rattle.sg_grammar.specs.Text.{IsProgram, IsClassName, StandsFor}
 
 -- line k says this, behind lines that say `before`
 pub record IsAt (lines : List (List ℕ)) (k : ℕ) (before : List Sentence) (line : Sentence) : Type 0 where

@@ -8,7 +8,7 @@ use Rattle.sg_program.specs.declared.program.Statement.{Statement}
 use Rattle.sg_program.specs.declared.program.Statement.TheVariants.{GPut, GGet, WSet, WGet}
 use Rattle.sg_parse.specs.declared.refusal.Which.{Which}
 use Rattle.sg_parse.specs.declared.refusal.Which.TheVariants.{Nursery, Blocks, Pages, Buffer, Workers, Cement, Classes, Fields, Vector, Global, Weak, Times, Nesting, Mutators}
-use Rattle.sg_parse.specs.Lines.{Maker, AsVector, Sentence, Sets, Declares, Begins, Repeats, Makes, Says}
+use Rattle.sg_text.specs.Lines.{Maker, AsVector, Sentence, Sets, Declares, Begins, Repeats, Makes, Says}
 use Rattle.sg_parse.specs.Faults.{classes_in, open_behind, is_begin}
 
 abbrev pub is_within : ℕ → ℕ → ℕ → Bool

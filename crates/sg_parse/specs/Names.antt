@@ -4,14 +4,14 @@ use Rattle.sg_desc.specs.declared.shapes.Shape.{Shape}
 use Rattle.sg_program.specs.declared.program.Class.{Class}
 use Rattle.sg_program.specs.declared.program.Statement.{Statement}
 use Rattle.sg_program.specs.declared.program.Statement.TheVariants.{GPut, GGet, WSet, WGet, Final, NextFin, Collect, Sections}
-use Rattle.sg_parse.specs.declared.line.Form.{Form}
+use Rattle.sg_text.specs.declared.line.Form.{Form}
 use Rattle.sg_parse.specs.declared.names.Names.{Names}
-use Rattle.sg_parse.specs.Lines.{Maker, AsNew, AsVector, AsMature, Sentence, Declares, Begins, Makes, Says}
-use Rattle.sg_parse.specs.Text.{IsClassName, StandsFor}
+use Rattle.sg_text.specs.Lines.{Maker, AsNew, AsVector, AsMature, Sentence, Declares, Begins, Makes, Says}
+use Rattle.sg_grammar.specs.Text.{IsClassName, StandsFor}
 use Rattle.sg_parse.specs.declared.names.Named.{Named}
 use Rattle.sg_parse.specs.declared.names.Named.TheVariants.{Classes, Misnamed}
 use Rattle.sg_parse.specs.Faults.{classes_in, IsFit, IsMisnamed, IsPairClass}
-use Rattle.sg_parse.specs.Reading.{shape_in, IsFirstIn, HasNoneIn}
+use Rattle.sg_text.specs.Reading.{shape_in, IsFirstIn, HasNoneIn}
 
 -- the class of this name and form
 abbrev pub class_of : List ℕ → Form → Class

@@ -4,10 +4,10 @@ ghost use Rattle.std.specs.List.{AllByRecursion};
 ghost use Rattle.sg_program.specs.Limits.{MayHave};
 ghost use Rattle.sg_parse.specs.Building.{IsSmall, AreLines, config_with, config_of, IsBuilt};
 ghost use Rattle.sg_parse.specs.Faults.{classes_in, IsMisnamed};
-ghost use Rattle.sg_parse.specs.Lines.{Begins};
+ghost use Rattle.sg_text.specs.Lines.{Begins};
 ghost use Rattle.sg_parse.specs.Names.{AreNames};
-ghost use Rattle.sg_parse.specs.Reading.{shape_in, sentence_of, HasNoneIn};
-ghost use Rattle.sg_parse.specs.Text.{IsWhole};
+ghost use Rattle.sg_text.specs.Reading.{shape_in, sentence_of, HasNoneIn};
+ghost use Rattle.sg_grammar.specs.Text.{IsWhole};
 
 use crate::limits::line_fault;
 use crate::line::{Form, Line};

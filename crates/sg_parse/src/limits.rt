@@ -2,7 +2,7 @@
 ghost use Rattle.std.specs.Prelude.{◌≡◌, ◌+◌, ◌-◌, ◌^◌, ◌<◌, ◌&&◌, nat_le, cond, map, length};
 ghost use Rattle.sg_parse.specs.Faults.{class_in, is_opening, is_ending, is_begin};
 ghost use Rattle.sg_parse.specs.LineLimits.{is_within, is_nursery_size, may_have, unless, setting_fault, maker_fault, statement_fault, line_fault, IsLineFault};
-ghost use Rattle.sg_parse.specs.Reading.{maker_of, shape_in, at_cell, sentence_of};
+ghost use Rattle.sg_text.specs.Reading.{maker_of, shape_in, at_cell, sentence_of};
 
 use crate::line::{Cell, Form, Line, Maker};
 use crate::refusal::Which;

@@ -2,11 +2,11 @@
 ghost use Rattle.std.specs.Prelude.{◌≡◌, ◌≢◌, ◌<◌, ◌≤◌, Some, map, length, slice_get, IfOk, IfErr};
 ghost use Rattle.sg_program.specs.declared.program.Program.{Program as AnyProgram};
 ghost use Rattle.sg_parse.specs.declared.refusal.Refusal.{Refusal as AnyRefusal};
-ghost use Rattle.sg_parse.specs.Words.{lines_of};
-ghost use Rattle.sg_parse.specs.Text.{IsWhole, HasOneReading};
+ghost use Rattle.sg_text.specs.Words.{lines_of};
+ghost use Rattle.sg_grammar.specs.Text.{IsWhole, HasOneReading};
 ghost use Rattle.sg_parse.specs.Faults.{IsMisnamed, IsLater, classes_in};
 ghost use Rattle.sg_parse.specs.Accepted.{IsReadAs, IsReadProgram, IsRefusedBy, HasOneRefusal};
-ghost use Rattle.sg_parse.specs.Reading.{sentence_of, AreRead};
+ghost use Rattle.sg_text.specs.Reading.{sentence_of, AreRead};
 
 use crate::build::{Built, build};
 use crate::later::later;

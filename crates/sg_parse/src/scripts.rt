@@ -1,9 +1,9 @@
 //! The scripts of a text.
 ghost use Rattle.std.specs.Prelude.{◌≡◌, ℕ, ◌^◌, ◌<◌, ◌≤◌, map, length, IfOk, IfSome};
 ghost use Rattle.sg_parse.specs.Building.{IsStatement, IsBody, AreRead, IsToldWithin};
-ghost use Rattle.sg_parse.specs.Lines.{made_by};
+ghost use Rattle.sg_text.specs.Lines.{made_by};
 ghost use Rattle.sg_parse.specs.Names.{classes_of};
-ghost use Rattle.sg_parse.specs.Reading.{maker_of, at_cell, sentence_of};
+ghost use Rattle.sg_text.specs.Reading.{maker_of, at_cell, sentence_of};
 
 use crate::line::{Cell, Line, Maker};
 use crate::names::Names;

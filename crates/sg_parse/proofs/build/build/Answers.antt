@@ -1,7 +1,7 @@
 use Rattle.std.proofs.Common.{length, map, refl, sym, subst, ◌∙◌, arith}
 use Rattle.std.proofs.lemmas.List.{length-map}
 use Rattle.sg_parse.specs.Names.{classes_of}
-use Rattle.sg_parse.specs.Reading.{sentence_of}
+use Rattle.sg_text.specs.Reading.{sentence_of}
 use Rattle.sg_parse.specs.LineLimits.{IsLineFault}
 use Rattle.sg_parse.proofs.Bodies.{no_items, some_items}
 use Rattle.sg_parse.proofs.BuildStart.{all_small}

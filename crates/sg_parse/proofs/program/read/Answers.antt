@@ -1,7 +1,7 @@
 use Rattle.std.proofs.Common.{◌≡◌, ℕ, ◌<◌, List, length, map, slice_get, sym, ap, ◌∙◌, subst}
-use Rattle.sg_parse.specs.declared.line.Line.{Line}
-use Rattle.sg_parse.specs.Words.{lines_of}
-use Rattle.sg_parse.specs.Text.{IsWhole}
+use Rattle.sg_text.specs.declared.line.Line.{Line}
+use Rattle.sg_text.specs.Words.{lines_of}
+use Rattle.sg_grammar.specs.Text.{IsWhole}
 use Rattle.sg_program.specs.declared.program.Program.{Program}
 use Rattle.sg_parse.specs.declared.refusal.Which.{Which}
 use Rattle.sg_parse.specs.declared.names.Names.{Names}
@@ -12,8 +12,8 @@ use Rattle.sg_parse.specs.declared.build.Built.TheVariants.{Program as Made, Ove
 use Rattle.sg_parse.specs.Names.{IsNaming}
 use Rattle.sg_parse.specs.Building.{IsBuilt}
 use Rattle.sg_parse.specs.Faults.{IsMisnamed}
-use Rattle.sg_parse.specs.Reading.{sentence_of, AreRead, IsFirstIn, HasNoneIn}
-use Rattle.sg_parse.specs.Lines.{Sentence}
+use Rattle.sg_text.specs.Reading.{sentence_of, AreRead, IsFirstIn, HasNoneIn}
+use Rattle.sg_text.specs.Lines.{Sentence}
 use Rattle.sg_parse.proofs.Run.{said_each}
 use Rattle.sg_parse.proofs.Conclusions.{class-fault, limit-fault, no-mutator, later-fault, read-as, known, number-there}
 use Rattle.sg_parse.proofs.program.read.Goals as goal

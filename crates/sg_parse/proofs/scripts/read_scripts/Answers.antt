@@ -6,7 +6,7 @@ use Rattle.sg_program.specs.Scripts.{is_final, written_out}
 use Rattle.sg_parse.specs.declared.refusal.Which.TheVariants.{Statements, Finals}
 use Rattle.sg_parse.specs.declared.scripts.Scripts.TheVariants.{Read}
 use Rattle.sg_parse.specs.Names.{classes_of}
-use Rattle.sg_parse.specs.Reading.{sentence_of}
+use Rattle.sg_text.specs.Reading.{sentence_of}
 use Rattle.sg_parse.specs.Building.{AreRead, total_of, finals_of}
 use Rattle.sg_parse.proofs.Bodies.{inner_body, inner_within}
 use Rattle.sg_parse.proofs.ScriptLemmas.{IsInScripts, scripts_stop, scripts_over, scripts_more, scripts_heavy, sum_small, sum_large}

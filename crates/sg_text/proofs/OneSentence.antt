@@ -1,0 +1,32 @@
+-- A line says one sentence at most, and lines say one thing at most.
+use Rattle.std.proofs.Common.{◌≡◌, ◌⊎◌, inl, inr, List, [], ◌∷◌, ℕ, suc, refl, sym, ap, subst, ◌∙◌}
+use Rattle.std.proofs.lemmas.Option.{none-some, same_Some}
+use Rattle.sg_text.specs.Words.{words_of}
+use Rattle.sg_text.specs.Lines.{Sentence, IsLine}
+use Rattle.sg_text.specs.Numbered.{Numbered, SayBelow, Say}
+use Rattle.sg_text.specs.Sentences.{sentence_in}
+use Rattle.sg_text.specs.Laws.{HaveOneSaying}
+use Rattle.sg_text.proofs.SentenceLemmas.{line_reads}
+
+pub one_sentence : (words : List (List ℕ)) (s t : Sentence) → IsLine words s → IsLine words t → s ≡ t
+one_sentence words s t a b = same_Some s t (sym (line_reads words s a) ∙ line_reads words t b)
+
+pub no_words : (words : List (List ℕ)) (s : Sentence) → words ≡ [] → IsLine words s → ⊥
+unfolding sentence_in
+no_words words s e is = none-some s (line_reads [] s (subst (λ (ws : List (List ℕ)). IsLine ws s) e is))
+
+abbrev pub at : ℕ → Sentence → Numbered
+at number sentence = record { number = number; sentence = sentence }
+
+pub one_below : (above : ℕ) (lines : List (List ℕ)) (found other : List Numbered) → SayBelow above lines found → SayBelow above lines other → found ≡ other
+one_below above [] found other a b = a ∙ sym b
+one_below above (line ∷ lines) found other (p, inl (e, a)) (q, inl (f, b)) = one_below (suc above) lines found other a b
+one_below above (line ∷ lines) found other (p, inl (e, a)) (q, inr (s, rest, is, f, b)) = absurd (no_words (words_of line) s e is)
+one_below above (line ∷ lines) found other (p, inr (s, rest, is, e, a)) (q, inl (f, b)) = absurd (no_words (words_of line) s f is)
+one_below above (line ∷ lines) found other (p, inr (s, rest, is, e, a)) (q, inr (t, more, it, f, b)) =
+    let same : s ≡ t = one_sentence (words_of line) s t is it in
+    let behind : rest ≡ more = one_below (suc above) lines rest more a b in
+    e ∙ ap (λ (x : Sentence). at (suc above) x ∷ rest) same ∙ ap (λ (l : List Numbered). at (suc above) t ∷ l) behind ∙ sym f
+
+pub have_one_saying : HaveOneSaying
+have_one_saying = record { one = one_below 0 }
