@@ -6,9 +6,9 @@ use Rattle.sg_text.specs.declared.line.Line.{Line}
 use Rattle.sg_grammar.specs.declared.order.Place.{Place}
 use Rattle.sg_grammar.specs.declared.order.Place.TheVariants.{Start, Settings, Classes, Within, Outside}
 use Rattle.sg_text.specs.Lines.{Sentence, Heads, Sets, Begins, Repeats, Ends}
-use Rattle.sg_grammar.specs.Text.{IsWhole, CanGoOn}
-use Rattle.sg_text.specs.Reading.{sentence_of, IsPrefix}
-use Rattle.sg_grammar.specs.Order.{marked, next, depth_of, is_end}
+use Rattle.sg_grammar.specs.Text.{IsWhole, IsPrefix, CanGoOn}
+use Rattle.sg_text.specs.Reading.{sentence_of}
+use Rattle.sg_grammar.specs.Order.{index_of, marked, next, depth_of, is_end}
 use Rattle.sg_grammar.proofs.Runs.{run, run-append, stopped}
 use Rattle.sg_grammar.proofs.Stands.{are_whole, are_prefix, not_whole}
 
@@ -45,7 +45,7 @@ depth_next : (place : Place) (line : Sentence) â†’ depth_at (next place line) â‰
 unfolding depth_at
 depth_next Start Heads = omega arith
 depth_next Start line = omega arith
-depth_next (Settings given) (Sets at n) = depth_marked given at (slice_get given at)
+depth_next (Settings given) (Sets at n) = depth_marked given (index_of at) (slice_get given (index_of at))
 depth_next (Settings given) line = omega arith
 depth_next Classes Begins = omega arith
 depth_next Classes line = omega arith

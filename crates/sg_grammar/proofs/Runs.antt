@@ -10,9 +10,11 @@ use Rattle.sg_program.specs.declared.program.Script.{Script}
 use Rattle.sg_words.specs.Lists.{Pairwise}
 use Rattle.sg_grammar.specs.declared.order.Place.{Place}
 use Rattle.sg_grammar.specs.declared.order.Place.TheVariants.{Start, Settings, Classes, Within, Outside}
+use Rattle.sg_text.specs.declared.line.Setting.{Setting}
+use Rattle.sg_text.specs.declared.line.Setting.TheVariants.{Nursery, Blocks, Pages, Buffer, Workers, Cement}
 use Rattle.sg_text.specs.Lines.{Sentence, Sets, Declares, Begins, Ends}
-use Rattle.sg_grammar.specs.Text.{AreItems, NoItem, OneSays, OneMakes, NoRepeat, OneRepeat, AreScripts, IsClass, settings_of, IsSetting, IsAnyName, IsWhole, CanGoOn}
-use Rattle.sg_grammar.specs.Order.{none_given, marked, next, is_end}
+use Rattle.sg_grammar.specs.Text.{AreItems, NoItem, OneSays, OneMakes, NoRepeat, OneRepeat, AreScripts, IsClass, IsSetting, IsAnyName, IsWhole, CanGoOn}
+use Rattle.sg_grammar.specs.Order.{none_given, index_of, marked, next, is_end}
 
 -- the place behind a sentence, where the place before it is known
 abbrev pub moved : Option Place → Sentence → Option Place
@@ -90,13 +92,34 @@ get_same [] i x b = absurd (omega arith)
 get_same (y ∷ l) zero x b = refl
 get_same (y ∷ l) (suc i) x b = get_same l i x (omega arith)
 
+-- two settings with one index are the same
+setting_at : ℕ → Setting
+setting_at zero = Nursery
+setting_at (suc zero) = Blocks
+setting_at (suc (suc zero)) = Pages
+setting_at (suc (suc (suc zero))) = Buffer
+setting_at (suc (suc (suc (suc zero)))) = Workers
+setting_at (suc (suc (suc (suc (suc at))))) = Cement
+
+back : (setting : Setting) → setting_at (index_of setting) ≡ setting
+unfolding setting_at
+back Nursery = refl
+back Blocks = refl
+back Pages = refl
+back Buffer = refl
+back Workers = refl
+back Cement = refl
+
+pub same_setting : (a b : Setting) → index_of a ≡ index_of b → a ≡ b
+same_setting a b e = sym (back a) ∙ ap setting_at e ∙ back b
+
 -- no two sentences give one setting
 abbrev pub Once : List Sentence → Type 0
-Once l = (i j at n m : ℕ) → slice_get l i ≡ Some (Sets at n) → slice_get l j ≡ Some (Sets at m) → i ≡ j
+Once l = (i j : ℕ) (at : Setting) (n m : ℕ) → slice_get l i ≡ Some (Sets at n) → slice_get l j ≡ Some (Sets at m) → i ≡ j
 
 -- none of the sentences gives a setting that is marked
 abbrev pub AreFresh : List Bool → List Sentence → Type 0
-AreFresh given l = (k at n : ℕ) → slice_get l k ≡ Some (Sets at n) → slice_get given at ≡ Some false
+AreFresh given l = (k : ℕ) (at : Setting) (n : ℕ) → slice_get l k ≡ Some (Sets at n) → slice_get given (index_of at) ≡ Some false
 
 settings_run : (l : List Sentence) → AllByRecursion IsSetting l → Once l → (given : List Bool) → AreFresh given l →
     (after : List Bool) × (run (Some (Settings given)) l ≡ Some (Settings after))
@@ -106,25 +129,24 @@ settings_run (x ∷ l) p o given f =
     let n = p.0.1 in
     let e = p.0.2 in
     let fresh = f 0 at n (ap Some e) in
-    let h = settings_run l p.1 (λ i j b m k q r. let s = o (suc i) (suc j) b m k q r in omega arith) (slice_set given at true)
-    (λ k b m q. get_other given at b true (λ same. let s = o 0 (suc k) at n m (ap Some e) (q ∙ ap (λ c. Some (Sets c m)) same) in absurd (omega arith)) ∙ f (suc k) b m q) in
-    (h.0, ap (λ s. run (next (Settings given) s) l) e ∙ ap (λ s. run (marked given at s) l) fresh ∙ h.1)
+    let h = settings_run l p.1 (λ i j b m k q r. let s = o (suc i) (suc j) b m k q r in omega arith) (slice_set given (index_of at) true)
+    (λ k b m q. get_other given (index_of at) (index_of b) true (λ same. let s = o 0 (suc k) at n m (ap Some e) (q ∙ ap (λ c. Some (Sets c m)) (same_setting b at same)) in absurd (omega arith)) ∙ f (suc k) b m q) in
+    (h.0, ap (λ s. run (next (Settings given) s) l) e ∙ ap (λ s. run (marked given (index_of at) s) l) fresh ∙ h.1)
 
-fresh : (at n : ℕ) (c : Config) → slice_get (settings_of c) at ≡ Some n → slice_get none_given at ≡ Some false
-fresh zero n c e = refl
-fresh (suc zero) n c e = refl
-fresh (suc (suc zero)) n c e = refl
-fresh (suc (suc (suc zero))) n c e = refl
-fresh (suc (suc (suc (suc zero)))) n c e = refl
-fresh (suc (suc (suc (suc (suc zero))))) n c e = refl
-fresh (suc (suc (suc (suc (suc (suc at)))))) n c e = cc
+fresh : (at : Setting) → slice_get none_given (index_of at) ≡ Some false
+fresh Nursery = refl
+fresh Blocks = refl
+fresh Pages = refl
+fresh Buffer = refl
+fresh Workers = refl
+fresh Cement = refl
 
 pub whole_runs : (l : List Sentence) → IsWhole l → (place : Place) × (run (Some Start) l ≡ Some place) × (is_end place ≡ true)
 unfolding Finishes Opens
 whole_runs l w =
     let p = w.1 in
     let s = p.are_settings in
-    let a = settings_run p.settings s.settings s.once none_given (λ k at n e. fresh at n w.0.config (s.given at n (contains p.settings (Sets at n) k e))) in
+    let a = settings_run p.settings s.settings s.once none_given (λ k at n e. fresh at) in
     let b = classes_run p.classes w.0.classes p.are_classes (Settings a.0) (refl, refl, λ name shape. refl) in
     let c = scripts_run IsAnyName p.scripts w.0.mutators p.are_scripts b.0 b.2.0 b.2.1 in (
       c.0,

@@ -15,11 +15,12 @@ use Rattle.sg_words.specs.Lists.{Pairwise}
 use Rattle.sg_program.specs.Scripts.{repeated}
 use Rattle.sg_grammar.specs.declared.order.Place.{Place}
 use Rattle.sg_grammar.specs.declared.order.Place.TheVariants.{Start, Settings, Classes, Within, Outside}
+use Rattle.sg_text.specs.declared.line.Setting.{Setting}
+use Rattle.sg_text.specs.declared.line.Setting.TheVariants.{Nursery, Blocks, Pages, Buffer, Workers, Cement}
 use Rattle.sg_text.specs.Lines.{Maker, made_by, Sentence, Heads, Sets, Declares, Begins, Repeats, Ends, Makes, Says}
-use Rattle.sg_grammar.specs.Text.{AreItems, NoItem, OneSays, OneMakes, NoRepeat, OneRepeat, AreScripts, IsClass, settings_of, IsSetting, AreSettings, IsAnyName, IsProgram, IsWhole}
-use Rattle.sg_text.specs.Reading.{IsFinishedBy, IsPrefix}
-use Rattle.sg_grammar.specs.Order.{none_given, marked, closed, next, is_end}
-use Rattle.sg_grammar.proofs.Runs.{moved, run, is_in, contains, get_other, get_same, whole_runs}
+use Rattle.sg_grammar.specs.Text.{AreItems, NoItem, OneSays, OneMakes, NoRepeat, OneRepeat, AreScripts, IsClass, value_in, defaults, IsFinishedBy, IsPrefix, IsSetting, AreSettings, IsAnyName, IsProgram, IsWhole}
+use Rattle.sg_grammar.specs.Order.{none_given, index_of, marked, closed, next, is_end}
+use Rattle.sg_grammar.proofs.Runs.{moved, run, is_in, contains, get_other, get_same, same_setting, whole_runs}
 
 -- lists that grow at their end
 
@@ -151,42 +152,77 @@ all_more : (l : List Sentence) (x : Sentence) → AllByRecursion IsSetting l →
 all_more [] x p q = (q, tt)
 all_more (z ∷ l) x p q = (p.0, all_more l x p.1 q)
 
-with_at : Config → ℕ → ℕ → Config
-with_at c zero n = record c { nursery = n }
-with_at c (suc zero) n = record c { blocks = n }
-with_at c (suc (suc zero)) n = record c { pages = n }
-with_at c (suc (suc (suc zero))) n = record c { buffer = n }
-with_at c (suc (suc (suc (suc zero)))) n = record c { workers = n }
-with_at c (suc (suc (suc (suc (suc at))))) n = record c { cement = n }
+with_at : Config → Setting → ℕ → Config
+with_at c Nursery n = record c { nursery = n }
+with_at c Blocks n = record c { blocks = n }
+with_at c Pages n = record c { pages = n }
+with_at c Buffer n = record c { buffer = n }
+with_at c Workers n = record c { workers = n }
+with_at c Cement n = record c { cement = n }
 
-settings_with : (c : Config) (at n : ℕ) → at < 6 → settings_of (with_at c at n) ≡ slice_set (settings_of c) at n
+with_same : (c : Config) (at : Setting) (n : ℕ) → value_in (with_at c at n) at ≡ n
 unfolding with_at
-settings_with c zero n b = refl
-settings_with c (suc zero) n b = refl
-settings_with c (suc (suc zero)) n b = refl
-settings_with c (suc (suc (suc zero))) n b = refl
-settings_with c (suc (suc (suc (suc zero)))) n b = refl
-settings_with c (suc (suc (suc (suc (suc zero))))) n b = refl
-settings_with c (suc (suc (suc (suc (suc (suc at)))))) n b = absurd (omega arith)
+with_same c Nursery n = refl
+with_same c Blocks n = refl
+with_same c Pages n = refl
+with_same c Buffer n = refl
+with_same c Workers n = refl
+with_same c Cement n = refl
+
+with_other : (c : Config) (at b : Setting) (n : ℕ) → b ≢ at → value_in (with_at c at n) b ≡ value_in c b
+unfolding with_at
+with_other c Nursery Nursery n o = absurd (o refl)
+with_other c Nursery Blocks n o = refl
+with_other c Nursery Pages n o = refl
+with_other c Nursery Buffer n o = refl
+with_other c Nursery Workers n o = refl
+with_other c Nursery Cement n o = refl
+with_other c Blocks Nursery n o = refl
+with_other c Blocks Blocks n o = absurd (o refl)
+with_other c Blocks Pages n o = refl
+with_other c Blocks Buffer n o = refl
+with_other c Blocks Workers n o = refl
+with_other c Blocks Cement n o = refl
+with_other c Pages Nursery n o = refl
+with_other c Pages Blocks n o = refl
+with_other c Pages Pages n o = absurd (o refl)
+with_other c Pages Buffer n o = refl
+with_other c Pages Workers n o = refl
+with_other c Pages Cement n o = refl
+with_other c Buffer Nursery n o = refl
+with_other c Buffer Blocks n o = refl
+with_other c Buffer Pages n o = refl
+with_other c Buffer Buffer n o = absurd (o refl)
+with_other c Buffer Workers n o = refl
+with_other c Buffer Cement n o = refl
+with_other c Workers Nursery n o = refl
+with_other c Workers Blocks n o = refl
+with_other c Workers Pages n o = refl
+with_other c Workers Buffer n o = refl
+with_other c Workers Workers n o = absurd (o refl)
+with_other c Workers Cement n o = refl
+with_other c Cement Nursery n o = refl
+with_other c Cement Blocks n o = refl
+with_other c Cement Pages n o = refl
+with_other c Cement Buffer n o = refl
+with_other c Cement Workers n o = refl
+with_other c Cement Cement n o = absurd (o refl)
 
 -- settings that were read, with what is given
 record AreGiven (l : List Sentence) (given : List Bool) : Type 0 where
   config : Config
   settings : AreSettings l config
-  six : length given ≡ 6
-  mark : (k at n : ℕ) → slice_get l k ≡ Some (Sets at n) → slice_get given at ≡ Some true
+  mark : (k : ℕ) (at : Setting) (n : ℕ) → slice_get l k ≡ Some (Sets at n) → slice_get given (index_of at) ≡ Some true
 
 true_false : {A : Type 0} → {o : Option Bool} → o ≡ Some true → o ≡ Some false → A
 true_false p q = cc
 
-given_more : (l : List Sentence) (given : List Bool) (at n : ℕ) → AreGiven l given → slice_get given at ≡ Some false → AreGiven (l ++ Sets at n ∷ []) (slice_set given at true)
+given_more : (l : List Sentence) (given : List Bool) (at : Setting) (n : ℕ) → AreGiven l given → slice_get given (index_of at) ≡ Some false → AreGiven (l ++ Sets at n ∷ []) (slice_set given (index_of at) true)
 given_more l given at n g f =
     let s = g.settings in
-    let below : at < length given = slice_get_within given at false f in
-    let small : at < 6 = subst (λ m. at < m) g.six below in
-    let as_set = settings_with g.config at n small in
-    let apart : (k b m : ℕ) → slice_get l k ≡ Some (Sets b m) → b ≢ at =
-    λ k b m e same. true_false (g.mark k b m e) (ap (slice_get given) same ∙ f) in
+    let below : index_of at < length given = slice_get_within given (index_of at) false f in
+    let apart : (k : ℕ) (b : Setting) (m : ℕ) → slice_get l k ≡ Some (Sets b m) → b ≢ at =
+    λ k b m e same. true_false (g.mark k b m e) (ap (λ x. slice_get given (index_of x)) same ∙ f) in
     record {
       config = with_at g.config at n;
       settings = record {
@@ -202,35 +238,33 @@ given_more l given at n g f =
           ]
         ];
         given = λ b m c. let i = is_in (l ++ Sets at n ∷ []) (Sets b m) c in elim (at_end l (Sets at n) (Sets b m) i.0 i.1) [
-          | inl u ↦ ap (λ x. slice_get x b) as_set ∙ get_other (settings_of g.config) at b n (apart i.0 b m u) ∙ s.given b m (contains l (Sets b m) i.0 u)
+          | inl u ↦ with_other g.config at b n (apart i.0 b m u) ∙ s.given b m (contains l (Sets b m) i.0 u)
           | inr u ↦
               let u1 = u.1 in
               let same : at ≡ b = cc in
               let value : n ≡ m = cc in
-              ap (λ x. slice_get x b) as_set ∙ ap (slice_get (slice_set (settings_of g.config) at n)) (sym same) ∙ get_same (settings_of g.config) at n small ∙ ap Some value
+              ap (value_in (with_at g.config at n)) (sym same) ∙ with_same g.config at n ∙ value
         ];
         else = λ b none.
             let other : b ≢ at = λ same. none n (contains (l ++ Sets at n ∷ []) (Sets b n) (length l) (last l (Sets at n) ∙ ap (λ k. Some (Sets k n)) (sym same))) in
-            ap (λ x. slice_get x b) as_set ∙ get_other (settings_of g.config) at b n other
+            with_other g.config at b n other
             ∙ s.else b (λ m c. let i = is_in l (Sets b m) c in none m (contains (l ++ Sets at n ∷ []) (Sets b m) i.0 (before_end l (Sets at n ∷ []) (Sets b m) i.0 i.1)));
       };
-      six = length-set given at true ∙ g.six;
       mark = λ k b m e. elim (at_end l (Sets at n) (Sets b m) k e) [
-        | inl u ↦ get_other given at b true (apart k b m u) ∙ g.mark k b m u
-        | inr u ↦ let u1 = u.1 in let same : at ≡ b = cc in ap (slice_get (slice_set given at true)) (sym same) ∙ get_same given at true below
+        | inl u ↦ get_other given (index_of at) (index_of b) true (λ same. apart k b m u (same_setting b at same)) ∙ g.mark k b m u
+        | inr u ↦ let u1 = u.1 in let same : at ≡ b = cc in ap (λ x. slice_get (slice_set given (index_of at) true) (index_of x)) (sym same) ∙ get_same given (index_of at) true below
       ];
     }
 
 none_read : AreGiven [] none_given
 none_read = record {
-  config = record { nursery = 4096; blocks = 64; pages = 64; buffer = 64; workers = 1; cement = 4 };
+  config = defaults;
   settings = record {
     settings = tt;
     once = λ i j at n m e h. cc;
     given = λ at n c. absurd (omega (arith, c.1));
     else = λ at none. refl;
   };
-  six = refl;
   mark = λ k at n e. cc;
 }
 
@@ -267,8 +301,8 @@ begin l w = (l, [], refl, w, ([], NoItem))
 is_whole : (l : List Sentence) → IsOpening l → IsWhole l
 is_whole l o = (o.0, o.1)
 
-marks : (l settings : List Sentence) (given : List Bool) (at n : ℕ) → l ≡ Heads ∷ settings → AreGiven settings given →
-    (o : Option Bool) → slice_get given at ≡ o → StandsAt (marked given at o) (l ++ Sets at n ∷ [])
+marks : (l settings : List Sentence) (given : List Bool) (at : Setting) (n : ℕ) → l ≡ Heads ∷ settings → AreGiven settings given →
+    (o : Option Bool) → slice_get given (index_of at) ≡ o → StandsAt (marked given (index_of at) o) (l ++ Sets at n ∷ [])
 marks l settings given at n e g None q = tt
 marks l settings given at n e g (Some true) q = tt
 marks l settings given at n e g (Some false) q = (settings ++ Sets at n ∷ [], ap (λ w. w ++ Sets at n ∷ []) e, given_more settings given at n g q)
@@ -286,7 +320,7 @@ inside depth l m s h = (s.0, s.1 ++ m, deeper l m s.0 s.1 s.2, s.3, open_more de
 stands_next : (place : Place) (line : Sentence) (l : List Sentence) → Stands place l → StandsAt (next place line) (l ++ line ∷ [])
 stands_next Start Heads l s = ([], ap (λ w. w ++ Heads ∷ []) s, none_read)
 stands_next Start line l s = tt
-stands_next (Settings given) (Sets at n) l s = marks l s.0 given at n s.1 s.2 (slice_get given at) refl
+stands_next (Settings given) (Sets at n) l s = marks l s.0 given at n s.1 s.2 (slice_get given (index_of at)) refl
 stands_next (Settings given) (Declares name shape) l s = class_more l name shape (opening l s.0 given s.1 s.2)
 stands_next (Settings given) Begins l s = begin l (is_whole l (opening l s.0 given s.1 s.2))
 stands_next (Settings given) line l s = tt

@@ -10,11 +10,19 @@ use Rattle.sg_program.specs.declared.program.Item.TheOpen.{One, Repeat}
 use Rattle.sg_program.specs.declared.program.Script.{Script}
 use Rattle.sg_program.specs.declared.program.Program.{Program}
 use Rattle.sg_words.specs.Lists.{Pairwise}
+use Rattle.sg_text.specs.declared.line.Setting.{Setting}
+use Rattle.sg_text.specs.declared.line.Setting.TheVariants.{Nursery, Blocks, Pages, Buffer, Workers, Cement}
+use Rattle.sg_text.specs.Words.{lines_of}
+use Rattle.sg_text.specs.Numbered.{Numbered, sentences}
+use Rattle.sg_text.specs.Laws.{HaveOneSaying}
 use Rattle.sg_text.specs.Lines.{made_by, Sentence, Sets, Declares, Repeats, Ends, Makes, Says}
-use Rattle.sg_grammar.specs.Text.{AreItems, NoItem, OneSays, OneMakes, NoRepeat, OneRepeat, AreScripts, IsClass, settings_of, IsSetting, AreSettings, IsProgram, StandsFor}
+use Rattle.sg_grammar.specs.Text.{AreItems, NoItem, OneSays, OneMakes, NoRepeat, OneRepeat, AreScripts, IsClass, value_in, IsSetting, AreSettings, IsProgram, StandsFor, HasOneReading}
+use Rattle.sg_grammar.specs.Order.{index_of}
+use Rattle.sg_grammar.specs.Laws.{AreOneBody, HaveOneProgram}
+use Rattle.sg_grammar.proofs.Runs.{same_setting}
 
 -- a name stands for one class at most
-pub IsFunctional : (List ℕ → ℕ → Type 0) → Type 0
+IsFunctional : (List ℕ → ℕ → Type 0) → Type 0
 IsFunctional names = (word : List ℕ) (c d : ℕ) → names word c → names word d → c ≡ d
 
 same_item : (a b : Item) → out-Item a ≡ out-Item b → a ≡ b
@@ -48,17 +56,11 @@ tagged after (OneMakes maker r class name rest item items n o d) = refl
 tagged after (NoRepeat times body rest whole items e b d) = ap tag (opened times body rest whole after e)
 tagged after (OneRepeat times body rest whole item inner items e b n o d) = ap tag (opened times body rest whole after e)
 
--- two readings agree on where items end, and on the items
-pub record Same (l m : List Sentence) (i j : List Item) (r s : List Sentence) : Type 0 where
-  pub lines : l ≡ m
-  pub items : i ≡ j
-  pub rest : r ≡ s
-
 tail_of : (x y : Sentence) (l m : List Sentence) → x ∷ l ≡ y ∷ m → l ≡ m
 tail_of x y l m e = cc
 
-pub one_body : (names : List ℕ → ℕ → Type 0) → IsFunctional names → (r s : List Sentence) {l m : List Sentence} {i j : List Item} →
-    AreItems names l i → AreItems names m j → l ++ Ends ∷ r ≡ m ++ Ends ∷ s → Same l m i j r s
+one_body : (names : List ℕ → ℕ → Type 0) → IsFunctional names → (r s : List Sentence) {l m : List Sentence} {i j : List Item} →
+    AreItems names l i → AreItems names m j → l ++ Ends ∷ r ≡ m ++ Ends ∷ s → AreOneBody l m i j r s
 unfolding IsFunctional tag_of
 one_body names f r s NoItem NoItem e = record { lines = refl; items = refl; rest = tail_of _ _ _ _ e }
 one_body names f r s (OneSays s1 r1 i1 k1 o1 d1) (OneSays s2 r2 i2 k2 o2 d2) e =
@@ -165,23 +167,23 @@ stop_settings names [] l (y ∷ ys) a c p = absurd c
 stop_settings names (s ∷ k) l [] a c p = absurd c
 stop_settings names (s ∷ k) l (y ∷ ys) a c p = λ d. let e = d.2 in let g = c.0 in cc
 
-pub not_head : (at : ℕ) (x : Sentence) (l : List Sentence) (s : IsSetting x) → s.0 ≢ at → ((n : ℕ) → ¬ Contains l (Sets at n)) →
+not_head : (at : Setting) (x : Sentence) (l : List Sentence) (s : IsSetting x) → s.0 ≢ at → ((n : ℕ) → ¬ Contains l (Sets at n)) →
     (n k : ℕ) → k < length (x ∷ l) → slice_index_or (x ∷ l) k (Sets at n) ≡ Sets at n → ⊥
 not_head at x l s o g n zero b e = let d = s.2 in let q : s.0 ≡ at = cc in o q
 not_head at x l s o g n (suc k) b e = g n (k, omega arith, e)
 
 -- a setting is given by some sentence or by none
-pub gives : (at : ℕ) (l : List Sentence) → AllByRecursion IsSetting l → ((n : ℕ) × Contains l (Sets at n)) ⊎ ((n : ℕ) → ¬ Contains l (Sets at n))
+gives : (at : Setting) (l : List Sentence) → AllByRecursion IsSetting l → ((n : ℕ) × Contains l (Sets at n)) ⊎ ((n : ℕ) → ¬ Contains l (Sets at n))
 gives at [] p = inr (λ n c. absurd (omega (arith, c.1)))
-gives at (x ∷ l) p = elim (cases_eq p.0.0 at) [
-  | inl e ↦ inl (p.0.1, (0, omega arith, p.0.2 ∙ ap (λ k. Sets k p.0.1) e))
+gives at (x ∷ l) p = elim (cases_eq (index_of p.0.0) (index_of at)) [
+  | inl e ↦ inl (p.0.1, (0, omega arith, p.0.2 ∙ ap (λ k. Sets k p.0.1) (same_setting p.0.0 at e)))
   | inr o ↦ elim (gives at l p.1) [
     | inl g ↦ let g1 = g.1 in inl (g.0, (suc g1.0, omega arith, g1.2))
-    | inr g ↦ inr (λ n c. not_head at x l p.0 o g n c.0 c.1 c.2)
+    | inr g ↦ inr (λ n c. not_head at x l p.0 (λ e. o (ap index_of e)) g n c.0 c.1 c.2)
   ]
 ]
 
-one_value : (l : List Sentence) (a b : Config) → AreSettings l a → AreSettings l b → (at : ℕ) → slice_get (settings_of a) at ≡ slice_get (settings_of b) at
+one_value : (l : List Sentence) (a b : Config) → AreSettings l a → AreSettings l b → (at : Setting) → value_in a at ≡ value_in b at
 one_value l a b p q at = elim (gives at l p.settings) [
   | inl g ↦ p.given at g.0 g.1 ∙ sym (q.given at g.0 g.1)
   | inr g ↦ p.else at g ∙ sym (q.else at g)
@@ -190,15 +192,9 @@ one_value l a b p q at = elim (gives at l p.settings) [
 one_config : (l : List Sentence) (a b : Config) → AreSettings l a → AreSettings l b → a ≡ b
 one_config l a b p q =
     let v = one_value l a b p q in
-    let e0 : a.nursery ≡ b.nursery = cc (v 0) in
-    let e1 : a.blocks ≡ b.blocks = cc (v 1) in
-    let e2 : a.pages ≡ b.pages = cc (v 2) in
-    let e3 : a.buffer ≡ b.buffer = cc (v 3) in
-    let e4 : a.workers ≡ b.workers = cc (v 4) in
-    let e5 : a.cement ≡ b.cement = cc (v 5) in
-    λ i. record { nursery = e0 i; blocks = e1 i; pages = e2 i; buffer = e3 i; workers = e4 i; cement = e5 i }
+    λ i. record { nursery = v Nursery i; blocks = v Blocks i; pages = v Pages i; buffer = v Buffer i; workers = v Workers i; cement = v Cement i }
 
-pub functional : (classes : List Class) → IsFunctional (StandsFor classes)
+functional : (classes : List Class) → IsFunctional (StandsFor classes)
 unfolding IsFunctional
 functional classes word c d p q = elim (cases_lt c d) [
   | inl l ↦ absurd (q.first c l p.named)
@@ -209,11 +205,11 @@ functional classes word c d p q = elim (cases_lt c d) [
 ]
 
 -- a name stands for one class
-pub one_class : (classes : List Class) (word : List ℕ) (c d : ℕ) → StandsFor classes word c → StandsFor classes word d → c ≡ d
+one_class : (classes : List Class) (word : List ℕ) (c d : ℕ) → StandsFor classes word c → StandsFor classes word d → c ≡ d
 unfolding IsFunctional
 one_class classes = functional classes
 
-pub one_program : (lines : List Sentence) (p q : Program) → IsProgram (StandsFor p.classes) lines p → IsProgram (StandsFor q.classes) lines q → p ≡ q
+one_program : (lines : List Sentence) (p q : Program) → IsProgram (StandsFor p.classes) lines p → IsProgram (StandsFor q.classes) lines q → p ≡ q
 one_program lines p q a b =
     let e = tail_of _ _ _ _ (sym a.in_order ∙ b.in_order) in
     let e1 = sym (append_assoc a.settings a.classes a.scripts) ∙ e ∙ append_assoc b.settings b.classes b.scripts in
@@ -226,3 +222,18 @@ one_program lines p q a b =
     let moved : AreScripts (StandsFor q.classes) a.scripts p.mutators = subst (λ k. AreScripts (StandsFor k) a.scripts p.mutators) classes a.are_scripts in
     let mutators : p.mutators ≡ q.mutators = one_script (StandsFor q.classes) (functional q.classes) a.scripts b.scripts p.mutators q.mutators moved b.are_scripts c.1 in
     λ i. record { config = config i; classes = classes i; mutators = mutators i }
+
+pub have_one_program : HaveOneProgram
+have_one_program = record {
+  class = one_class;
+  body = λ classes l m r s i j a b e. one_body (StandsFor classes) (functional classes) r s a b e;
+  program = one_program;
+}
+
+-- no text reads as two programs
+pub has_one_reading : HaveOneSaying → HaveOneProgram → HasOneReading
+has_one_reading saying law = record {
+  one = λ bytes p q r s.
+      law.program (sentences r.0) p q r.2
+      (subst (λ (l : List Numbered). IsProgram (StandsFor q.classes) (sentences l) q) (saying.one (lines_of bytes) s.0 r.0 s.1 r.1) s.2);
+}

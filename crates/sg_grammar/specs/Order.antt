@@ -3,13 +3,24 @@ use Rattle.std.specs.Prelude.{ℕ, zero, suc, Bool, true, false, Option, Some, N
 use Rattle.std.specs.List.{slice_set}
 use Rattle.sg_grammar.specs.declared.order.Place.{Place}
 use Rattle.sg_grammar.specs.declared.order.Place.TheVariants.{Start, Settings, Classes, Within, Outside}
+use Rattle.sg_text.specs.declared.line.Setting.{Setting}
+use Rattle.sg_text.specs.declared.line.Setting.TheVariants.{Nursery, Blocks, Pages, Buffer, Workers, Cement}
 use Rattle.sg_text.specs.Lines.{Sentence, Heads, Sets, Declares, Begins, Repeats, Ends, Makes, Says}
 
 -- no setting is given yet
 abbrev pub none_given : List Bool
 none_given = false ∷ false ∷ false ∷ false ∷ false ∷ false ∷ []
 
--- setting `at` is given, which was given before or not; or there is no such setting
+-- the place of a setting among the six
+abbrev pub index_of : Setting → ℕ
+index_of Nursery = 0
+index_of Blocks = 1
+index_of Pages = 2
+index_of Buffer = 3
+index_of Workers = 4
+index_of Cement = 5
+
+-- the setting with this index is given, which was given before or not; or there is no such setting
 abbrev pub marked : List Bool → ℕ → Option Bool → Option Place
 marked given at (Some false) = Some (Settings (slice_set given at true))
 marked given at (Some true) = None
@@ -20,7 +31,7 @@ from_start Heads = Some (Settings none_given)
 from_start line = None
 
 abbrev pub from_settings : List Bool → Sentence → Option Place
-from_settings given (Sets at n) = marked given at (slice_get given at)
+from_settings given (Sets setting n) = marked given (index_of setting) (slice_get given (index_of setting))
 from_settings given (Declares name shape) = Some Classes
 from_settings given Begins = Some (Within 0)
 from_settings given line = None

@@ -1,6 +1,6 @@
 -- The grammar of the input: which programs a text reads as, and which line it refuses first. It speaks of the list of lines.
-use Rattle.std.specs.Prelude.{◌≡◌, ◌≢◌, ℕ, suc, ◌<◌, ◌⊎◌, IsTrue, Some, List, [], ◌∷◌, ◌++◌, length, take, slice_get}
-use Rattle.std.specs.List.{Contains, list_all, AllByRecursion}
+use Rattle.std.specs.Prelude.{◌≡◌, ◌≢◌, ℕ, suc, ◌<◌, ◌⊎◌, Some, List, [], ◌∷◌, ◌++◌, length, take, slice_get}
+use Rattle.std.specs.List.{Contains, AllByRecursion}
 use Rattle.std.specs.Prelude.{map}
 use Rattle.sg_program.specs.declared.program.Config.{Config}
 use Rattle.sg_program.specs.declared.program.Class.{Class}
@@ -10,8 +10,12 @@ use Rattle.sg_program.specs.declared.program.Item.TheOpen.{One, Repeat}
 use Rattle.sg_program.specs.declared.program.Script.{Script}
 use Rattle.sg_program.specs.declared.program.Program.{Program}
 use Rattle.sg_words.specs.Lists.{Pairwise}
-use Rattle.sg_text.specs.Words.{is_proper, lines_of, content}
-use Rattle.sg_text.specs.Lines.{Maker, made_by, Sentence, Heads, Sets, Declares, Begins, Repeats, Ends, Makes, Says, IsLine}
+use Rattle.sg_program.specs.Scripts.{repeated}
+use Rattle.sg_text.specs.declared.line.Setting.{Setting}
+use Rattle.sg_text.specs.declared.line.Setting.TheVariants.{Nursery, Blocks, Pages, Buffer, Workers, Cement}
+use Rattle.sg_text.specs.Words.{lines_of}
+use Rattle.sg_text.specs.Lines.{Maker, made_by, Sentence, Heads, Sets, Declares, Begins, Repeats, Ends, Makes, Says}
+use Rattle.sg_text.specs.Numbered.{Numbered, sentences, Say}
 
 -- The sentences are those of the items, where a name stands for the class with this number by `names`. A repeat without a
 -- statement in it, at any depth, is no item.
@@ -37,22 +41,28 @@ AreScripts names lines (script ∷ scripts) =
 abbrev pub IsClass : Sentence → Class → Type 0
 IsClass line class = line ≡ Declares class.name class.shape
 
--- the settings in the order of their names, and what they are where no line gives them
-abbrev pub settings_of : Config → List ℕ
-settings_of config = config.nursery ∷ config.blocks ∷ config.pages ∷ config.buffer ∷ config.workers ∷ config.cement ∷ []
+-- the value of a setting
+abbrev pub value_in : Config → Setting → ℕ
+value_in config Nursery = config.nursery
+value_in config Blocks = config.blocks
+value_in config Pages = config.pages
+value_in config Buffer = config.buffer
+value_in config Workers = config.workers
+value_in config Cement = config.cement
 
-abbrev pub defaults : List ℕ
-defaults = 4096 ∷ 64 ∷ 64 ∷ 64 ∷ 1 ∷ 4 ∷ []
+-- the settings where no line gives any
+abbrev pub defaults : Config
+defaults = record { nursery = 4096; blocks = 64; pages = 64; buffer = 64; workers = 1; cement = 4 }
 
 abbrev pub IsSetting : Sentence → Type 0
-IsSetting line = (at n : ℕ) × (line ≡ Sets at n)
+IsSetting line = (setting : Setting) × (n : ℕ) × (line ≡ Sets setting n)
 
 -- each sentence gives a setting, no two give the same one, and each setting has the value that is given or else its default
 pub record AreSettings (lines : List Sentence) (config : Config) : Type 0 where
   pub settings : AllByRecursion IsSetting lines
-  pub once : (i j at n m : ℕ) → slice_get lines i ≡ Some (Sets at n) → slice_get lines j ≡ Some (Sets at m) → i ≡ j
-  pub given : (at n : ℕ) → Contains lines (Sets at n) → slice_get (settings_of config) at ≡ Some n
-  pub else : (at : ℕ) → ((n : ℕ) → ¬ Contains lines (Sets at n)) → slice_get (settings_of config) at ≡ slice_get defaults at
+  pub once : (i j : ℕ) (setting : Setting) (n m : ℕ) → slice_get lines i ≡ Some (Sets setting n) → slice_get lines j ≡ Some (Sets setting m) → i ≡ j
+  pub given : (setting : Setting) (n : ℕ) → Contains lines (Sets setting n) → value_in config setting ≡ n
+  pub else : (setting : Setting) → ((n : ℕ) → ¬ Contains lines (Sets setting n)) → value_in config setting ≡ value_in defaults setting
 
 -- the sentences are those of the program: its head, its settings, its classes and its scripts
 pub record IsProgram (names : List ℕ → ℕ → Type 0) (lines : List Sentence) (p : Program) : Type 0 where
@@ -85,14 +95,21 @@ IsWhole lines = (p : Program) × IsProgram IsAnyName lines p
 abbrev pub CanGoOn : List Sentence → Type 0
 CanGoOn lines = (more : List Sentence) × IsWhole (lines ++ more)
 
--- the lines say this: outside comments each has blanks and printable bytes alone, and each one that has words is a sentence
-pub record Say (lines : List (List ℕ)) (sentences : List Sentence) : Type 0 where
-  pub proper : IsTrue (list_all is_proper lines)
-  pub each : Pairwise IsLine (content lines) sentences
+-- the sentences and n ends are a whole text
+abbrev pub IsFinishedBy : List Sentence → ℕ → Type 0
+IsFinishedBy lines n = IsWhole (lines ++ repeated n (Ends ∷ []))
+
+-- a text may begin with the sentences: there are none, or some number of ends makes them whole
+abbrev pub IsPrefix : List Sentence → Type 0
+IsPrefix lines = (lines ≡ []) ⊎ ((n : ℕ) × IsFinishedBy lines n)
+
+-- the lines are a text of the grammar, which says this
+abbrev pub IsTextOf : List (List ℕ) → List Numbered → Type 0
+IsTextOf lines found = Say lines found × IsWhole (sentences found)
 
 -- the lines are a text of the grammar
 abbrev pub IsText : List (List ℕ) → Type 0
-IsText lines = (sentences : List Sentence) × Say lines sentences × IsWhole sentences
+IsText lines = (found : List Numbered) × IsTextOf lines found
 
 -- the lines are a prefix of some text
 abbrev pub MayGoOn : List (List ℕ) → Type 0
@@ -107,7 +124,7 @@ IsFirstRefused lines k =
 
 -- the bytes read as the program
 abbrev pub Reads : List ℕ → Program → Type 0
-Reads bytes p = (sentences : List Sentence) × Say (lines_of bytes) sentences × IsProgram (StandsFor p.classes) sentences p
+Reads bytes p = (found : List Numbered) × Say (lines_of bytes) found × IsProgram (StandsFor p.classes) (sentences found) p
 
 -- a text has at most one reading
 pub record HasOneReading : Type 0 where

@@ -1,15 +1,15 @@
 //! Whether sentences stand in the order that the grammar gives them.
 ghost use Rattle.std.specs.Prelude.{◌≡◌, ℕ, suc, ◌^◌, ◌<◌, ◌≤◌, length, map, take, slice_get};
-ghost use Rattle.sg_text.specs.Reading.{sentence_of, IsPrefix};
-ghost use Rattle.sg_grammar.specs.Text.{IsWhole, CanGoOn};
-ghost use Rattle.sg_grammar.specs.Order.{marked, from_start, from_settings, from_classes, from_within, from_outside, next, depth_of, is_end};
+ghost use Rattle.sg_text.specs.Reading.{sentence_of};
+ghost use Rattle.sg_grammar.specs.Text.{IsWhole, IsPrefix, CanGoOn};
+ghost use Rattle.sg_grammar.specs.Order.{index_of, marked, from_start, from_settings, from_classes, from_within, from_outside, next, depth_of, is_end};
 ghost use Rattle.sg_grammar.specs.declared.order.Order.TheVariants.{Whole, Unfinished, Misplaced};
 
-use crate::line::Line;
+use sg_text::{Line, Setting};
 
 /// Whether sentences are a whole text.
 #[derive(Clone, Copy, Debug, PartialEq, Eq)]
-pub(crate) enum Order {
+pub enum Order {
     /// They are.
     Whole,
     /// They are the beginning of one.
@@ -33,16 +33,32 @@ enum Place {
     Outside,
 }
 
-/// The place behind the setting `at`, if there is such a setting and it isn't given yet.
-fn mark(given: [bool; 6], at: usize) -> Option<Place>
-    ensures { result ≡ marked given at (slice_get given at) }
+/// The place of a setting among the six.
+fn index_of(setting: Setting) -> usize
+    ensures value { result ≡ index_of setting }
+    ensures below { result < 6 }
 {
-    if at < 6 && !given[at] {
-        let mut more = given;
-        more[at] = true;
-        return Some(Place::Settings { given: more });
+    match setting {
+        Setting::Nursery => 0,
+        Setting::Blocks => 1,
+        Setting::Pages => 2,
+        Setting::Buffer => 3,
+        Setting::Workers => 4,
+        Setting::Cement => 5,
     }
-    None
+}
+
+/// The place behind a setting, if it isn't given yet.
+fn mark(given: [bool; 6], setting: Setting) -> Option<Place>
+    ensures { result ≡ marked given (index_of setting) (slice_get given (index_of setting)) }
+{
+    let at = index_of(setting);
+    if given[at] {
+        return None;
+    }
+    let mut more = given;
+    more[at] = true;
+    Some(Place::Settings { given: more })
 }
 
 /// The place behind a line that stands first.
@@ -60,7 +76,7 @@ fn in_settings(given: [bool; 6], line: &Line<'_>) -> Option<Place>
     ensures { result ≡ from_settings given (sentence_of line.now) }
 {
     match line {
-        Line::Setting { at, .. } => mark(given, *at),
+        Line::Setting { setting, .. } => mark(given, *setting),
         Line::Class { .. } => Some(Place::Classes),
         Line::Mutator => Some(Place::Within { depth: 0 }),
         _ => None,
@@ -126,8 +142,8 @@ fn may_end(place: Place) -> bool
     }
 }
 
-/// Whether the lines stand in the order of a whole text.
-pub(crate) fn order_of(lines: &[Line<'_>]) -> Order
+/// Whether the lines stand in the order of a whole text. Linear in the lines.
+pub fn order_of(lines: &[Line<'_>]) -> Order
     ensures whole { result ≡ Whole → IsWhole (map sentence_of lines.now) }
     ensures unfinished { result ≡ Unfinished → IsPrefix (map sentence_of lines.now) × ¬ IsWhole (map sentence_of lines.now) }
     ensures misplaced { (i : ℕ) → result ≡ Misplaced i → (i < length lines.now) × IsPrefix (take i (map sentence_of lines.now)) × ¬ CanGoOn (take (suc i) (map sentence_of lines.now)) }
@@ -148,7 +164,7 @@ pub(crate) fn order_of(lines: &[Line<'_>]) -> Order
 #[cfg(test)]
 mod tests {
     use super::{Order, order_of};
-    use crate::line::{Form, Line};
+    use sg_text::{Form, Line, Setting};
     use sg_program::Statement;
     use std::alloc::Global;
     use std::test::Fail;
@@ -162,14 +178,14 @@ mod tests {
 
     const REPEAT: Line<'static> = Line::Repeat { times: 3 };
 
-    fn setting(at: usize) -> Line<'static> {
-        Line::Setting { at, n: 7 }
+    fn setting(setting: Setting) -> Line<'static> {
+        Line::Setting { setting, n: 7 }
     }
 
     #[test]
     fn texts_that_are_whole(rt: HostRuntime) {
         assert!(rt; order_of(&[Line::Head]) == Order::Whole);
-        assert!(rt; order_of(&[Line::Head, setting(5), setting(0), PAIR]) == Order::Whole);
+        assert!(rt; order_of(&[Line::Head, setting(Setting::Cement), setting(Setting::Nursery), PAIR]) == Order::Whole);
         assert!(rt;
             order_of(&[
                 Line::Head,
@@ -211,10 +227,9 @@ mod tests {
         let fourth = Order::Misplaced { index: 3 };
         assert!(rt; order_of(&[Line::Mutator, Line::End]) == first);
         assert!(rt; order_of(&[Line::Head, Line::Head]) == second);
-        assert!(rt; order_of(&[Line::Head, setting(6)]) == second);
         assert!(rt; order_of(&[Line::Head, PUSH]) == second);
-        assert!(rt; order_of(&[Line::Head, setting(0), setting(0)]) == third);
-        assert!(rt; order_of(&[Line::Head, PAIR, setting(0)]) == third);
+        assert!(rt; order_of(&[Line::Head, setting(Setting::Nursery), setting(Setting::Nursery)]) == third);
+        assert!(rt; order_of(&[Line::Head, PAIR, setting(Setting::Nursery)]) == third);
         assert!(rt; order_of(&[Line::Head, Line::Mutator, Line::Mutator]) == third);
         assert!(rt; order_of(&[Line::Head, Line::Mutator, Line::End, Line::End]) == fourth);
         assert!(rt; order_of(&[Line::Head, Line::Mutator, Line::End, PAIR]) == fourth);

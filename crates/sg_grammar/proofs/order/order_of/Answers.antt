@@ -1,6 +1,5 @@
 use Rattle.std.proofs.Common.{◌≡◌, ◌<◌, suc, length, subst, sym, ◌∙◌}
-use Rattle.sg_grammar.specs.Text.{CanGoOn}
-use Rattle.sg_text.specs.Reading.{IsPrefix}
+use Rattle.sg_grammar.specs.Text.{CanGoOn, IsPrefix}
 use Rattle.sg_grammar.proofs.Ordered.{said_by, goes_on, depth_after, misplaced, whole_read, part_read}
 use Rattle.sg_grammar.proofs.order.order_of.Goals as goal
 
