@@ -1,3 +1,4 @@
 pub mod Puts
 pub mod Closure
 pub mod Distinct
+pub mod Everywhere
