@@ -12,7 +12,8 @@ use Rattle.sg_text.specs.declared.line.Line.{Line}
 use Rattle.sg_text.specs.Lines.{Sentence}
 use Rattle.sg_parse.specs.Faults.{class_in, classes_in, is_begin, IsMisnamed}
 use Rattle.sg_parse.specs.Names.{Misnames}
-use Rattle.sg_text.specs.Reading.{sentence_of, IsFirstIn, HasNoneIn}
+use Rattle.sg_text.specs.Reading.{sentence_of}
+use Rattle.sg_parse.specs.Indices.{IsFirstIn, HasNoneIn}
 
 -- none of the first i sentences has the fault
 abbrev pub HasNoneBelow : (List Sentence → Sentence → Type 0) → List Sentence → ℕ → Type 0

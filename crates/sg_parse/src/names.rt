@@ -6,8 +6,8 @@ ghost use Rattle.sg_parse.specs.Names.{class_of, classes_of, AreDistinct, Misnam
 ghost use Rattle.sg_text.specs.Reading.{maker_of, shape_in, sentence_of};
 ghost use Rattle.sg_grammar.specs.Text.{IsClassName, StandsFor};
 
-use crate::line::{Form, Line, Maker};
 use indexmap::IndexMap;
+use sg_text::{Form, Line, Maker};
 use std::alloc::{AllocError, Global};
 
 /// The classes of a text by their names, in the order of their lines.

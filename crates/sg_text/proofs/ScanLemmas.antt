@@ -8,7 +8,7 @@ use Rattle.sg_text.specs.Words.{is_proper, words_of, lines_of}
 use Rattle.sg_text.specs.Lines.{Sentence, IsLine}
 use Rattle.sg_text.specs.Numbered.{Numbered, SayBelow, Say}
 use Rattle.sg_text.specs.Reading.{numbered, AreRead, IsNoLine, IsScan}
-use Rattle.sg_text.proofs.OneSentence.{at}
+use Rattle.sg_text.proofs.OneSentence.{at, say_append}
 
 -- ---- lists with one more
 
@@ -27,18 +27,6 @@ numbered_push (m ∷ numbers) [] n s e = absurd (omega (arith, e))
 numbered_push (m ∷ numbers) (t ∷ said) n s e = ap (λ (l : List Numbered). at m t ∷ l) (numbered_push numbers said n s (omega (arith, e)))
 
 -- ---- a line more
-
-say_append : (above : ℕ) (lines more : List (List ℕ)) (found after : List Numbered) → SayBelow above lines found → SayBelow (above + length lines) more after → SayBelow above (lines ++ more) (found ++ after)
-say_append above [] more found after e b =
-    let same : above + 0 ≡ above = omega arith in
-    subst (λ (l : List Numbered). SayBelow above more (l ++ after)) (sym e) (subst (λ (n : ℕ). SayBelow n more after) same b)
-say_append above (line ∷ lines) more found after (p, inl (e, a)) b = (p, inl (e, say_append (suc above) lines more found after a (moved above lines more after b)))
-  where
-    moved : (above : ℕ) (lines more : List (List ℕ)) (after : List Numbered) → SayBelow (above + suc (length lines)) more after → SayBelow (suc above + length lines) more after
-    moved above lines more after b = let same : above + suc (length lines) ≡ suc above + length lines = omega arith in subst (λ (n : ℕ). SayBelow n more after) same b
-say_append above (line ∷ lines) more found after (p, inr (s, rest, is, e, a)) b =
-    let same : above + suc (length lines) ≡ suc above + length lines = omega arith in
-    (p, inr (s, rest ++ after, is, ap (λ (l : List Numbered). l ++ after) e, say_append (suc above) lines more rest after a (subst (λ (n : ℕ). SayBelow n more after) same b)))
 
 pub read_blank : (lines : List (List ℕ)) (numbers : List ℕ) (said : List Sentence) (text : List ℕ) → AreRead lines numbers said → is_proper text ≡ true → words_of text ≡ [] → AreRead (lines ++ text ∷ []) numbers said
 read_blank lines numbers said text read proper none = record {

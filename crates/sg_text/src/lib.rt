@@ -8,6 +8,8 @@ mod line;
 mod lines;
 mod scanner;
 mod sentence;
+#[cfg(test)]
+mod tests;
 mod words;
 
 pub use line::{Cell, Form, Line, Maker, Setting};

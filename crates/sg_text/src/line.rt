@@ -1,4 +1,10 @@
 //! What a line says, with its names and numbers as they are written.
+ghost use Rattle.std.specs.Prelude.{◌≡◌};
+ghost use Rattle.sg_program.specs.Limits.{MayHave};
+ghost use Rattle.sg_text.specs.Reading.{shape_in};
+
+use crate::words::mask_bits;
+use sg_desc::{Descriptor, Shape};
 use sg_program::Statement;
 
 /// A setting of a program, by the word with which its line begins.
@@ -44,6 +50,50 @@ pub enum Form<'a> {
     Words,
     /// `pair`
     Pair,
+}
+
+impl<'a> Form<'a> {
+    /// The shape of a class within the limits. Linear in the bytes of a mask.
+    pub fn shape(&self) -> Shape
+        requires { MayHave (shape_in self.now).kind (shape_in self.now).fields }
+        ensures { result ≡ shape_in self.now }
+    {
+        match *self {
+            Form::Plain { fields } => Shape {
+                fields: fields as u32,
+                kind: Descriptor::PtrFree,
+            },
+            Form::Run {
+                fields,
+                first,
+                count,
+            } => Shape {
+                fields: fields as u32,
+                kind: Descriptor::Run {
+                    first: first as u32,
+                    count: count as u32,
+                },
+            },
+            Form::Map { mask } => Shape {
+                fields: mask.len() as u32,
+                kind: Descriptor::Bitmap {
+                    bits: mask_bits(mask),
+                },
+            },
+            Form::Refs => Shape {
+                fields: 0,
+                kind: Descriptor::VectorRefs,
+            },
+            Form::Words => Shape {
+                fields: 0,
+                kind: Descriptor::VectorPlain,
+            },
+            Form::Pair => Shape {
+                fields: 2,
+                kind: Descriptor::Ephemeron,
+            },
+        }
+    }
 }
 
 /// A statement with the number of a global or of a weak link.
