@@ -9,9 +9,10 @@ use Rattle.sg_desc.specs.Shapes.{holds_reference, is_strong}
 use Rattle.sg_program.specs.Scripts.{kind_of}
 use Rattle.sg_graph.specs.Graph.{Graph, Ref, Link}
 use Rattle.sg_words.specs.Reach.{Rounds, Reached}
-use Rattle.sg_graph.specs.Pause.{IsTarget, IsPair, Reach, IsReached, is_pair, holds_kept, is_widowed, link_after, IsPause}
+use Rattle.sg_graph.specs.Pause.{IsTarget, IsPair, Reach, IsReached, is_pair, holds_kept, is_widowed, link_after, IsPause, IsRoot}
 use Rattle.sg_graph.specs.Invariants.{IsPlain}
-use Rattle.sg_words.proofs.Closure.{from_rounds}
+use Rattle.sg_graph.specs.Laws.{QuietPause}
+use Rattle.sg_words.proofs.Closure.{from_rounds, to_rounds}
 
 -- which fields are strong doesn't hang on how many there are
 pub strong_any : (kind : Descriptor) (i m n : ℕ) → is_strong kind i m ≡ is_strong kind i n
@@ -133,3 +134,14 @@ module _ (p : Program) (g : Graph) where
         );
         after = after_same;
       }
+
+pub quiet_pause : QuietPause
+quiet_pause = record {
+  none_ready = λ p g plain. none_ready p g plain;
+  strong = λ p g plain. strong_here p g plain;
+  reaches = λ p g b ambiguous plain bound n. (
+    λ k. from_rounds (IsTarget p g) (IsRoot p g b ambiguous) g.count n ((as_rounds p g plain (IsRoot p g b ambiguous) bound n).0 k),
+    λ r. (as_rounds p g plain (IsRoot p g b ambiguous) bound n).1 (to_rounds (IsTarget p g) (IsRoot p g b ambiguous) g.count bound n r),
+  );
+  pause = λ p g b ambiguous plain kept among exact. quiet p g plain (IsRoot p g b ambiguous) kept among exact;
+}

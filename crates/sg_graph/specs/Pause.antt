@@ -1,5 +1,5 @@
 -- What a minor pause keeps.
-use Rattle.std.specs.Prelude.{◌≡◌, ◌≢◌, ℕ, zero, suc, ◌+◌, ◌<◌, ◌≤◌, ◌==◌, ◌&&◌, ◌⊎◌, ◌↔◌, Bool, true, false, not, if◌then◌else◌, List, [], ◌++◌, map, filter}
+use Rattle.std.specs.Prelude.{◌≡◌, ◌≢◌, ℕ, zero, suc, ◌+◌, ◌<◌, ◌≤◌, ◌==◌, ◌&&◌, ◌⊎◌, ◌↔◌, Bool, true, false, not, if◌then◌else◌, List, ◌++◌, map, filter}
 use Rattle.std.specs.List.{Contains, flat_map}
 use Rattle.sg_words.specs.Address.{byte_at}
 use Rattle.sg_program.specs.declared.program.Program.{Program}

@@ -4,9 +4,11 @@
 //! words that hold it, stand in `specs/`.
 #![tactic(auto)]
 
+mod laws;
 mod names;
 mod reports;
 
+pub use laws::{ends_behind_last, keeps_pointed_into, one_report, quiet_pause};
 pub use names::names_are_pairs;
 pub use reports::{EpochReport, Leave, MinorReport, Part, Service, StopReport};
 pub use sg_program::{

@@ -1,0 +1,25 @@
+ghost use Rattle.sg_graph.specs.Laws.{EndsBehindLast, HasOneReport, KeepsPointedInto, QuietPause};
+
+/// The law of the end: a run ends behind the epoch that is told to be the last one. It does nothing; its contract is the
+/// law.
+pub fn ends_behind_last()
+    ensures { EndsBehindLast }
+{}
+
+/// The law of one report: one order of whole statements, from one graph and one book on, has one report, and leads to
+/// one graph and one book. It does nothing; its contract is the law.
+pub fn one_report()
+    ensures { HasOneReport }
+{}
+
+/// The law of what is pointed into: it stands after a minor pause, where it stood. It does nothing; its contract is the
+/// law.
+pub fn keeps_pointed_into()
+    ensures { KeepsPointedInto }
+{}
+
+/// The law of a quiet pause: in a graph without pairs, weak links and registrations, a pause that keeps exactly what its
+/// roots reach changes nothing. It does nothing; its contract is the law.
+pub fn quiet_pause()
+    ensures { QuietPause }
+{}
