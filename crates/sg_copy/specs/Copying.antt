@@ -1,5 +1,6 @@
 -- What the code of a copier works on, and what it does with one slot.
 use Rattle.std.specs.Prelude.{◌≡◌, ◌≢◌, ℕ, ◌+◌, ◌-◌, ◌<◌, ◌≤◌, Bool, false, Option, Some, None, List, [], ◌∷◌, ◌++◌, map, length, slice_get}
+use Rattle.std.specs.List.{flat_map}
 use Rattle.std.proofs.Common.{ap, ◌∙◌}
 use Rattle.sg_words.specs.Address.{IsAddress, byte_at, word_at}
 use Rattle.sg_words.specs.Tags.{plain_word}
@@ -106,8 +107,7 @@ abbrev pub fields_of : Contents → ℕ → List ℕ
 fields_of s h = slots_by (area_of s) (class_of (word s h)) h 0 (word s (h + 1))
 
 abbrev pub fields_of_all : Contents → List ℕ → List ℕ
-fields_of_all s [] = []
-fields_of_all s (h ∷ hs) = fields_of s h ++ fields_of_all s hs
+fields_of_all s hs = flat_map (fields_of s) hs
 
 -- the object is pinned, of one of the classes, and lies in the nursery
 pub record IsWhole (s : Contents) (h : ℕ) : Type 0 where

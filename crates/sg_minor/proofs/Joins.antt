@@ -12,13 +12,13 @@ use Rattle.sg_graph.specs.Heap.{layout_of}
 use Rattle.sg_copy.specs.Area.{Area, Traces}
 use Rattle.sg_copy.specs.Image.{IsImage}
 use Rattle.sg_copy.specs.Round.{IsOpening}
-use Rattle.sg_copy.specs.Copying.{area_of, fields_of_all, CanCopyAll, area_still}
+use Rattle.sg_copy.specs.Copying.{area_of, fields_of_all, CanCopyFrom, area_still}
 use Rattle.sg_words.proofs.Numbers.{word_at-byte_at}
 use Rattle.sg_minor.specs.Joined.{AreSeeds, IsTraced, IsPicture, HasSwept, IsBegun, IsEnded, JoinLaw}
 use Rattle.sg_minor.proofs.Areas.{area_for, area_is, classes_are}
 use Rattle.sg_minor.proofs.Slots.{AreStarts, starts}
 use Rattle.sg_minor.proofs.Opens.{opening, start-inside, plain-class, pinned-class}
-use Rattle.sg_minor.proofs.Fronts.{filled, whole}
+use Rattle.sg_minor.proofs.Fronts.{whole}
 use Rattle.sg_minor.proofs.Keeps.{fail-loose, traced}
 use Rattle.sg_minor.proofs.Pictures.{picture, full}
 
@@ -54,10 +54,8 @@ module _ (p : Program) (s : Contents) (g : Graph) (b : Book) (ambiguous pins slo
   to_area : (x : ℕ) → Traces (area_of tagged) (word tagged) items x → Traces (area_for p) (word tagged) items x
   to_area x h = subst (λ (a : Area). Traces a (word tagged) items x) area_tagged h
 
-  pub opens : CanCopyAll tagged slots pins
+  pub opens : CanCopyFrom tagged (byte_at b.fill) slots pins
   opens = record {
-    front = b.fill;
-    filled = filled p (word s) g b begun.heap.1.0 begun.heap.1.1 ambiguous pins begun.pinned tagged begun.tags layout_is;
     pinned = whole p (word s) g b begun.heap.1.0 begun.heap.1.1 ambiguous pins begun.pinned tagged begun.tags layout_is count_is;
     can = record {
       contents = contents_still;

@@ -1,6 +1,6 @@
 pub mod Gaps
 pub mod Walk
-pub mod Grown
+pub mod Added
 pub mod Sound
 pub mod Keeping
 pub mod OldSlots

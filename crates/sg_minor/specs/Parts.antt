@@ -1,47 +1,41 @@
 -- What the parts of a minor pause do to words and lists, one by one.
-use Rattle.std.specs.Prelude.{◌≡◌, ◌≢◌, ℕ, ◌+◌, ◌<◌, ◌≤◌, ◌⊎◌, ◌↔◌, true, List}
-use Rattle.std.specs.List.{Contains}
+use Rattle.std.specs.Prelude.{◌≡◌, ℕ, ◌+◌, ◌<◌, ◌≤◌, ◌⊎◌, ◌↔◌, Option, List, ◌++◌, map, filter}
+use Rattle.std.specs.List.{Contains, flat_map}
 use Rattle.std.specs.List.Sorted.{IsStrictlyIncreasing}
 use Rattle.sg_words.specs.Address.{IsAddress, byte_at, word_at}
 use Rattle.sg_words.specs.Tags.{plain_word}
 use Rattle.sg_words.specs.declared.pieces.Move.{Move}
 use Rattle.sg_program.specs.declared.program.Program.{Program}
 use Rattle.sg_graph.specs.Graph.{Graph}
-use Rattle.sg_desc.specs.Shapes.{is_strong as is_strong_by}
-use Rattle.sg_program.specs.Scripts.{kind_of}
-use Rattle.sg_graph.specs.Book.{Book, Old}
+use Rattle.sg_graph.specs.Book.{Book}
+use Rattle.sg_graph.specs.Copies.{StandsOld, AreByAddress}
 use Rattle.sg_graph.specs.Minor.{sources}
 use Rattle.sg_words.specs.declared.layout.Layout.{Layout}
 use Rattle.sg_space.specs.declared.objects.Object.{Object}
-use Rattle.sg_words.specs.Sections.{globals_base, IsInSection}
+use Rattle.sg_words.specs.Sections.{IsInSection}
 use Rattle.sg_space.specs.Space.{Contents}
-use Rattle.sg_space.specs.Standing.{word}
+use Rattle.sg_space.specs.Standing.{word, IsSoundBy, TellsYoung}
+use Rattle.sg_pins.specs.Pins.{ArePinned}
+use Rattle.sg_words.specs.Pieces.{fronts_of, ends_of}
+use Rattle.sg_graph.specs.declared.reports.MinorReport.{MinorReport}
 use Rattle.sg_minor.specs.Holding.{HoldsHeap}
-use Rattle.sg_copy.specs.Area.{Area, IsYoung}
-use Rattle.sg_words.specs.Lists.{In}
-use Rattle.sg_minor.specs.Pieces.{AreStanding, IsTaken, first_word, word_behind}
+use Rattle.sg_copy.specs.Copying.{area_of, IsStill, HasCopiedTo, fields_of_all}
+use Rattle.sg_minor.specs.Joined.{HasTagged, AreSeeds, slots_of_name, holds_young}
+use Rattle.sg_minor.specs.Pieces.{AreStanding, IsTaken, ArePieces, first_word, word_behind}
 
 -- some program's graph stands in the space by some book
 abbrev pub HoldsSome : Contents → Type 0
 HoldsSome s = (p : Program) × (g : Graph) × (b : Book) × HoldsHeap p s g b
 
--- the list grows by slots of this sort, and those of them that refer to young objects are in it
-pub record GrowsBy (area : Area) (w : ℕ → ℕ) (sort : ℕ → Type 0) (old new : List ℕ) : Type 0 where
-  pub kept : (t : ℕ) → In t old → In t new
-  pub each : (t : ℕ) → In t new → In t old ⊎ sort t
-  pub all : (t x : ℕ) → sort t → w t ≡ byte_at x → IsYoung area x → In t new
+-- to the list of addresses those of these slots are added that refer to young objects, in order
+abbrev pub Adds : Contents → List ℕ → List ℕ → List ℕ → Type 0
+Adds s slots old new = map word_at new ≡ map word_at old ++ filter (holds_young (area_of s) (word s)) slots
 
--- one of the first globals
-abbrev pub IsGlobal : Layout → ℕ → ℕ → Type 0
-IsGlobal layout n t = (x : ℕ) × (x < n) × (t ≡ globals_base layout + x)
-
--- one of the first strong fields of an object of class c at the word h
-abbrev pub IsFieldOf : Area → ℕ → ℕ → ℕ → ℕ → Type 0
-IsFieldOf area c h n t = (i : ℕ) × (i < n) × (area.strong c i ≡ true) × (t ≡ h + 2 + i)
-
--- a strong field of an old object
-abbrev pub IsOldField : Program → Graph → Book → ℕ → Type 0
-IsOldField p g b t = (n : ℕ) × (i : ℕ) × (n ≢ 0) × (b.stands n ≡ true) × (b.section n ≡ Old) × (i < g.size n) × (is_strong_by (kind_of p (g.class n)) i (g.size n) ≡ true) × (t ≡ b.address n + 2 + i)
+-- the same of the strong fields of the old objects, by address
+pub record AddsOld (p : Program) (g : Graph) (b : Book) (s : Contents) (old new : List ℕ) : Type 0 where
+  pub names : List ℕ
+  pub are : AreByAddress b (StandsOld b) names
+  pub adds : Adds s (flat_map (slots_of_name p g b) names) old new
 
 -- each is the byte address of a first word with a plain tag
 pub record ArePlain (s : Contents) (pins : List ℕ) : Type 0 where
@@ -92,3 +86,31 @@ pub record AreCleaned (told : List Object) (old new : ℕ → ℕ) : Type 0 wher
 -- the n words from x on are zero now, and no other word has changed
 abbrev pub AreZero : (ℕ → ℕ) → ℕ → ℕ → (ℕ → ℕ) → Type 0
 AreZero old x n new = ((y : ℕ) → x ≤ y → y < x + n → new y ≡ 0) × ((y : ℕ) → (x ≤ y → y < x + n → ⊥) → new y ≡ old y)
+
+-- From the space s, which holds g by b, a pause has told the young objects and the pinned ones, given these their tags, and copied
+-- from the seeds and the pinned objects' fields on.
+pub record HasTraced (p : Program) (g : Graph) (b : Book) (s : Contents) (ambiguous : List ℕ) (told : List Object) (pins : List ℕ) (round : Contents) : Type 0 where
+  pub tells : (owner : ℕ → Option ℕ) → IsSoundBy s owner → TellsYoung s owner told
+  pub pinned : (owner : ℕ → Option ℕ) → IsSoundBy s owner → ArePinned s.layout owner ambiguous pins
+  pub tagged : Contents
+  pub still : IsStill s tagged
+  pub tags : HasTagged (word s) (map word_at pins) (word tagged)
+  pub slots : List ℕ
+  pub seeds : AreSeeds p (word s) (area_of s) g b slots
+  pub moves : List Move
+  pub fails : List ℕ
+  pub end : ℕ
+  pub copied : HasCopiedTo tagged (byte_at b.fill) (slots ++ fields_of_all tagged (map word_at pins)) round moves fails end
+
+-- From the space after a round, a pause has swept the nursery, reported what has become of the told objects, and made the gaps between
+-- those that stay the fragments.
+pub record HasFinished (round : Contents) (told : List Object) (pins : List ℕ) (final : Contents) (report : MinorReport) : Type 0 where
+  pub swept : Contents
+  pub still : IsStill round swept
+  pub standing : List Object
+  pub kept : AreKept round.layout (word round) told pins standing report.moves report.fails
+  pub cleaned : AreCleaned told (word round) (word swept)
+  pub tiles : ArePieces swept.layout standing report.pieces
+  pub fitted : final ≡ record swept { next = fronts_of report.pieces; ends = ends_of report.pieces }
+  pub pins_are : report.pins ≡ pins
+  pub spares : report.spares ≡ 0

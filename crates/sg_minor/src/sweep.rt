@@ -9,7 +9,7 @@ ghost use Rattle.sg_minor.specs.Pieces.{first_word, word_behind};
 ghost use Rattle.sg_minor.specs.Parts.{AreRounded, AreStaying, AreKept, AreCleaned, AreZero, IsRounded, IsStaying, WentTo};
 
 use sg_space::{Object, Space};
-use sg_words::{Addr, Move, Tag, read_tag, write_tag};
+use sg_words::{Addr, Move, Tag, forwarded_to, write_tag};
 use std::alloc::{AllocError, Global};
 
 /// What a round of copying has made of the objects of the nursery. Each list is by address.
@@ -105,15 +105,7 @@ fn went_to(space: &Space, object: &Object) -> Option<Addr>
     ensures some { IfSome result (WentTo (word space.now) object.now) }
     ensures none { IfNone result ((to : ℕ) → WentTo (word space.now) object.now to → ⊥) }
 {
-    let first = space.read(object.at);
-    match read_tag(first) {
-        // The word of this tag is the copy's address, plus 1.
-        Some(Tag::Forwarded { to: _ }) => Addr::of(first - 1),
-        Some(Tag::Plain { class: _ }) => None,
-        Some(Tag::Pinned { class: _ }) => None,
-        Some(Tag::Cemented { class: _ }) => None,
-        None => None,
-    }
+    forwarded_to(space.read(object.at))
 }
 
 // Gives what stays its plain tag again, and makes the words of all other objects zero.

@@ -11,7 +11,7 @@ ghost use Rattle.sg_minor.specs.Joined.{HasTagged};
 ghost use Rattle.sg_minor.specs.Parts.{ArePlain};
 
 use sg_space::Space;
-use sg_words::{Addr, Tag, read_tag, write_tag};
+use sg_words::{Addr, Tag, plain_class, write_tag};
 
 /// The first word of each of these objects gets the tag of a pinned one. Linear in them.
 pub(crate) fn tag(space: &mut Space, pins: &[Addr])
@@ -33,11 +33,7 @@ fn tag_one(space: &mut Space, pin: Addr)
     ensures still { IsStill space.old space.new }
     ensures tagged { Stores (word space.old) (word_at pin) (word space.old (word_at pin) + 2) (word space.new) }
 {
-    match read_tag(space.read(pin)) {
-        Some(Tag::Plain { class }) => space.write(pin, write_tag(Tag::Pinned { class })),
-        Some(Tag::Forwarded { to: _ }) => {}
-        Some(Tag::Pinned { class: _ }) => {}
-        Some(Tag::Cemented { class: _ }) => {}
-        None => {}
+    if let Some(class) = plain_class(space.read(pin)) {
+        space.write(pin, write_tag(Tag::Pinned { class }));
     }
 }

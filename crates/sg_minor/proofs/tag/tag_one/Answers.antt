@@ -1,6 +1,5 @@
 use Rattle.std.proofs.Common.{sym, ◌∙◌}
-use Rattle.sg_words.specs.declared.tags.Tag.TheVariants.{Plain}
 use Rattle.sg_minor.proofs.tag.tag_one.Goals as goal
 
-pub returns-in-None-clause-tagged : goal.returns-in-None-clause-tagged
-returns-in-None-clause-tagged c = absurd (c.in-None.ensures (Plain c.requires.plain.0) c.requires.plain.1 (sym (c.read.ensures.value ∙ c.requires.plain.2)))
+pub returns-in_default-clause-tagged : goal.returns-in_default-clause-tagged
+returns-in_default-clause-tagged c = absurd (c.in_default.ensures c.requires.plain.0 c.requires.plain.1 (sym (c.read.ensures.value ∙ c.requires.plain.2)))
