@@ -10,5 +10,8 @@ pub mod Accesses
 pub mod Makes
 pub mod Places
 pub mod Whole
+pub mod MayDo
 pub mod Law
-pub mod Small
+pub mod SoFar
+pub mod Serving
+pub mod Held

@@ -1,5 +1,5 @@
 -- The text of a run: a function of the run alone. Numbers are decimal, each line ends with a line feed.
-use Rattle.std.specs.Prelude.{ℕ, suc, Bool, true, false, Option, Some, None, List, [], ◌∷◌, ◌++◌, codes}
+use Rattle.std.specs.Prelude.{◌≡◌, ℕ, suc, Bool, true, false, Option, Some, None, List, [], ◌∷◌, ◌++◌, codes}
 use Rattle.std.specs.List.{flat_map}
 use Rattle.std.specs.Fmt.{decimal}
 use Rattle.sg_program.specs.declared.answers.Answer.{Answer}
@@ -107,3 +107,8 @@ phase_text (Stop report) = stop_text report
 
 abbrev pub text : List Phase → List ℕ
 text phases = flat_map phase_text phases
+
+-- the bytes begin with these
+pub record StartsWith (bytes first : List ℕ) : Type 0 where
+  pub more : List ℕ
+  pub is : bytes ≡ first ++ more

@@ -26,9 +26,7 @@ fn asking(alloc: Global, mutator: u32, request: Request) -> Part {
 
 #[test]
 fn text_of_an_epoch(rt: HostRuntime) -> Result<(), Fail> {
-    let Some(address) = Addr::of(4_128) else {
-        return Ok(());
-    };
+    let address = Addr::of(4_128).ok_or("an address")?;
     let found = [
         Answer::At(address),
         Answer::Nil,

@@ -2,7 +2,7 @@
 ghost use Rattle.std.specs.Prelude.{◌≡◌, ◌+◌, ◌++◌, codes, IfOk, IfErr};
 ghost use Rattle.std.specs.Fmt.{decimal};
 ghost use Rattle.std.specs.List.{flat_map};
-ghost use Rattle.sg_trace.specs.Trace.{space, line_feed, answer_text, answer_line, answer_lines, request_text, leave_line, part_text, end_line, epoch_text, pin_line, move_line, fail_line, piece_line, minor_text, pause_text, service_line, stop_text};
+ghost use Rattle.sg_trace.specs.Trace.{space, line_feed, StartsWith, answer_text, answer_line, answer_lines, request_text, leave_line, part_text, end_line, epoch_text, pin_line, move_line, fail_line, piece_line, minor_text, pause_text, service_line, stop_text};
 
 use itoa::Buffer;
 use sg_graph::{Answer, EpochReport, Leave, MinorReport, Part, Request, Service, StopReport};
@@ -14,20 +14,24 @@ use std::alloc::{AllocError, Global};
 ///
 /// The only error is want of memory, and then `out` has the bytes that it had before. Linear in the text.
 pub fn append_epoch(
-    alloc: Global,
+    _alloc: Global,
     out: &mut Vec<u8>,
     report: &EpochReport,
 ) -> Result<(), AllocError>
     ensures appended { IfOk result (λ _. out.new.items ≡ out.old.items ++ epoch_text report.now) }
     ensures kept { IfErr result (λ _. out.new.items ≡ out.old.items) }
 {
-    let mut text = Vec::new(alloc);
-    write_epoch(&mut text, report)?;
-    out.extend_from_slice(text.as_slice())
+    let before = out.len();
+    let written = write_epoch(out, report);
+    if written.is_err() {
+        out.truncate(before);
+    }
+    written
 }
 
 fn write_epoch(out: &mut Vec<u8>, report: &EpochReport) -> Result<(), AllocError>
-    ensures { IfOk result (λ _. out.new.items ≡ out.old.items ++ epoch_text report.now) }
+    ensures front { IfErr result (λ _. StartsWith out.new.items out.old.items) }
+    ensures appended { IfOk result (λ _. out.new.items ≡ out.old.items ++ epoch_text report.now) }
 {
     out.extend_from_slice(b"epoch ")?;
     append_number(out, u64::from(report.number))?;
@@ -37,7 +41,8 @@ fn write_epoch(out: &mut Vec<u8>, report: &EpochReport) -> Result<(), AllocError
 }
 
 fn append_parts(out: &mut Vec<u8>, parts: &[Part]) -> Result<(), AllocError>
-    ensures { IfOk result (λ _. out.new.items ≡ out.old.items ++ flat_map part_text parts.now) }
+    ensures front { IfErr result (λ _. StartsWith out.new.items out.old.items) }
+    ensures appended { IfOk result (λ _. out.new.items ≡ out.old.items ++ flat_map part_text parts.now) }
 {
     for part in parts {
         append_part(out, part)?;
@@ -46,7 +51,8 @@ fn append_parts(out: &mut Vec<u8>, parts: &[Part]) -> Result<(), AllocError>
 }
 
 fn append_part(out: &mut Vec<u8>, part: &Part) -> Result<(), AllocError>
-    ensures { IfOk result (λ _. out.new.items ≡ out.old.items ++ part_text part.now) }
+    ensures front { IfErr result (λ _. StartsWith out.new.items out.old.items) }
+    ensures appended { IfOk result (λ _. out.new.items ≡ out.old.items ++ part_text part.now) }
 {
     append_answers(out, part.mutator, part.first, part.answers.as_slice())?;
     append_leave(out, part.mutator, part.leave)
@@ -58,7 +64,8 @@ fn append_answers(
     first: u32,
     answers: &[Answer],
 ) -> Result<(), AllocError>
-    ensures { IfOk result (λ _. out.new.items ≡ out.old.items ++ answer_lines mutator first answers.now) }
+    ensures front { IfErr result (λ _. StartsWith out.new.items out.old.items) }
+    ensures appended { IfOk result (λ _. out.new.items ≡ out.old.items ++ answer_lines mutator first answers.now) }
 {
     for (index, answer) in answers.iter().enumerate() {
         append_answer_line(out, mutator, u64::from(first) + index as u64, *answer)?;
@@ -72,7 +79,8 @@ fn append_answer_line(
     statement: u64,
     answer: Answer,
 ) -> Result<(), AllocError>
-    ensures { IfOk result (λ _. out.new.items ≡ out.old.items ++ answer_line mutator statement answer) }
+    ensures front { IfErr result (λ _. StartsWith out.new.items out.old.items) }
+    ensures appended { IfOk result (λ _. out.new.items ≡ out.old.items ++ answer_line mutator statement answer) }
 {
     append_number(out, u64::from(mutator))?;
     out.extend_from_slice(b" ")?;
@@ -83,7 +91,8 @@ fn append_answer_line(
 }
 
 fn append_answer(out: &mut Vec<u8>, answer: Answer) -> Result<(), AllocError>
-    ensures { IfOk result (λ _. out.new.items ≡ out.old.items ++ answer_text answer) }
+    ensures front { IfErr result (λ _. StartsWith out.new.items out.old.items) }
+    ensures appended { IfOk result (λ _. out.new.items ≡ out.old.items ++ answer_text answer) }
 {
     match answer {
         Answer::At(address) => append_number(out, address.get()),
@@ -99,7 +108,8 @@ fn append_answer(out: &mut Vec<u8>, answer: Answer) -> Result<(), AllocError>
 }
 
 fn append_leave(out: &mut Vec<u8>, mutator: u32, leave: Leave) -> Result<(), AllocError>
-    ensures { IfOk result (λ _. out.new.items ≡ out.old.items ++ leave_line mutator leave) }
+    ensures front { IfErr result (λ _. StartsWith out.new.items out.old.items) }
+    ensures appended { IfOk result (λ _. out.new.items ≡ out.old.items ++ leave_line mutator leave) }
 {
     append_number(out, u64::from(mutator))?;
     match leave {
@@ -113,7 +123,8 @@ fn append_leave(out: &mut Vec<u8>, mutator: u32, leave: Leave) -> Result<(), All
 }
 
 fn append_request(out: &mut Vec<u8>, request: Request) -> Result<(), AllocError>
-    ensures { IfOk result (λ _. out.new.items ≡ out.old.items ++ request_text request) }
+    ensures front { IfErr result (λ _. StartsWith out.new.items out.old.items) }
+    ensures appended { IfOk result (λ _. out.new.items ≡ out.old.items ++ request_text request) }
 {
     match request {
         Request::Need { words } => {
@@ -125,7 +136,8 @@ fn append_request(out: &mut Vec<u8>, request: Request) -> Result<(), AllocError>
 }
 
 fn append_end(out: &mut Vec<u8>, is_last: bool) -> Result<(), AllocError>
-    ensures { IfOk result (λ _. out.new.items ≡ out.old.items ++ end_line is_last) }
+    ensures front { IfErr result (λ _. StartsWith out.new.items out.old.items) }
+    ensures appended { IfOk result (λ _. out.new.items ≡ out.old.items ++ end_line is_last) }
 {
     if is_last {
         out.extend_from_slice(b"end\n")?;
@@ -136,17 +148,21 @@ fn append_end(out: &mut Vec<u8>, is_last: bool) -> Result<(), AllocError>
 /// Appends the text of a stop: the line `stop E`, the lines of its pause, and a line for each answer to a request.
 ///
 /// The only error is want of memory, and then `out` has the bytes that it had before. Linear in the text.
-pub fn append_stop(alloc: Global, out: &mut Vec<u8>, report: &StopReport) -> Result<(), AllocError>
+pub fn append_stop(_alloc: Global, out: &mut Vec<u8>, report: &StopReport) -> Result<(), AllocError>
     ensures appended { IfOk result (λ _. out.new.items ≡ out.old.items ++ stop_text report.now) }
     ensures kept { IfErr result (λ _. out.new.items ≡ out.old.items) }
 {
-    let mut text = Vec::new(alloc);
-    write_stop(&mut text, report)?;
-    out.extend_from_slice(text.as_slice())
+    let before = out.len();
+    let written = write_stop(out, report);
+    if written.is_err() {
+        out.truncate(before);
+    }
+    written
 }
 
 fn write_stop(out: &mut Vec<u8>, report: &StopReport) -> Result<(), AllocError>
-    ensures { IfOk result (λ _. out.new.items ≡ out.old.items ++ stop_text report.now) }
+    ensures front { IfErr result (λ _. StartsWith out.new.items out.old.items) }
+    ensures appended { IfOk result (λ _. out.new.items ≡ out.old.items ++ stop_text report.now) }
 {
     out.extend_from_slice(b"stop ")?;
     append_number(out, u64::from(report.number))?;
@@ -156,7 +172,8 @@ fn write_stop(out: &mut Vec<u8>, report: &StopReport) -> Result<(), AllocError>
 }
 
 fn append_pause(out: &mut Vec<u8>, pause: &Option<MinorReport>) -> Result<(), AllocError>
-    ensures { IfOk result (λ _. out.new.items ≡ out.old.items ++ pause_text pause.now) }
+    ensures front { IfErr result (λ _. StartsWith out.new.items out.old.items) }
+    ensures appended { IfOk result (λ _. out.new.items ≡ out.old.items ++ pause_text pause.now) }
 {
     match pause {
         Some(report) => append_minor(out, report),
@@ -165,7 +182,8 @@ fn append_pause(out: &mut Vec<u8>, pause: &Option<MinorReport>) -> Result<(), Al
 }
 
 fn append_minor(out: &mut Vec<u8>, report: &MinorReport) -> Result<(), AllocError>
-    ensures { IfOk result (λ _. out.new.items ≡ out.old.items ++ minor_text report.now) }
+    ensures front { IfErr result (λ _. StartsWith out.new.items out.old.items) }
+    ensures appended { IfOk result (λ _. out.new.items ≡ out.old.items ++ minor_text report.now) }
 {
     out.extend_from_slice(b"minor\n")?;
     append_objects(out, report)?;
@@ -174,7 +192,8 @@ fn append_minor(out: &mut Vec<u8>, report: &MinorReport) -> Result<(), AllocErro
 
 // What became of the objects of the nursery.
 fn append_objects(out: &mut Vec<u8>, report: &MinorReport) -> Result<(), AllocError>
-    ensures { IfOk result (λ _. out.new.items ≡ out.old.items ++ flat_map pin_line report.now.pins ++ flat_map move_line report.now.moves ++ flat_map fail_line report.now.fails) }
+    ensures front { IfErr result (λ _. StartsWith out.new.items out.old.items) }
+    ensures appended { IfOk result (λ _. out.new.items ≡ out.old.items ++ flat_map pin_line report.now.pins ++ flat_map move_line report.now.moves ++ flat_map fail_line report.now.fails) }
 {
     append_pins(out, report.pins.as_slice())?;
     append_moves(out, report.moves.as_slice())?;
@@ -183,7 +202,8 @@ fn append_objects(out: &mut Vec<u8>, report: &MinorReport) -> Result<(), AllocEr
 
 // The spares, and what the nursery's gaps are.
 fn append_gaps(out: &mut Vec<u8>, report: &MinorReport) -> Result<(), AllocError>
-    ensures { IfOk result (λ _. out.new.items ≡ out.old.items ++ codes "spares " ++ decimal report.now.spares ++ line_feed ++ flat_map piece_line report.now.pieces) }
+    ensures front { IfErr result (λ _. StartsWith out.new.items out.old.items) }
+    ensures appended { IfOk result (λ _. out.new.items ≡ out.old.items ++ codes "spares " ++ decimal report.now.spares ++ line_feed ++ flat_map piece_line report.now.pieces) }
 {
     out.extend_from_slice(b"spares ")?;
     append_number(out, u64::from(report.spares))?;
@@ -192,7 +212,8 @@ fn append_gaps(out: &mut Vec<u8>, report: &MinorReport) -> Result<(), AllocError
 }
 
 fn append_pins(out: &mut Vec<u8>, pins: &[Addr]) -> Result<(), AllocError>
-    ensures { IfOk result (λ _. out.new.items ≡ out.old.items ++ flat_map pin_line pins.now) }
+    ensures front { IfErr result (λ _. StartsWith out.new.items out.old.items) }
+    ensures appended { IfOk result (λ _. out.new.items ≡ out.old.items ++ flat_map pin_line pins.now) }
 {
     for pin in pins {
         append_pin(out, *pin)?;
@@ -201,7 +222,8 @@ fn append_pins(out: &mut Vec<u8>, pins: &[Addr]) -> Result<(), AllocError>
 }
 
 fn append_pin(out: &mut Vec<u8>, pin: Addr) -> Result<(), AllocError>
-    ensures { IfOk result (λ _. out.new.items ≡ out.old.items ++ pin_line pin) }
+    ensures front { IfErr result (λ _. StartsWith out.new.items out.old.items) }
+    ensures appended { IfOk result (λ _. out.new.items ≡ out.old.items ++ pin_line pin) }
 {
     out.extend_from_slice(b"pin ")?;
     append_number(out, pin.get())?;
@@ -209,7 +231,8 @@ fn append_pin(out: &mut Vec<u8>, pin: Addr) -> Result<(), AllocError>
 }
 
 fn append_moves(out: &mut Vec<u8>, moves: &[Move]) -> Result<(), AllocError>
-    ensures { IfOk result (λ _. out.new.items ≡ out.old.items ++ flat_map move_line moves.now) }
+    ensures front { IfErr result (λ _. StartsWith out.new.items out.old.items) }
+    ensures appended { IfOk result (λ _. out.new.items ≡ out.old.items ++ flat_map move_line moves.now) }
 {
     for moved in moves {
         append_move(out, *moved)?;
@@ -218,7 +241,8 @@ fn append_moves(out: &mut Vec<u8>, moves: &[Move]) -> Result<(), AllocError>
 }
 
 fn append_move(out: &mut Vec<u8>, moved: Move) -> Result<(), AllocError>
-    ensures { IfOk result (λ _. out.new.items ≡ out.old.items ++ move_line moved) }
+    ensures front { IfErr result (λ _. StartsWith out.new.items out.old.items) }
+    ensures appended { IfOk result (λ _. out.new.items ≡ out.old.items ++ move_line moved) }
 {
     out.extend_from_slice(b"move ")?;
     append_number(out, moved.from.get())?;
@@ -228,7 +252,8 @@ fn append_move(out: &mut Vec<u8>, moved: Move) -> Result<(), AllocError>
 }
 
 fn append_fails(out: &mut Vec<u8>, fails: &[Addr]) -> Result<(), AllocError>
-    ensures { IfOk result (λ _. out.new.items ≡ out.old.items ++ flat_map fail_line fails.now) }
+    ensures front { IfErr result (λ _. StartsWith out.new.items out.old.items) }
+    ensures appended { IfOk result (λ _. out.new.items ≡ out.old.items ++ flat_map fail_line fails.now) }
 {
     for failed in fails {
         append_fail(out, *failed)?;
@@ -237,7 +262,8 @@ fn append_fails(out: &mut Vec<u8>, fails: &[Addr]) -> Result<(), AllocError>
 }
 
 fn append_fail(out: &mut Vec<u8>, failed: Addr) -> Result<(), AllocError>
-    ensures { IfOk result (λ _. out.new.items ≡ out.old.items ++ fail_line failed) }
+    ensures front { IfErr result (λ _. StartsWith out.new.items out.old.items) }
+    ensures appended { IfOk result (λ _. out.new.items ≡ out.old.items ++ fail_line failed) }
 {
     out.extend_from_slice(b"fail ")?;
     append_number(out, failed.get())?;
@@ -245,7 +271,8 @@ fn append_fail(out: &mut Vec<u8>, failed: Addr) -> Result<(), AllocError>
 }
 
 fn append_pieces(out: &mut Vec<u8>, pieces: &[Piece]) -> Result<(), AllocError>
-    ensures { IfOk result (λ _. out.new.items ≡ out.old.items ++ flat_map piece_line pieces.now) }
+    ensures front { IfErr result (λ _. StartsWith out.new.items out.old.items) }
+    ensures appended { IfOk result (λ _. out.new.items ≡ out.old.items ++ flat_map piece_line pieces.now) }
 {
     for piece in pieces {
         append_piece(out, *piece)?;
@@ -254,7 +281,8 @@ fn append_pieces(out: &mut Vec<u8>, pieces: &[Piece]) -> Result<(), AllocError>
 }
 
 fn append_piece(out: &mut Vec<u8>, piece: Piece) -> Result<(), AllocError>
-    ensures { IfOk result (λ _. out.new.items ≡ out.old.items ++ piece_line piece) }
+    ensures front { IfErr result (λ _. StartsWith out.new.items out.old.items) }
+    ensures appended { IfOk result (λ _. out.new.items ≡ out.old.items ++ piece_line piece) }
 {
     match piece {
         Piece::Frag { at, words } => {
@@ -269,7 +297,8 @@ fn append_piece(out: &mut Vec<u8>, piece: Piece) -> Result<(), AllocError>
 }
 
 fn append_place(out: &mut Vec<u8>, at: Addr, words: u32) -> Result<(), AllocError>
-    ensures { IfOk result (λ _. out.new.items ≡ out.old.items ++ decimal at ++ space ++ decimal words ++ line_feed) }
+    ensures front { IfErr result (λ _. StartsWith out.new.items out.old.items) }
+    ensures appended { IfOk result (λ _. out.new.items ≡ out.old.items ++ decimal at ++ space ++ decimal words ++ line_feed) }
 {
     append_number(out, at.get())?;
     out.extend_from_slice(b" ")?;
@@ -278,7 +307,8 @@ fn append_place(out: &mut Vec<u8>, at: Addr, words: u32) -> Result<(), AllocErro
 }
 
 fn append_services(out: &mut Vec<u8>, served: &[Service]) -> Result<(), AllocError>
-    ensures { IfOk result (λ _. out.new.items ≡ out.old.items ++ flat_map service_line served.now) }
+    ensures front { IfErr result (λ _. StartsWith out.new.items out.old.items) }
+    ensures appended { IfOk result (λ _. out.new.items ≡ out.old.items ++ flat_map service_line served.now) }
 {
     for service in served {
         append_service(out, *service)?;
@@ -287,7 +317,8 @@ fn append_services(out: &mut Vec<u8>, served: &[Service]) -> Result<(), AllocErr
 }
 
 fn append_service(out: &mut Vec<u8>, service: Service) -> Result<(), AllocError>
-    ensures { IfOk result (λ _. out.new.items ≡ out.old.items ++ service_line service) }
+    ensures front { IfErr result (λ _. StartsWith out.new.items out.old.items) }
+    ensures appended { IfOk result (λ _. out.new.items ≡ out.old.items ++ service_line service) }
 {
     out.extend_from_slice(b"serve ")?;
     append_number(out, u64::from(service.mutator))?;
@@ -300,7 +331,8 @@ fn append_service(out: &mut Vec<u8>, service: Service) -> Result<(), AllocError>
 
 /// Appends the number in decimal, without leading zeros. The only error is want of memory.
 pub fn append_number(out: &mut Vec<u8>, number: u64) -> Result<(), AllocError>
-    ensures { IfOk result (λ _. out.new.items ≡ out.old.items ++ decimal number) }
+    ensures front { IfErr result (λ _. StartsWith out.new.items out.old.items) }
+    ensures appended { IfOk result (λ _. out.new.items ≡ out.old.items ++ decimal number) }
 {
     let mut buffer = Buffer::new();
     out.extend_from_slice(buffer.format(number).as_bytes())
