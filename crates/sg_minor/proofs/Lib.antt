@@ -29,3 +29,4 @@ pub mod Pictures
 pub mod Joins
 pub mod Bounds
 pub mod Empty
+pub mod InOrder
