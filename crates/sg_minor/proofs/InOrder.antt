@@ -10,7 +10,7 @@ use Rattle.sg_words.specs.Tags.{plain_word}
 use Rattle.sg_words.specs.Lists.{has, In, Pairwise}
 use Rattle.sg_words.specs.Found.{IsFirstNew, IsFoundBy, IsSearched}
 use Rattle.sg_words.specs.Found.IsFoundBy.{Begins, Finds}
-use Rattle.sg_words.specs.Objects.{strong_slots}
+use Rattle.sg_words.specs.Objects.{strong_slots, size_of}
 use Rattle.sg_words.specs.Sections.{nursery_base, globals_base}
 use Rattle.sg_words.proofs.Members.{has-cases, in-here, in-there, in-last, in-before, last-cases, in_map, map_in, filter-in, out}
 use Rattle.sg_words.proofs.Numbers.{word_at-byte_at}
@@ -24,7 +24,7 @@ use Rattle.sg_graph.specs.Pause.{IsPinned}
 use Rattle.sg_graph.specs.Copies.{IsMovable, name_in, names_in, targets_of, items_of, leads_of}
 use Rattle.sg_graph.specs.Heap.{Owner, IsKnownEntry, IsOfSort, layout_of, IsHeap}
 use Rattle.sg_copy.specs.Area.{Area, IsYoung, class_of}
-use Rattle.sg_copy.specs.Order.{is_plain, target, targets, slots_of, leads}
+use Rattle.sg_copy.specs.Order.{is_plain, target, targets, slots_of, leads, Fits}
 use Rattle.sg_minor.specs.Joined.{ArePins, HasTagged, global_slots, slots_of_name, slots_outside, is_young_word, holds_young}
 use Rattle.sg_minor.proofs.Areas.{area_for}
 use Rattle.sg_minor.proofs.Names.{ref-of}
@@ -222,7 +222,7 @@ module _ (p : Program) (w : ℕ → ℕ) (g : Graph) (b : Book) (owner : ℕ →
       (hold-fields n (each n (in-here n n names refl)) 0 (g.size n) (omega arith)) (hold-all names (λ m i. each m (in-there m n names i)))
 
   -- the slots of objects that are found, by their names
-  slots-named : (names : List ℕ) → ((n : ℕ) → In n names → (n ≢ 0) × (b.stands n ≡ true)) → slots_of (area_for p) w1 (map b.address names) ≡ flat_map (slots_of_name p g b) names
+  pub slots-named : (names : List ℕ) → ((n : ℕ) → In n names → (n ≢ 0) × (b.stands n ≡ true)) → slots_of (area_for p) w1 (map b.address names) ≡ flat_map (slots_of_name p g b) names
   slots-named [] each = refl
   slots-named (n ∷ names) each =
       let o = each n (in-here n n names refl) in
@@ -233,7 +233,7 @@ module _ (p : Program) (w : ℕ → ℕ) (g : Graph) (b : Book) (owner : ℕ →
   same-object : (m n : ℕ) → b.stands m ≡ true → b.stands n ≡ true → b.address m ≡ b.address n → m ≡ n
   same-object m n sm sn e = common p w g b owner t m n (b.address m) sm sn (le_refl _) (omega arith) (omega arith) (omega arith)
 
-  in-names : (names : List ℕ) → ((n : ℕ) → In n names → b.stands n ≡ true) → (m : ℕ) → b.stands m ≡ true → In (b.address m) (map b.address names) → In m names
+  pub in-names : (names : List ℕ) → ((n : ℕ) → In n names → b.stands n ≡ true) → (m : ℕ) → b.stands m ≡ true → In (b.address m) (map b.address names) → In m names
   in-names names each m s h =
       let q = map_in b.address (b.address m) names h in
       subst (λ (z : ℕ). In z names) (same-object q.0 m (each q.0 q.1) s q.2) q.1
@@ -338,3 +338,28 @@ module _ (p : Program) (w : ℕ → ℕ) (g : Graph) (b : Book) (owner : ℕ →
                 (in_map b.address n (filter moves (leads_of p g (items_of p g old pinned) q.names)) (filter-in moves n (leads_of p g (items_of p g old pinned) q.names) h (moves-is n k)))) tt));
           };
         }
+
+-- names of numbers that have one
+pub names-of : (b : Book) (sort : ℕ → Type 0) (xs : List ℕ) → ((a : ℕ) → In a xs → (n : ℕ) × sort n × (b.address n ≡ a)) → (ns : List ℕ) × (map b.address ns ≡ xs) × ((n : ℕ) → In n ns → sort n)
+names-of b sort [] each = ([], refl, λ n h. absurd (let z = h in cc))
+names-of b sort (a ∷ xs) each =
+    let first = each a (in-here a a xs refl) in
+    let more = names-of b sort xs (λ z i. each z (in-there z a xs i)) in (
+      first.0 ∷ more.0,
+      ap (λ (z : ℕ). z ∷ map b.address more.0) first.2 ∙ ap (λ (l : List ℕ). a ∷ l) more.1,
+      λ n h. elim (has-cases n first.0 more.0 h) [
+        | inl e ↦ subst sort (sym e) first.1
+        | inr i ↦ more.2 n i
+      ],
+    )
+
+-- what fits, by words that give these objects the same sizes
+pub fits-same : (w v : ℕ → ℕ) (limit end at : ℕ) (moves fails found : List ℕ) → ((a : ℕ) → In a found → w (a + 1) ≡ v (a + 1)) → Fits w limit at moves fails found end → Fits v limit at moves fails found end
+fits-same w v limit end at moves fails [] same f = f
+fits-same w v limit end at moves fails (x ∷ found) same f =
+    let e = same x (in-here x x found refl) in
+    let more = λ (a : ℕ) (i : In a found). same a (in-there a x found i) in
+    elim f [
+      | inl q ↦ inl (q.0, q.1, (let l = q.2 in omega arith), subst (λ (z : ℕ). Fits v limit (at + z) q.0 fails found end) (ap (λ (z : ℕ). z + 2) e) (fits-same w v limit end (at + size_of w x) q.0 fails found more q.3))
+      | inr q ↦ inr (q.0, q.1, (let l = q.2 in omega arith), fits-same w v limit end at moves q.0 found more q.3)
+    ]

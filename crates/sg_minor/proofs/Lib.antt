@@ -30,3 +30,4 @@ pub mod Joins
 pub mod Bounds
 pub mod Empty
 pub mod InOrder
+pub mod Copied
