@@ -70,9 +70,8 @@ global-more layout x =
     ap (λ (z : ℕ). global_slots layout z) (let e : x + 1 ≡ suc x = omega arith in e) ∙ map-append (λ (z : ℕ). globals_base layout + z) (numbers_below x) (x ∷ [])
 
 module _ (p : Program) (w : ℕ → ℕ) (area : Area) (g : Graph) (b : Book) (slots : List ℕ) (seeds : AreSeeds p w area g b slots) where
-  pub seeds-each : (s : ℕ) → In s slots → IsSeed p g b s
-  seeds-each s h =
-      let listed = (in-filter (holds_young area w) s (slots_outside p g b seeds.old) (subst (λ (l : List ℕ). In s l) seeds.list h)).0 in
+  pub outside-is : (s : ℕ) → In s (slots_outside p g b seeds.old) → IsSeed p g b s
+  outside-is s listed =
       elim (in-cases s (global_slots (layout_of p) 64) (flat_map (slots_of_name p g b) seeds.old) listed) [
         | inl i ↦ let q = map_in (λ (x : ℕ). globals_base (layout_of p) + x) s (numbers_below 64) i in Global q.0 (in-below 64 q.0 q.1) (sym q.2)
         | inr i ↦
@@ -81,6 +80,9 @@ module _ (p : Program) (w : ℕ → ℕ) (area : Area) (g : Graph) (b : Book) (s
             let f = slots-are (λ (i : ℕ). is_strong_by (kind_of p (g.class n.0)) i (g.size n.0)) (b.address n.0) 0 (g.size n.0) s n.2 in
             Field n.0 f.0 o.0 o.1 o.2 (let l = f.1 in omega arith) f.2 f.3
       ]
+
+  pub seeds-each : (s : ℕ) → In s slots → IsSeed p g b s
+  seeds-each s h = outside-is s (in-filter (holds_young area w) s (slots_outside p g b seeds.old) (subst (λ (l : List ℕ). In s l) seeds.list h)).0
 
   outside : (s : ℕ) → IsSeed p g b s → In s (slots_outside p g b seeds.old)
   outside s (Global x l e) = in-left s (global_slots (layout_of p) 64) (flat_map (slots_of_name p g b) seeds.old)

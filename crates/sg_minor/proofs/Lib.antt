@@ -29,3 +29,5 @@ pub mod Pictures
 pub mod Joins
 pub mod Bounds
 pub mod Empty
+pub mod InOrder
+pub mod Copied

@@ -17,6 +17,8 @@ use Rattle.sg_minor.specs.Joined.{ArePins, IsEnded}
 use Rattle.sg_minor.specs.Law.{IsReportOf, HaveWords, IsRefitted, HasPaused, PauseLaw}
 use Rattle.sg_minor.proofs.Bounds.{area-of-space}
 use Rattle.sg_minor.proofs.After.{Ended, booked, owner3, tile-of}
+use Rattle.sg_words.proofs.Members.{in-right}
+use Rattle.sg_minor.proofs.Copied.{copied}
 use Rattle.sg_minor.proofs.Holds.{held}
 use Rattle.sg_minor.proofs.Told.{minor}
 
@@ -66,6 +68,15 @@ module _ (p : Program) (s : Contents) (g : Graph) (b : Book) (ambiguous pins mov
     book = booked the_pause;
     pause = minor the_pause pins fails refl pinned ended.failed ended.full report told refl;
     heap = (space-of, (owner3 the_pause, held the_pause));
+    copies = record {
+      old = ended.order.old;
+      pinned = ended.order.pinned;
+      found = ended.order.found;
+      old_are = ended.order.old_are;
+      pinned_are = ended.order.pinned_are;
+      searched = ended.order.searched;
+      copied = copied the_pause b.fill moves fails ended.order.found ended.order.parts ended.picture.placed (λ a i. i) (λ a i. in-right a pins fails i) (λ n i. let m = ended.order.each n i in (m.0.0, m.0.1));
+    };
   }
 
 pub pause_law : PauseLaw

@@ -1,6 +1,9 @@
 -- A pause as a whole: from its parts to the law.
-use Rattle.std.proofs.Common.{◌≡◌, ℕ, zero, suc, ◌+◌, ◌<◌, ◌≤◌, inl, inr, List, ◌++◌, map, length, Option, refl, sym, ap, ◌∙◌, subst, arith}
-use Rattle.std.proofs.lemmas.Bool.{cases_eq}
+use Rattle.std.proofs.Common.{◌≡◌, ℕ, zero, suc, ◌+◌, ◌<◌, ◌≤◌, List, ◌++◌, map, length, get_or, Option, refl, sym, ap, ◌∙◌, subst, arith}
+use Rattle.std.specs.List.{Contains}
+use Rattle.std.specs.List.Sorted.{IsStrictlyIncreasing}
+use Rattle.std.proofs.lemmas.List.{get_or-map, length-map}
+use Rattle.std.proofs.lemmas.List.Elements.{Contains-get_or}
 use Rattle.sg_words.specs.Address.{byte_at, word_at}
 use Rattle.sg_words.specs.Tags.{plain_word}
 use Rattle.sg_words.specs.Pieces.{fronts_of, ends_of}
@@ -32,6 +35,17 @@ use Rattle.sg_minor.proofs.Pinned.{are_pins, are_plain}
 use Rattle.sg_minor.proofs.OldSlots.{IsBorder, border_next, first_border, object_here}
 use Rattle.sg_minor.proofs.Rounded.{told_rounded, told_staying, has_swept, told_pins, told_moves, told_fails, have_words}
 
+-- the numbers of words whose addresses are in order
+words_in_order : (bytes : List ℕ) → IsStrictlyIncreasing bytes → ((a : ℕ) → Contains bytes a → byte_at (word_at a) ≡ a) → IsStrictlyIncreasing (map word_at bytes)
+words_in_order bytes up whole k l =
+    let n = length-map bytes word_at in
+    let first = get_or-map word_at bytes k 0 0 (omega arith) in
+    let second = get_or-map word_at bytes (k + 1) 0 0 (omega arith) in
+    let less = up k (omega arith) in
+    let first_whole = whole (get_or bytes k 0) (Contains-get_or bytes k 0 (omega arith)) in
+    let second_whole = whole (get_or bytes (k + 1) 0) (Contains-get_or bytes (k + 1) 0 (omega arith)) in
+    omega arith
+
 -- what is pinned among the objects that a walk told
 pub pins_told : (s : Contents) (told seen : List Object) (ambiguous pins : List ℕ) → seen ≡ told → ((owner : ℕ → Option ℕ) → IsSoundBy s owner → TellsYoung s owner told) →
     ((t : Contents) (owner : ℕ → Option ℕ) → IsSoundBy t owner → TellsYoung t owner seen → ArePinned t.layout owner ambiguous pins) →
@@ -55,6 +69,7 @@ module _ (p : Program) (s : Contents) (g : Graph) (b : Book) (heap : HoldsHeap p
       heap = heap;
       contents = contents;
       pinned = named_pins;
+      in_order = words_in_order bytes pins_of_heap.in_order plain_pins.whole;
       still = still;
       tags = tags;
       seeds = seeds;

@@ -1,6 +1,8 @@
 -- How the parts of a pause meet: tags of the pinned objects, a round of copying, tags away and sweep.
 use Rattle.std.specs.Prelude.{◌≡◌, ◌≢◌, ℕ, ◌+◌, ◌<◌, ◌≤◌, ◌⊎◌, nat_le, nat_lt, ◌==◌, ◌&&◌, Bool, true, false, if◌then◌else◌, List, ◌++◌, map, filter}
 use Rattle.std.specs.List.{flat_map}
+use Rattle.std.specs.List.Sorted.{IsStrictlyIncreasing}
+use Rattle.sg_words.specs.Found.{IsSearched}
 use Rattle.sg_words.specs.Address.{byte_at, word_at}
 use Rattle.sg_words.specs.declared.pieces.Move.{Move}
 use Rattle.sg_program.specs.declared.program.Program.{Program}
@@ -10,7 +12,7 @@ use Rattle.sg_graph.specs.Graph.{Graph}
 use Rattle.sg_graph.specs.Book.{Book, Old, old_end}
 use Rattle.sg_graph.specs.Pause.{IsPinned}
 use Rattle.sg_graph.specs.Epoch.{numbers_below}
-use Rattle.sg_graph.specs.Copies.{StandsOld, AreByAddress}
+use Rattle.sg_graph.specs.Copies.{StandsOld, IsMovable, AreByAddress, items_of, leads_of}
 use Rattle.sg_words.specs.declared.layout.Layout.{Layout}
 use Rattle.sg_words.specs.Reach.{Reached}
 use Rattle.sg_words.specs.Sections.{globals_base}
@@ -21,6 +23,7 @@ use Rattle.sg_minor.specs.Holding.{HoldsHeap}
 use Rattle.sg_copy.specs.Area.{Area, IsYoung, is_strong, Points}
 use Rattle.sg_words.specs.Lists.{In, has}
 use Rattle.sg_words.specs.Objects.{strong_slots, size_of, sent, Placed}
+use Rattle.sg_copy.specs.Order.{Fits}
 use Rattle.sg_copy.specs.Copying.{area_of, IsStill, CanCopyFrom, HasCopiedTo, fields_of_all}
 
 -- these are the first words of exactly the pinned objects
@@ -113,9 +116,21 @@ pub record IsBegun (p : Program) (s : Contents) (g : Graph) (b : Book) (ambiguou
   pub heap : HoldsHeap p s g b
   pub contents : IsContents s
   pub pinned : ArePins g b ambiguous pins
+  pub in_order : IsStrictlyIncreasing pins
   pub still : IsStill s tagged
   pub tags : HasTagged (word s) pins (word tagged)
   pub seeds : AreSeeds p (word s) (area_of s) g b slots
+
+-- The order in which the movable objects are found: of them those move that fit in turn, and the others fail.
+pub record IsOrdered (p : Program) (w : ℕ → ℕ) (g : Graph) (b : Book) (ambiguous moves fails : List ℕ) (end : ℕ) : Type 0 where
+  pub old : List ℕ
+  pub pinned : List ℕ
+  pub found : List ℕ
+  pub old_are : AreByAddress b (StandsOld b) old
+  pub pinned_are : AreByAddress b (IsPinned g b ambiguous) pinned
+  pub each : (n : ℕ) → In n found → IsMovable g b ambiguous n
+  pub searched : IsSearched (IsMovable g b ambiguous) (leads_of p g (items_of p g old pinned)) found
+  pub parts : Fits w (old_end p) b.fill moves fails (map b.address found) end
 
 -- where the objects are after a pause, and what stayed and what moved
 pub record IsEnded (p : Program) (s : Contents) (g : Graph) (b : Book) (ambiguous pins : List ℕ) (moves fails : List ℕ) (m : ℕ → ℕ) (v : ℕ → ℕ) (end : ℕ) : Type 0 where
@@ -124,6 +139,7 @@ pub record IsEnded (p : Program) (s : Contents) (g : Graph) (b : Book) (ambiguou
   -- what failed wasn't pinned by a word, and the major heap has fewer words left than it
   pub failed : (a : ℕ) → In a fails → has a pins ≡ false
   pub full : (a : ℕ) → In a fails → old_end p < end + size_of (word s) a
+  pub order : IsOrdered p (word s) g b ambiguous moves fails end
 
 -- The parts up to the round open it, and after it, with what it moved and failed, a sweep ends the pause.
 pub record JoinLaw : Type 0 where
