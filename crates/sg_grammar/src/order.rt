@@ -164,8 +164,8 @@ pub fn order_of(lines: &[Line<'_>]) -> Order
 #[cfg(test)]
 mod tests {
     use super::{Order, order_of};
-    use sg_text::{Form, Line, Setting};
     use sg_program::Statement;
+    use sg_text::{Form, Line, Setting};
     use std::alloc::Global;
     use std::test::Fail;
 
@@ -185,7 +185,14 @@ mod tests {
     #[test]
     fn texts_that_are_whole(rt: HostRuntime) {
         assert!(rt; order_of(&[Line::Head]) == Order::Whole);
-        assert!(rt; order_of(&[Line::Head, setting(Setting::Cement), setting(Setting::Nursery), PAIR]) == Order::Whole);
+        assert!(rt;
+            order_of(&[
+                Line::Head,
+                setting(Setting::Cement),
+                setting(Setting::Nursery),
+                PAIR
+            ]) == Order::Whole
+        );
         assert!(rt;
             order_of(&[
                 Line::Head,
@@ -228,7 +235,13 @@ mod tests {
         assert!(rt; order_of(&[Line::Mutator, Line::End]) == first);
         assert!(rt; order_of(&[Line::Head, Line::Head]) == second);
         assert!(rt; order_of(&[Line::Head, PUSH]) == second);
-        assert!(rt; order_of(&[Line::Head, setting(Setting::Nursery), setting(Setting::Nursery)]) == third);
+        assert!(rt;
+            order_of(&[
+                Line::Head,
+                setting(Setting::Nursery),
+                setting(Setting::Nursery)
+            ]) == third
+        );
         assert!(rt; order_of(&[Line::Head, PAIR, setting(Setting::Nursery)]) == third);
         assert!(rt; order_of(&[Line::Head, Line::Mutator, Line::Mutator]) == third);
         assert!(rt; order_of(&[Line::Head, Line::Mutator, Line::End, Line::End]) == fourth);

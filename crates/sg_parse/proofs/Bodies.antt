@@ -335,10 +335,6 @@ repeat_more classes lines at times items b item inv there is some out = λ more 
           r.state.whole ∙ ap (λ x. items ++ x) (q.3 ∙ ap (λ x. x ∷ r.parts.more) same) ∙ sym (append_assoc items (item ∷ []) r.parts.more)
     ])
 
--- a repeat has a number that isn't small
-pub repeat_large : (classes : List Class) (lines : List Sentence) (at times : ℕ) → slice_get lines at ≡ Some (Repeats times) → 1048576 < times → IsBody classes lines None
-repeat_large classes lines at times there large = λ more body rest all small e d. let k = small_at lines at (Repeats times) small.1 there in absurd (omega arith)
-
 -- a line of the code that neither ends a body nor begins a repeat
 pub other_line : (line : Line) → ¬ (line ≡ End) → ((times : ℕ) → ¬ (line ≡ RepeatLine times)) → IsOther (sentence_of line)
 other_line Head e r = tt
@@ -354,6 +350,10 @@ other_line (Do statement) e r = tt
 -- the lines behind a line, as the code takes them
 pub slice_is : {A : Type 0} (xs : List A) (n : ℕ) → take (length xs - n) (drop n xs) ≡ drop n xs
 slice_is xs n = take_all (length xs - n) (drop n xs) (let l = length-drop n xs in let q : length (drop n xs) ≤ length xs - n = omega arith in q)
+
+pub inner_small : (lines : List Line) (at : ℕ) → AllByRecursion IsSmall (map sentence_of lines) → AllByRecursion IsSmall (map sentence_of (take (length lines - (at + 1)) (drop (at + 1) lines)))
+inner_small lines at small =
+    subst (AllByRecursion IsSmall) (sym (ap (map sentence_of) (slice_is lines (at + 1)) ∙ sym (drop-map sentence_of (at + 1) lines))) (small_drop (at + 1) (map sentence_of lines) small)
 
 pub inner_body : (classes : List Class) (lines : List Line) (at : ℕ) (o p : Option Body) → o ≡ p → IsBody classes (map sentence_of (take (length lines - (at + 1)) (drop (at + 1) lines))) o →
     IsBody classes (drop (at + 1) (map sentence_of lines)) p

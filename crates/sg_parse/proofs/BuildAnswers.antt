@@ -90,6 +90,13 @@ situation lines classes fault end start whole named names f e low above here =
       small = subst (AllByRecursion IsSmall) (part_is lines end start) (smalls (says lines) end start none low_is);
     }
 
+-- there are few enough classes, where a script is read
+pub few_where_read : (lines : List Line) (classes : List Class) (fault : Option (ℕ × Which)) (end start : ℕ) → Situation lines classes fault end start → 0 < length (take (end - start) (drop start lines)) → length classes ≤ 256
+few_where_read lines classes fault end start s some =
+    let l = length-map (take (end - start) (drop start lines)) sentence_of in
+    let few = few_started (says lines) s.program s.is end start (says (take (end - start) (drop start lines))) s.begun s.within s.none (omega arith) in
+    let few0 = few.0 in let same = ap length s.same in omega arith
+
 -- a script breaks a limit
 pub answer_heavy : (law : HaveOneProgram) → (lines : List Line) (classes : List Class) (fault : Option (ℕ × Which)) (end start : ℕ) (s : Situation lines classes fault end start) (o : Scripts) (index : ℕ) (which : Which) → o ≡ Heavy index which →
     AreRead classes (says (take (end - start) (drop start lines))) o → IsToldWithin (length (take (end - start) (drop start lines))) o → IsBuilt (says lines) (Over (start + index) which)

@@ -80,12 +80,19 @@ module _ (bytes numbers : List ℕ) (s : List Sentence) (short : length bytes �
     pub no-mutator : (count : ℕ) → count ≡ length (lines_of bytes) → HasNoneIn BreaksSome s → ((j : ℕ) → ¬ (slice_get s j ≡ Some Begins)) → IsRefusedBy bytes (Limit count Mutators)
     no-mutator count counted none nobody = (
       short,
-      (found, text, (well-named, inr (
-        none-at-all BreaksSome none,
-        (λ k one there begins. nobody k (sentence_numbered numbers s k one there ∙ ap (λ (l : Sentence). Some l) begins)),
-        counted,
-        refl,
-      ))),
+      (
+        found,
+        text,
+        (
+          well-named,
+          inr (
+            none-at-all BreaksSome none,
+            (λ k one there begins. nobody k (sentence_numbered numbers s k one there ∙ ap (λ (l : Sentence). Some l) begins)),
+            counted,
+            refl,
+          ),
+        ),
+      ),
     )
 
     module _ (none : HasNoneIn BreaksSome s) (mutator : (j : ℕ) × (slice_get s j ≡ Some Begins)) where

@@ -8,10 +8,13 @@ use Rattle.sg_parse.specs.declared.scripts.Scripts.TheVariants.{Read}
 use Rattle.sg_parse.specs.Names.{classes_of}
 use Rattle.sg_text.specs.Reading.{sentence_of}
 use Rattle.sg_parse.specs.Building.{AreRead, total_of, finals_of}
-use Rattle.sg_parse.proofs.Bodies.{inner_body, inner_within}
+use Rattle.sg_parse.proofs.Bodies.{inner_small, inner_body, inner_within}
 use Rattle.sg_parse.proofs.ScriptLemmas.{IsInScripts, scripts_stop, scripts_over, scripts_more, scripts_heavy, sum_small, sum_large}
 use Rattle.sg_parse.proofs.scripts.read_scripts.Goals as goal
 use Rattle.sg_parse.proofs.scripts.read_scripts.Goals.{else-loop-at-test, then-loop-at-test+in_ok-body+in_default}
+
+pub read_body-requires-clause-small : goal.read_body-requires-clause-small
+read_body-requires-clause-small c = inner_small c.args.lines.now c.loop-at.at c.requires.small
 
 pub returns-then-statements-gt-MOST_STATEMENTS : goal.returns-then-statements-gt-MOST_STATEMENTS
 returns-then-statements-gt-MOST_STATEMENTS c =
