@@ -1,7 +1,7 @@
 //! The scripts of a text.
 ghost use Rattle.std.specs.Prelude.{◌≡◌, ℕ, ◌^◌, ◌<◌, ◌≤◌, map, length, IfOk, IfSome};
 ghost use Rattle.std.specs.List.{AllByRecursion};
-ghost use Rattle.sg_parse.specs.Building.{IsSmall, IsStatement, IsBody, AreRead, IsToldWithin};
+ghost use Rattle.sg_parse.specs.Building.{HasSmallNumbers, IsStatement, IsBody, AreScriptsRead, IsToldWithin};
 ghost use Rattle.sg_text.specs.Lines.{made_by};
 ghost use Rattle.sg_parse.specs.Names.{classes_of};
 ghost use Rattle.sg_text.specs.Reading.{maker_of, at_cell, sentence_of};
@@ -61,7 +61,7 @@ fn at_cell(cell: Cell, r: u8, place: u8) -> Statement
 /// The statement of a line within the limits, where the line is one and its class is declared.
 fn statement(names: &Names<'_>, line: &Line<'_>) -> Option<Statement>
     requires few { length (classes_of names.now) ≤ 256 }
-    requires small { IsSmall (sentence_of line.now) }
+    requires small { HasSmallNumbers (sentence_of line.now) }
     ensures { IsStatement (classes_of names.now) (sentence_of line.now) result }
 {
     match *line {
@@ -83,7 +83,7 @@ fn read_body(
     lines: &[Line<'_>],
 ) -> Result<Option<Body>, AllocError>
     requires few { 0 < length lines.now → length (classes_of names.now) ≤ 256 }
-    requires small { AllByRecursion IsSmall (map sentence_of lines.now) }
+    requires small { AllByRecursion HasSmallNumbers (map sentence_of lines.now) }
     ensures items { IfOk result (IsBody (classes_of names.now) (map sentence_of lines.now)) }
     ensures within { IfOk result (λ o. IfSome o (λ b. b.lines ≤ length lines.now)) }
 {
@@ -130,8 +130,8 @@ pub(crate) fn read_scripts(
     lines: &[Line<'_>],
 ) -> Result<Scripts, AllocError>
     requires few { 0 < length lines.now → length (classes_of names.now) ≤ 256 }
-    requires small { AllByRecursion IsSmall (map sentence_of lines.now) }
-    ensures read { IfOk result (AreRead (classes_of names.now) (map sentence_of lines.now)) }
+    requires small { AllByRecursion HasSmallNumbers (map sentence_of lines.now) }
+    ensures read { IfOk result (AreScriptsRead (classes_of names.now) (map sentence_of lines.now)) }
     ensures within { IfOk result (IsToldWithin (length lines.now)) }
 {
     let mut scripts = Vec::new(alloc);
