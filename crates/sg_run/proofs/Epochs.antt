@@ -6,8 +6,8 @@ use Rattle.sg_program.specs.declared.program.Statement.{Statement}
 use Rattle.sg_program.specs.declared.program.Statement.TheVariants.{New, NewV, Mature, Put, Get, PutD, GetD, Num, Move, Hide, Unhide, Drop, Push, Pop, GPut, GGet, WSet, WGet, Final, NextFin, Same, Collect, Sections}
 use Rattle.sg_program.specs.declared.program.Program.{Program}
 use Rattle.sg_program.specs.declared.answers.Answer.{Answer}
-use Rattle.sg_graph.specs.declared.reports.Leave.{Leave}
-use Rattle.sg_graph.specs.declared.reports.Leave.TheVariants.{Ended, Wants}
+use Rattle.sg_program.specs.declared.answers.Leave.{Leave}
+use Rattle.sg_program.specs.declared.answers.Leave.TheVariants.{Ended, Wants}
 use Rattle.sg_program.specs.declared.answers.Request.{Request}
 use Rattle.sg_program.specs.declared.answers.Request.TheVariants.{Need, Minor}
 use Rattle.sg_graph.specs.declared.reports.EpochReport.{EpochReport}
