@@ -120,7 +120,8 @@ pub record HasStepped (s : Contents) (m : Mutating) (t : Contents) (n : Mutating
 
 -- the mutator may do its next statement
 abbrev pub MayStep : Contents → Mutating → Type 0
-MayStep s m = (statement : Statement) (rest : List Statement) → m.script ≡ statement ∷ rest → MayDo m.program (constants_of s) (words_of s) (actor_of m) statement
+MayStep s m = (statement : Statement) (rest : List Statement) → m.script ≡ statement ∷ rest →
+    MayDo m.program (constants_of s) (words_of s) (actor_of m) statement
 
 -- the statement with which the mutator has left may be answered so
 abbrev pub MayServe : Stage → Answer → Type 0
