@@ -11,8 +11,8 @@ use Rattle.sg_text.specs.Laws.{HaveOneSaying}
 use Rattle.sg_grammar.specs.Text.{AreItems, NoItem, OneSays, OneMakes, NoRepeat, OneRepeat, AreScripts, IsProgram, IsAnyName, IsText, MayGoOn, StandsFor, IsFirstRefused}
 use Rattle.sg_parse.specs.declared.refusal.Refusal.{Refusal}
 use Rattle.sg_parse.specs.declared.refusal.Refusal.TheVariants.{TooLong, Syntax, Class, Limit, Later, Memory}
-use Rattle.sg_parse.specs.declared.refusal.Which.{Which}
-use Rattle.sg_parse.specs.Faults.{IsFirstFault, HasNone, IsMisnamed, IsLimitFault, BreaksSome, KeepsLimits, IsLater}
+use Rattle.sg_limits.specs.declared.which.Which.{Which}
+use Rattle.sg_limits.specs.Faults.{IsFirstFault, HasNone, IsMisnamed, IsLimitFault, BreaksSome, KeepsLimits, IsLater}
 use Rattle.sg_parse.specs.Accepted.{IsReadAs, IsRefusedBy}
 
 module _ (names : List ℕ → ℕ → Type 0) where

@@ -17,7 +17,8 @@ use Rattle.sg_text.specs.declared.line.Line.TheVariants.{Head, Setting, Class as
 use Rattle.sg_text.specs.Reading.{sentence_of}
 use Rattle.sg_text.specs.Lines.{Maker, made_by, Sentence, Heads, Sets, Declares, Begins, Repeats, Ends, Makes, Says}
 use Rattle.sg_grammar.specs.Text.{AreItems, NoItem, OneSays, OneMakes, NoRepeat, OneRepeat, StandsFor}
-use Rattle.sg_parse.specs.Building.{HasSmallNumbers, HaveSmallNumbers, IsStatement, IsBody}
+use Rattle.sg_limits.specs.LineLimits.{HasSmallNumbers}
+use Rattle.sg_parse.specs.Building.{HaveSmallNumbers, IsStatement, IsBody}
 
 pub same_item : (a b : Item) → out-Item a ≡ out-Item b → a ≡ b
 same_item a b e = sym (roll-out-Item a) ∙ ap roll-Item e ∙ roll-out-Item b

@@ -12,11 +12,11 @@ use Rattle.sg_words.specs.Lists.{Pairwise}
 use Rattle.sg_program.specs.Scripts.{statements_in, finals_in, is_final, written_out}
 use Rattle.sg_text.specs.Lines.{Sentence, Heads, Begins, Ends}
 use Rattle.sg_grammar.specs.Text.{AreItems, AreScripts, IsClass, IsSetting, IsProgram, StandsFor}
-use Rattle.sg_parse.specs.Faults.{classes_in, is_begin, is_opening, is_ending}
+use Rattle.sg_limits.specs.Faults.{classes_in, is_begin, is_opening, is_ending}
 use Rattle.sg_parse.specs.Building.{AreFront, total_of, finals_of}
 use Rattle.sg_grammar.specs.Laws.{HaveOneProgram}
 use Rattle.sg_parse.proofs.NamedProgram.{classes_are}
-use Rattle.sg_parse.proofs.LineFaults.{take_next}
+use Rattle.sg_words.proofs.Taken.{take_next}
 use Rattle.sg_parse.proofs.ScriptLemmas.{same_script}
 
 -- a sentence that begins nothing and ends nothing

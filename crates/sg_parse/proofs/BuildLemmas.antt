@@ -1,5 +1,7 @@
 -- The settings and the classes of lines, line by line.
 use Rattle.std.proofs.Common.{◌≡◌, Bor, ℕ, ◌+◌, ◌<◌, Some, List, [], ◌∷◌, ◌++◌, length, map, take, get_or, slice_get, sym, ap, ◌∙◌}
+use Rattle.std.proofs.lemmas.Grind.{flat_map-append}
+use Rattle.std.proofs.lemmas.List.{append-nil}
 use Rattle.std.proofs.lemmas.List.Sums.{fold-append}
 use Rattle.sg_program.specs.declared.program.Config.{Config}
 use Rattle.sg_program.specs.declared.program.Class.{Class}
@@ -7,12 +9,15 @@ use Rattle.sg_text.specs.declared.line.Form.{Form}
 use Rattle.sg_text.specs.declared.line.Line.{Line}
 use Rattle.sg_text.specs.declared.line.Line.TheVariants.{Head, Setting, Class as ClassLine, Mutator, Repeat, End, Make, At, Do}
 use Rattle.sg_text.specs.Lines.{Sentence, Begins}
-use Rattle.sg_parse.specs.Faults.{classes_in, class_in}
+use Rattle.sg_limits.specs.Faults.{classes_in, class_in}
 use Rattle.sg_desc.specs.declared.shapes.Shape.{Shape}
 use Rattle.sg_text.specs.Reading.{sentence_of, shape_in}
 use Rattle.sg_parse.specs.Building.{config_with, config_of}
 use Rattle.sg_grammar.specs.Text.{defaults}
-use Rattle.sg_parse.proofs.LineFaults.{read_at, take_next, classes-push}
+use Rattle.sg_words.proofs.Taken.{read_at, take_next}
+
+pub classes-push : (before : List Sentence) (line : Sentence) → classes_in (before ++ line ∷ []) ≡ classes_in before ++ class_in line
+classes-push before line = flat_map-append class_in before (line ∷ []) ∙ ap (λ x. classes_in before ++ x) (append-nil (class_in line))
 
 abbrev pub record_of : List ℕ → Shape → Class
 record_of name shape = record { name = name; shape = shape }

@@ -9,16 +9,17 @@ use Rattle.sg_program.specs.declared.program.Class.{Class}
 use Rattle.sg_program.specs.declared.program.Script.{Script}
 use Rattle.sg_program.specs.declared.program.Program.{Program}
 use Rattle.sg_grammar.specs.Laws.{HaveOneProgram}
-use Rattle.sg_parse.specs.declared.refusal.Which.{Which}
-use Rattle.sg_parse.specs.declared.refusal.Which.TheVariants.{Statements, Finals}
+use Rattle.sg_limits.specs.Laws.{HaveLineLimits}
+use Rattle.sg_limits.specs.declared.which.Which.{Which}
+use Rattle.sg_limits.specs.declared.which.Which.TheVariants.{Statements, Finals}
 use Rattle.sg_parse.specs.declared.scripts.Scripts.TheVariants.{Read, Heavy}
 use Rattle.sg_text.specs.Lines.{Sentence, Heads, Begins}
 use Rattle.sg_grammar.specs.Text.{AreScripts, IsProgram, StandsFor}
-use Rattle.sg_parse.specs.Faults.{classes_in, class_in, is_ending, Breaks, BreaksSome}
-use Rattle.sg_parse.specs.Building.{HasSmallNumbers, AreFront, IsHeavy, AreScriptsRead}
-use Rattle.sg_parse.specs.LineLimits.{HasNoLineFault}
-use Rattle.sg_parse.proofs.LineBreaks.{line_small, class_room, none_broken, is_counted_or}
-use Rattle.sg_parse.proofs.LineFaults.{take_next, classes-push}
+use Rattle.sg_limits.specs.Faults.{classes_in, class_in, is_ending, Breaks, BreaksSome}
+use Rattle.sg_parse.specs.Building.{AreFront, IsHeavy, AreScriptsRead}
+use Rattle.sg_limits.specs.LineLimits.{HasSmallNumbers, HasNoLineFault}
+use Rattle.sg_words.proofs.Taken.{take_next}
+use Rattle.sg_parse.proofs.BuildLemmas.{classes-push}
 use Rattle.sg_parse.proofs.NamedProgram.{all_at}
 use Rattle.sg_parse.proofs.BuildEnd.{IsPlain, above_of, above_plain, above_classes, KeepBelow, keep_front}
 
@@ -44,7 +45,8 @@ pub get_seam : {A : Type 0} (xs ys : List A) (y : A) → slice_get (xs ++ y ∷ 
 get_seam [] ys y = refl
 get_seam (x ∷ xs) ys y = get_seam xs ys y
 
-pub plain_get : (above r : List Sentence) (j : ℕ) (x : Sentence) → AllByRecursion IsPlain above → j < length above → slice_get (above ++ r) j ≡ Some x → IsPlain x
+pub plain_get : (above r : List Sentence) (j : ℕ) (x : Sentence) → AllByRecursion IsPlain above → j < length above → slice_get (above ++ r) j ≡ Some x →
+    IsPlain x
 plain_get [] r j x a l e = absurd (omega arith)
 plain_get (y ∷ ys) r zero x a l e = let same : y ≡ x = cc in subst IsPlain same a.0
 plain_get (y ∷ ys) r (suc j) x a l e = plain_get ys r j x a.1 (omega arith) e
@@ -54,39 +56,40 @@ plain_get (y ∷ ys) r (suc j) x a l e = plain_get ys r j x a.1 (omega arith) e
 pub no_fault_below : (lines : List Sentence) (m n : ℕ) → m ≤ n → HasNoLineFault lines n → HasNoLineFault lines m
 no_fault_below lines m n l none = λ j line below at. none j line (omega arith) at
 
-few_classes : (lines : List Sentence) (n : ℕ) → n ≤ length lines → HasNoLineFault lines n → length (classes_in (take n lines)) ≤ 256
-few_classes lines zero l none = omega arith
-few_classes lines (suc n) l none =
-    let line : Sentence = get_or lines n Heads in
-    let at : slice_get lines n ≡ Some (get_or lines n Heads) = slice_get-get_or lines n Heads (omega arith) in
-    let before = few_classes lines n (omega arith) (no_fault_below lines n (suc n) (omega arith) none) in
-    let room = class_room (take n lines) (get_or lines n Heads) (none n (get_or lines n Heads) (omega arith) at) before in
-    let next : suc n ≡ n + 1 = omega arith in
-    let whole = ap (λ k. take k lines) next ∙ take_next lines n (get_or lines n Heads) at in
-    let longer = ap (λ x. length (classes_in x)) whole ∙ ap length (classes-push (take n lines) (get_or lines n Heads)) ∙ length-append (classes_in (take n lines)) (class_in (get_or lines n Heads)) in
-    omega arith
+module _ (limits : HaveLineLimits) where
+  few_classes : (lines : List Sentence) (n : ℕ) → n ≤ length lines → HasNoLineFault lines n → length (classes_in (take n lines)) ≤ 256
+  few_classes lines zero l none = omega arith
+  few_classes lines (suc n) l none =
+      let line : Sentence = get_or lines n Heads in
+      let at : slice_get lines n ≡ Some (get_or lines n Heads) = slice_get-get_or lines n Heads (omega arith) in
+      let before = few_classes lines n (omega arith) (no_fault_below lines n (suc n) (omega arith) none) in
+      let room = limits.room (take n lines) (get_or lines n Heads) (none n (get_or lines n Heads) (omega arith) at) before in
+      let next : suc n ≡ n + 1 = omega arith in
+      let whole = ap (λ k. take k lines) next ∙ take_next lines n (get_or lines n Heads) at in
+      let longer = ap (λ x. length (classes_in x)) whole ∙ ap length (classes-push (take n lines) (get_or lines n Heads))
+          ∙ length-append (classes_in (take n lines)) (class_in (get_or lines n Heads)) in
+      omega arith
 
-pub smalls : (lines : List Sentence) (end start : ℕ) → HasNoLineFault lines end → start ≤ end → AllByRecursion HasSmallNumbers (take (end - start) (drop start lines))
-smalls lines end start none l = all_at HasSmallNumbers (take (end - start) (drop start lines))
-    (λ i x at. let t = get_take (drop start lines) (end - start) i x at in let d = get_drop lines start i x t.1 in let t0 = t.0 in
-    line_small (take (start + i) lines) x (none (start + i) x (omega arith) d))
+  pub smalls : (lines : List Sentence) (end start : ℕ) → HasNoLineFault lines end → start ≤ end →
+      AllByRecursion HasSmallNumbers (take (end - start) (drop start lines))
+  smalls lines end start none l = all_at HasSmallNumbers (take (end - start) (drop start lines))
+      (λ i x at. let t = get_take (drop start lines) (end - start) i x at in let d = get_drop lines start i x t.1 in let t0 = t.0 in
+      limits.small (take (start + i) lines) x (none (start + i) x (omega arith) d))
 
-pub all_small : (lines : List Sentence) → HasNoLineFault lines (length lines) → AllByRecursion HasSmallNumbers lines
-all_small lines none = all_at HasSmallNumbers lines (λ i x at. line_small (take i lines) x (none i x (slice_get_within lines i x at) at))
+  pub all_small : (lines : List Sentence) → HasNoLineFault lines (length lines) → AllByRecursion HasSmallNumbers lines
+  all_small lines none = all_at HasSmallNumbers lines (λ i x at. limits.small (take i lines) x (none i x (slice_get_within lines i x at) at))
 
--- a line breaks no limit where there is no fault of lines and nothing counted is too much
-pub none_breaks : (lines : List Sentence) (n : ℕ) → HasNoLineFault lines n → KeepBelow lines n → (j : ℕ) (line : Sentence) → j < n → slice_get lines j ≡ Some line → ¬ BreaksSome (take j lines) line
-none_breaks lines n none keep j line below at broken = elim (is_counted_or broken.0) [
-  | inl e ↦
-      let b : Breaks Statements (take j lines) line = subst (λ w. Breaks w (take j lines) line) e broken.1 in
-      let k = keep j line below at b.0 b.2.0 b.2.1 in let k0 = k.0 in let b3 = b.2.2 in omega arith
-  | inr f ↦ elim f [
+  -- a line breaks no limit where there is no fault of lines and nothing counted is too much
+  pub none_breaks : (lines : List Sentence) (n : ℕ) → HasNoLineFault lines n → KeepBelow lines n → (j : ℕ) (line : Sentence) → j < n →
+      slice_get lines j ≡ Some line → ¬ BreaksSome (take j lines) line
+  none_breaks lines n none keep j line below at broken = elim (limits.counted (take j lines) line broken.0 (none j line below at) broken.1) [
     | inl e ↦
+        let b : Breaks Statements (take j lines) line = subst (λ w. Breaks w (take j lines) line) e broken.1 in
+        let k = keep j line below at b.0 b.2.0 b.2.1 in let k0 = k.0 in let b3 = b.2.2 in omega arith
+    | inr e ↦
         let b : Breaks Finals (take j lines) line = subst (λ w. Breaks w (take j lines) line) e broken.1 in
         let k = keep j line below at b.0 b.2.0 b.2.1 in let k1 = k.1 in let b3 = b.2.2 in omega arith
-    | inr o ↦ none_broken broken.0 (take j lines) line o (none j line below at) broken.1
   ]
-]
 
 -- ---- where the scripts begin
 
@@ -95,8 +98,10 @@ pub record Started (above scripts : List Sentence) (end start : ℕ) (found : Li
   pub parts : found ++ more ≡ scripts
   pub place : ((start ≡ length above) × (start ≤ end) × (length found ≡ end - start)) ⊎ ((end ≤ length above) × (found ≡ []) × (start ≡ end))
 
-pub started : (lines above scripts : List Sentence) (end start : ℕ) → lines ≡ above ++ scripts → AllByRecursion IsPlain above → ((scripts ≡ []) ⊎ ((tail : List Sentence) × (scripts ≡ Begins ∷ tail))) →
-    end ≤ length lines → start ≤ end → ((j : ℕ) → j < start → ¬ (slice_get (take end lines) j ≡ Some Begins)) → (start < end → slice_get (take end lines) start ≡ Some Begins) →
+pub started : (lines above scripts : List Sentence) (end start : ℕ) → lines ≡ above ++ scripts → AllByRecursion IsPlain above →
+    ((scripts ≡ []) ⊎ ((tail : List Sentence) × (scripts ≡ Begins ∷ tail))) →
+    end ≤ length lines → start ≤ end → ((j : ℕ) → j < start → ¬ (slice_get (take end lines) j ≡ Some Begins)) →
+        (start < end → slice_get (take end lines) start ≡ Some Begins) →
     Started above scripts end start (take (end - start) (drop start lines))
 started lines above scripts end start whole plain first within low none here =
     let reached : start < end → length above ≤ start = λ l. elim (cases_lt start (length above)) [
@@ -111,7 +116,8 @@ started lines above scripts end start whole plain first within low none here =
             | inl l ↦ elim first [
               | inl e ↦ let k = ap length whole in let k1 = length-append above scripts in let k2 = ap length e in absurd (omega arith)
               | inr t ↦
-                  let at : slice_get lines (length above) ≡ Some Begins = ap (λ x. slice_get x (length above)) (whole ∙ ap (λ s. above ++ s) t.1) ∙ get_seam above t.0 Begins in
+                  let at : slice_get lines (length above) ≡ Some Begins = ap (λ x. slice_get x (length above)) (whole ∙ ap (λ s. above ++ s) t.1)
+                      ∙ get_seam above t.0 Begins in
                   absurd (none (length above) l (take_get lines end (length above) Begins inside at))
             ]
             | inr o ↦ o
@@ -134,48 +140,59 @@ started lines above scripts end start whole plain first within low none here =
 
 -- ---- what the scripts come to
 
-few_of : (lines : List Sentence) (p : Program) (is : IsProgram (StandsFor p.classes) lines p) (end : ℕ) → end ≤ length lines → length (above_of is) ≤ end → HasNoLineFault lines end → length p.classes ≤ 256
-few_of lines p is end within l none =
-    let whole = ap (take (length (above_of is))) is.in_order ∙ take-append_seam (above_of is) is.scripts in
-    let f = few_classes lines (length (above_of is)) (omega arith) (no_fault_below lines (length (above_of is)) end l none) in
-    let k = ap (λ x. length (classes_in x)) whole in let k1 = ap length (above_classes is) in omega arith
-
-pub front_read : (lines : List Sentence) (p : Program) (is : IsProgram (StandsFor p.classes) lines p) (classes : List Class) (found : List Sentence) (scripts : List Script) (more : List Sentence) → classes ≡ p.classes →
-    found ++ more ≡ is.scripts → length p.classes ≤ 256 → AllByRecursion HasSmallNumbers found → AreScriptsRead classes found (Read scripts) → AreFront p.classes is.scripts p.mutators scripts (length found)
+pub front_read : (lines : List Sentence) (p : Program) (is : IsProgram (StandsFor p.classes) lines p) (classes : List Class) (found : List Sentence)
+    (scripts : List Script) (more : List Sentence) → classes ≡ p.classes →
+    found ++ more ≡ is.scripts → length p.classes ≤ 256 → AllByRecursion HasSmallNumbers found → AreScriptsRead classes found (Read scripts) →
+        AreFront p.classes is.scripts p.mutators scripts (length found)
 front_read lines p is classes found scripts more same parts few small read =
     let read1 : AreScriptsRead p.classes found (Read scripts) = subst (λ cs. AreScriptsRead cs found (Read scripts)) same read in
     subst (λ l. AreFront p.classes l p.mutators scripts (length found)) parts
     (read1 more p.mutators (few, small) (subst (λ l. AreScripts (StandsFor p.classes) l p.mutators) (sym parts) is.are_scripts))
 
-pub heavy_read : (lines : List Sentence) (p : Program) (is : IsProgram (StandsFor p.classes) lines p) (classes : List Class) (found : List Sentence) (index : ℕ) (which : Which) (more : List Sentence) → classes ≡ p.classes →
-    found ++ more ≡ is.scripts → length p.classes ≤ 256 → AllByRecursion HasSmallNumbers found → AreScriptsRead classes found (Heavy index which) → IsHeavy p.classes is.scripts p.mutators index which
+pub heavy_read : (lines : List Sentence) (p : Program) (is : IsProgram (StandsFor p.classes) lines p) (classes : List Class) (found : List Sentence) (index : ℕ)
+    (which : Which) (more : List Sentence) → classes ≡ p.classes →
+    found ++ more ≡ is.scripts → length p.classes ≤ 256 → AllByRecursion HasSmallNumbers found → AreScriptsRead classes found (Heavy index which) →
+        IsHeavy p.classes is.scripts p.mutators index which
 heavy_read lines p is classes found index which more same parts few small read =
     let read1 : AreScriptsRead p.classes found (Heavy index which) = subst (λ cs. AreScriptsRead cs found (Heavy index which)) same read in
     subst (λ l. IsHeavy p.classes l p.mutators index which) parts
     (read1 more p.mutators (few, small) (subst (λ l. AreScripts (StandsFor p.classes) l p.mutators) (sym parts) is.are_scripts)).1
 
-pub keep_read : (law : HaveOneProgram) → (lines : List Sentence) (p : Program) (is : IsProgram (StandsFor p.classes) lines p) (classes : List Class) (end start : ℕ) (found : List Sentence) (scripts : List Script) → classes ≡ p.classes →
-    Started (above_of is) is.scripts end start found → end ≤ length lines → HasNoLineFault lines end → AllByRecursion HasSmallNumbers found → AreScriptsRead classes found (Read scripts) → KeepBelow lines end
-keep_read law lines p is classes end start found scripts same s within none small read = elim s.place [
-  | inl at ↦
-      let a0 = at.0 in let a1 = at.1 in let a2 = at.2 in
-      let few = few_of lines p is end within (omega arith) none in
-      let front = front_read lines p is classes found scripts s.more same s.parts few small read in
-      let keep = keep_front law lines p is scripts (length found) front in
-      (λ j line below there ends q of. keep j line (omega arith) there ends q of)
-  | inr at ↦
-      let a0 = at.0 in
-      (λ j line below there ends q of.
-      let plain = plain_get (above_of is) is.scripts j line (above_plain is) (omega arith) (ap (λ x. slice_get x j) (sym is.in_order) ∙ there) in
-      let k = plain.2 in let e = ap is_ending ends in absurd cc)
-]
+module _ (limits : HaveLineLimits) where
+  few_of : (lines : List Sentence) (p : Program) (is : IsProgram (StandsFor p.classes) lines p) (end : ℕ) → end ≤ length lines → length (above_of is) ≤ end →
+      HasNoLineFault lines end → length p.classes ≤ 256
+  few_of lines p is end within l none =
+      let whole = ap (take (length (above_of is))) is.in_order ∙ take-append_seam (above_of is) is.scripts in
+      let f = few_classes limits lines (length (above_of is)) (omega arith) (no_fault_below lines (length (above_of is)) end l none) in
+      let k = ap (λ x. length (classes_in x)) whole in let k1 = ap length (above_classes is) in omega arith
 
-pub few_started : (lines : List Sentence) (p : Program) (is : IsProgram (StandsFor p.classes) lines p) (end start : ℕ) (found : List Sentence) → Started (above_of is) is.scripts end start found → end ≤ length lines →
-    HasNoLineFault lines end → 0 < length found → (length p.classes ≤ 256) × (start ≡ length (above_of is)) × (length found ≡ end - start)
-few_started lines p is end start found s within none some = elim s.place [
-  | inl at ↦ let a0 = at.0 in let a1 = at.1 in (few_of lines p is end within (omega arith) none, at.0, at.2)
-  | inr at ↦ let e = ap length at.1 in absurd (omega arith)
-]
+  pub keep_read : (law : HaveOneProgram) → (lines : List Sentence) (p : Program) (is : IsProgram (StandsFor p.classes) lines p) (classes : List Class)
+      (end start : ℕ) (found : List Sentence) (scripts : List Script) → classes ≡ p.classes →
+      Started (above_of is) is.scripts end start found → end ≤ length lines → HasNoLineFault lines end → AllByRecursion HasSmallNumbers found →
+          AreScriptsRead classes found (Read scripts) → KeepBelow lines end
+  keep_read law lines p is classes end start found scripts same s within none small read = elim s.place [
+    | inl at ↦
+        let a0 = at.0 in let a1 = at.1 in let a2 = at.2 in
+        let few = few_of lines p is end within (omega arith) none in
+        let front = front_read lines p is classes found scripts s.more same s.parts few small read in
+        let keep = keep_front law lines p is scripts (length found) front in
+        (λ j line below there ends q of. keep j line (omega arith) there ends q of)
+    | inr at ↦
+        let a0 = at.0 in
+        (λ j line below there ends q of.
+        let plain = plain_get (above_of is) is.scripts j line (above_plain is) (omega arith) (ap (λ x. slice_get x j) (sym is.in_order) ∙ there) in
+        let k = plain.2 in let e = ap is_ending ends in absurd cc)
+  ]
 
-pub few_all : (lines : List Sentence) (p : Program) (is : IsProgram (StandsFor p.classes) lines p) → HasNoLineFault lines (length lines) → length p.classes ≤ 256
-few_all lines p is none = let k = ap length is.in_order in let k1 = length-append (above_of is) is.scripts in few_of lines p is (length lines) (let q : length lines ≤ length lines = omega arith in q) (omega arith) none
+  pub few_started : (lines : List Sentence) (p : Program) (is : IsProgram (StandsFor p.classes) lines p) (end start : ℕ) (found : List Sentence) →
+      Started (above_of is) is.scripts end start found → end ≤ length lines →
+      HasNoLineFault lines end → 0 < length found → (length p.classes ≤ 256) × (start ≡ length (above_of is)) × (length found ≡ end - start)
+  few_started lines p is end start found s within none some = elim s.place [
+    | inl at ↦ let a0 = at.0 in let a1 = at.1 in (few_of lines p is end within (omega arith) none, at.0, at.2)
+    | inr at ↦ let e = ap length at.1 in absurd (omega arith)
+  ]
+
+  pub few_all : (lines : List Sentence) (p : Program) (is : IsProgram (StandsFor p.classes) lines p) → HasNoLineFault lines (length lines) →
+      length p.classes ≤ 256
+  few_all lines p is none = let k = ap length is.in_order in let k1 = length-append (above_of is) is.scripts in
+      few_of lines p is (length lines) (let q : length lines ≤ length lines = omega arith in q) (omega arith) none

@@ -14,9 +14,9 @@ use Rattle.sg_text.specs.Laws.{HaveOneSaying}
 use Rattle.sg_grammar.specs.Text.{IsProgram, IsWholeText, IsTextOf, StandsFor, HasOneReading}
 use Rattle.sg_parse.specs.declared.refusal.Refusal.{Refusal}
 use Rattle.sg_parse.specs.declared.refusal.Refusal.TheVariants.{Class, Limit, Later, Memory}
-use Rattle.sg_parse.specs.declared.refusal.Which.{Which}
-use Rattle.sg_parse.specs.declared.refusal.Which.TheVariants.{Mutators}
-use Rattle.sg_parse.specs.Faults.{IsFirstFault, HasNone, IsMisnamed, BreaksSome, BreaksFirst, KeepsLimits, IsLater}
+use Rattle.sg_limits.specs.declared.which.Which.{Which}
+use Rattle.sg_limits.specs.declared.which.Which.TheVariants.{Mutators}
+use Rattle.sg_limits.specs.Faults.{IsFirstFault, HasNone, IsMisnamed, BreaksSome, BreaksFirst, KeepsLimits, IsLater}
 use Rattle.sg_parse.specs.Accepted.{IsReadAs, IsRefusedBy}
 use Rattle.sg_parse.specs.Invariants.{IsReadProgram}
 use Rattle.sg_parse.specs.Indices.{IsFirstIn, HasNoneIn}

@@ -10,7 +10,7 @@ use Rattle.std.proofs.lemmas.Option.{slice_get-map, slice_get_within, slice_get-
 use Rattle.sg_program.specs.declared.program.Class.{Class}
 use Rattle.sg_text.specs.declared.line.Line.{Line}
 use Rattle.sg_text.specs.Lines.{Sentence}
-use Rattle.sg_parse.specs.Faults.{class_in, classes_in, is_begin, IsMisnamed}
+use Rattle.sg_limits.specs.Faults.{class_in, classes_in, is_begin, IsMisnamed}
 use Rattle.sg_parse.specs.Names.{Misnames}
 use Rattle.sg_text.specs.Reading.{sentence_of}
 use Rattle.sg_parse.specs.Indices.{IsFirstIn, HasNoneIn}

@@ -11,7 +11,7 @@ use Rattle.sg_program.specs.declared.program.Statement.TheVariants.{GPut, GGet, 
 use Rattle.sg_text.specs.declared.line.Line.{Line}
 use Rattle.sg_text.specs.Lines.{Maker, AsNew, AsVector, AsMature, Sentence, Heads, Sets, Declares, Begins, Repeats, Ends, Makes, Says}
 use Rattle.sg_grammar.specs.Text.{IsClassName, StandsFor}
-use Rattle.sg_parse.specs.Faults.{class_in, classes_in, is_begin, wants_vector, IsFit, IsMisnamed, IsPairClass, IsLater, Another, GlobalPut, GlobalGet, Old, Major, Told, Wide, LinkSet, LinkGet, Registers, Ready, PairOf}
+use Rattle.sg_limits.specs.Faults.{class_in, classes_in, is_begin, wants_vector, IsFit, IsMisnamed, IsPairClass, IsLater, Another, GlobalPut, GlobalGet, Old, Major, Told, Wide, LinkSet, LinkGet, Registers, Ready, PairOf}
 use Rattle.sg_parse.specs.Names.{HaveOwnNames, IsMadeLater, IsDoneLater, IsLaterBy}
 use Rattle.sg_text.specs.Reading.{sentence_of}
 use Rattle.sg_parse.specs.Indices.{HasNoneIn, IsFirstIn}

@@ -6,8 +6,6 @@ pub mod Conclusions
 pub mod Naming
 pub mod Firsts
 pub mod LaterLemmas
-pub mod LineFaults
-pub mod LineBreaks
 pub mod Run
 pub mod Bodies
 pub mod BuildLemmas

@@ -10,7 +10,7 @@ use Rattle.sg_program.specs.declared.program.Script.{Script}
 use Rattle.sg_program.specs.declared.program.Program.{Program}
 use Rattle.sg_text.specs.Lines.{made_by, Sentence, Begins, Repeats, Ends, Makes}
 use Rattle.sg_grammar.specs.Text.{AreItems, NoItem, OneSays, OneMakes, NoRepeat, OneRepeat, AreScripts, IsProgram, IsAnyName, IsWholeText, StandsFor}
-use Rattle.sg_parse.specs.Faults.{class_in, classes_in, IsMisnamed}
+use Rattle.sg_limits.specs.Faults.{class_in, classes_in, IsMisnamed}
 use Rattle.sg_parse.specs.Indices.{HasNoneIn}
 use Rattle.sg_parse.proofs.LaterLemmas.{made_named}
 use Rattle.sg_parse.proofs.Run.{head_of, classes_of_head}

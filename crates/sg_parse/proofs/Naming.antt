@@ -17,7 +17,7 @@ use Rattle.sg_program.specs.declared.program.Class.{Class}
 use Rattle.sg_text.specs.declared.line.Form.{Form}
 use Rattle.sg_text.specs.Lines.{Maker, Sentence, Declares, Makes}
 use Rattle.sg_grammar.specs.Text.{IsClassName, StandsFor}
-use Rattle.sg_parse.specs.Faults.{wants_vector, IsFit, IsPairClass}
+use Rattle.sg_limits.specs.Faults.{wants_vector, IsFit, IsPairClass}
 use Rattle.sg_text.specs.Reading.{shape_in}
 use Rattle.sg_parse.specs.Names.{class_named, HaveOwnNames, IsNamed, Misnames}
 

@@ -6,14 +6,14 @@ use Rattle.std.proofs.lemmas.List.{take-append-drop, take-take}
 use Rattle.std.proofs.lemmas.Option.{same_Some}
 use Rattle.sg_parse.specs.declared.refusal.Refusal.{Refusal}
 use Rattle.sg_parse.specs.declared.refusal.Refusal.TheVariants.{TooLong, Syntax, Class, Limit, Later, Memory}
-use Rattle.sg_parse.specs.declared.refusal.Which.{Which}
-use Rattle.sg_parse.specs.declared.refusal.Which.TheVariants.{Nursery, Blocks, Pages, Buffer, Workers, Cement, Classes, Fields, Vector, Global, Weak, Times, Nesting, Statements, Finals, Mutators}
+use Rattle.sg_limits.specs.declared.which.Which.{Which}
+use Rattle.sg_limits.specs.declared.which.Which.TheVariants.{Nursery, Blocks, Pages, Buffer, Workers, Cement, Classes, Fields, Vector, Global, Weak, Times, Nesting, Statements, Finals, Mutators}
 use Rattle.sg_text.specs.Words.{lines_of}
 use Rattle.sg_text.specs.Lines.{Sentence}
 use Rattle.sg_text.specs.Numbered.{Numbered, sentences}
 use Rattle.sg_text.specs.Laws.{HaveOneSaying}
 use Rattle.sg_grammar.specs.Text.{IsTextOf, IsText, MayGoOn, IsFirstRefused}
-use Rattle.sg_parse.specs.Faults.{IsFirstFault, IsMisnamed, place, Breaks, BreaksFirst, BreaksSome, IsLimitFault, IsLater}
+use Rattle.sg_limits.specs.Faults.{IsFirstFault, IsMisnamed, place, Breaks, BreaksFirst, BreaksSome, IsLimitFault, IsLater}
 use Rattle.sg_parse.specs.Accepted.{IsRefusedBy, HasOneRefusal}
 use Rattle.sg_parse.proofs.Apart.{no-text-refused, first-and-none, limit-and-none, refused-apart}
 

@@ -18,7 +18,7 @@ use Rattle.sg_program.specs.Laws.{ItemsUnfold}
 use Rattle.sg_words.proofs.Everywhere.{all_append, all_front, all_back}
 use Rattle.sg_text.specs.Lines.{Maker, AsNew, AsVector, AsMature, made_by, Sentence, Heads, Begins, Repeats, Ends, Makes, Says, IsLine}
 use Rattle.sg_grammar.specs.Text.{AreItems, NoItem, OneSays, OneMakes, NoRepeat, OneRepeat, AreScripts, IsClass, IsSetting, IsProgram, StandsFor}
-use Rattle.sg_parse.specs.Faults.{class_in, classes_in, is_begin, IsPairClass, IsLater, Another}
+use Rattle.sg_limits.specs.Faults.{class_in, classes_in, is_begin, IsPairClass, IsLater, Another}
 use Rattle.sg_program.specs.Invariants.{IsBuilt}
 use Rattle.sg_parse.specs.Names.{IsLaterBy}
 use Rattle.sg_parse.specs.Indices.{HasNoneIn}

@@ -6,7 +6,7 @@ use Rattle.std.proofs.lemmas.List.Sums.{sum_by-append}
 use Rattle.sg_program.specs.declared.program.Class.{Class}
 use Rattle.sg_program.specs.declared.program.Item.{Item}
 use Rattle.sg_program.specs.declared.program.Script.{Script}
-use Rattle.sg_parse.specs.declared.refusal.Which.{Which}
+use Rattle.sg_limits.specs.declared.which.Which.{Which}
 use Rattle.sg_parse.specs.declared.scripts.Body.{Body}
 use Rattle.sg_parse.specs.declared.scripts.Scripts.TheVariants.{Read, Heavy}
 use Rattle.sg_text.specs.Lines.{Sentence, Begins, Ends}

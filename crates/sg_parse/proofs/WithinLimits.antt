@@ -22,12 +22,12 @@ use Rattle.sg_program.specs.Invariants.{IsSmallClass, AreWithinLimits, HasOperan
 use Rattle.sg_program.specs.Scripts.{shape_at, kind_of, item_text, written, NamesClass, statements_in, finals_in}
 use Rattle.sg_program.specs.Laws.{ItemsUnfold}
 use Rattle.sg_grammar.specs.Laws.{HaveOneProgram}
-use Rattle.sg_parse.specs.declared.refusal.Which.TheVariants.{Nursery, Blocks, Pages, Buffer, Workers, Cement, Fields, Vector, Global, Weak, Times, Statements, Finals}
+use Rattle.sg_limits.specs.declared.which.Which.TheVariants.{Nursery, Blocks, Pages, Buffer, Workers, Cement, Fields, Vector, Global, Weak, Times, Statements, Finals}
 use Rattle.sg_text.specs.declared.line.Setting.{Setting}
 use Rattle.sg_text.specs.declared.line.Setting.TheVariants.{Nursery as TheNursery, Blocks as TheBlocks, Pages as ThePages, Buffer as TheBuffer, Workers as TheWorkers, Cement as TheCement}
 use Rattle.sg_text.specs.Lines.{Maker, AsNew, AsVector, AsMature, made_by, Sentence, Heads, Sets, Declares, Begins, Repeats, Ends, Makes, Says}
 use Rattle.sg_grammar.specs.Text.{value_in, defaults, AreItems, NoItem, OneSays, OneMakes, NoRepeat, OneRepeat, AreScripts, IsClass, AreSettings, IsProgram, StandsFor}
-use Rattle.sg_parse.specs.Faults.{classes_in, wants_vector, IsMisnamed, open_behind, BreaksSome}
+use Rattle.sg_limits.specs.Faults.{classes_in, wants_vector, IsMisnamed, open_behind, BreaksSome}
 use Rattle.sg_parse.specs.Indices.{HasNoneIn}
 use Rattle.sg_parse.specs.Building.{AreLines}
 use Rattle.sg_parse.proofs.LaterLemmas.{front_class, made_fit}

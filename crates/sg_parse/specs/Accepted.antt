@@ -10,7 +10,7 @@ use Rattle.sg_text.specs.Numbered.{Numbered, sentences, Say}
 use Rattle.sg_grammar.specs.Text.{IsProgram, StandsFor, IsTextOf, IsFirstRefused}
 use Rattle.sg_parse.specs.declared.refusal.Refusal.{Refusal}
 use Rattle.sg_parse.specs.declared.refusal.Refusal.TheVariants.{TooLong, Syntax, Class, Limit, Later, Memory}
-use Rattle.sg_parse.specs.Faults.{IsFirstFault, HasNone, IsMisnamed, IsLimitFault, KeepsLimits, IsLater}
+use Rattle.sg_limits.specs.Faults.{IsFirstFault, HasNone, IsMisnamed, IsLimitFault, KeepsLimits, IsLater}
 
 -- The bytes are few enough, they read as this program, each class is declared once and above its use, the limits hold, and
 -- there is nothing that isn't run yet.

@@ -4,14 +4,13 @@ use Rattle.std.specs.List.{AllByRecursion, sum_by, count_by, fold}
 use Rattle.sg_program.specs.declared.program.Config.{Config}
 use Rattle.sg_program.specs.declared.program.Class.{Class}
 use Rattle.sg_program.specs.declared.program.Statement.{Statement}
-use Rattle.sg_program.specs.declared.program.Statement.TheVariants.{GPut, GGet, WSet, WGet}
 use Rattle.sg_program.specs.declared.program.Item.{Item}
 use Rattle.sg_program.specs.declared.program.Script.{Script}
 use Rattle.sg_program.specs.Scripts.{is_final, written_out}
-use Rattle.sg_program.specs.Limits.{MayHave, most_nursery, most_classes, most_vector, last_place, most_times, most_statements, most_finals}
+use Rattle.sg_program.specs.Limits.{most_classes, most_statements, most_finals}
 use Rattle.sg_program.specs.Invariants.{IsWithinLimits}
-use Rattle.sg_parse.specs.declared.refusal.Which.{Which}
-use Rattle.sg_parse.specs.declared.refusal.Which.TheVariants.{Statements, Finals}
+use Rattle.sg_limits.specs.declared.which.Which.{Which}
+use Rattle.sg_limits.specs.declared.which.Which.TheVariants.{Statements, Finals}
 use Rattle.sg_parse.specs.declared.scripts.Body.{Body}
 use Rattle.sg_parse.specs.declared.scripts.Scripts.{Scripts}
 use Rattle.sg_parse.specs.declared.scripts.Scripts.TheVariants.{Read, Heavy}
@@ -19,26 +18,11 @@ use Rattle.sg_parse.specs.declared.build.Built.{Built}
 use Rattle.sg_parse.specs.declared.build.Built.TheVariants.{Program as Made, Over, NoMutator}
 use Rattle.sg_text.specs.declared.line.Setting.{Setting}
 use Rattle.sg_text.specs.declared.line.Setting.TheVariants.{Nursery, Blocks, Pages, Buffer, Workers, Cement}
-use Rattle.sg_text.specs.Lines.{AsVector, made_by, Sentence, Sets, Declares, Begins, Repeats, Ends, Makes, Says, IsLine}
+use Rattle.sg_text.specs.Lines.{made_by, Sentence, Sets, Begins, Ends, Makes, Says, IsLine}
 use Rattle.sg_grammar.specs.Text.{AreItems, AreScripts, defaults, IsProgram, StandsFor}
-use Rattle.sg_parse.specs.Faults.{BreaksFirst, BreaksSome}
+use Rattle.sg_limits.specs.Faults.{BreaksFirst, BreaksSome}
+use Rattle.sg_limits.specs.LineLimits.{HasSmallPlace, HasSmallNumbers}
 use Rattle.sg_parse.specs.Indices.{IsFirstIn, HasNoneIn}
-
--- the numbers of the line fit the fields of a program
-abbrev pub HasSmallPlace : Statement → Type 0
-HasSmallPlace (GPut g r) = g ≤ last_place
-HasSmallPlace (GGet r g) = g ≤ last_place
-HasSmallPlace (WSet w r long) = w ≤ last_place
-HasSmallPlace (WGet r w) = w ≤ last_place
-HasSmallPlace s = Unit {0}
-
-abbrev pub HasSmallNumbers : Sentence → Type 0
-HasSmallNumbers (Sets setting n) = n ≤ most_nursery
-HasSmallNumbers (Declares name shape) = MayHave shape.kind shape.fields
-HasSmallNumbers (Repeats times) = times ≤ most_times
-HasSmallNumbers (Makes (AsVector count) r name) = count ≤ most_vector
-HasSmallNumbers (Says s) = HasSmallPlace s
-HasSmallNumbers line = Unit {0}
 
 -- there are few enough classes, and all numbers of the lines are small enough
 abbrev pub HaveSmallNumbers : List Class → List Sentence → Type 0
@@ -47,17 +31,20 @@ HaveSmallNumbers classes lines = (length classes ≤ most_classes) × AllByRecur
 -- the statement of a line, where it has one
 abbrev pub IsStatement : List Class → Sentence → Option Statement → Type 0
 IsStatement classes (Says s) o = HasSmallPlace s → o ≡ Some s
-IsStatement classes (Makes maker r name) o = (c : ℕ) → length classes ≤ most_classes → HasSmallNumbers (Makes maker r name) → StandsFor classes name c → o ≡ Some (made_by maker r c)
+IsStatement classes (Makes maker r name) o = (c : ℕ) → length classes ≤ most_classes → HasSmallNumbers (Makes maker r name) → StandsFor classes name c →
+    o ≡ Some (made_by maker r c)
 IsStatement classes line o = Unit {0}
 
 -- Where the lines, with what follows them, begin with the body of a mutator or a repeat and with its end: these are the body's items,
 -- and so many lines they are, with the end; or the body doesn't end within the lines.
 abbrev pub IsBody : List Class → List Sentence → Option Body → Type 0
 IsBody classes lines (Some b) =
-    (more body rest : List Sentence) (items : List Item) → HaveSmallNumbers classes lines → lines ++ more ≡ body ++ Ends ∷ rest → AreItems (StandsFor classes) body items →
+    (more body rest : List Sentence) (items : List Item) → HaveSmallNumbers classes lines → lines ++ more ≡ body ++ Ends ∷ rest →
+        AreItems (StandsFor classes) body items →
     (b.items ≡ items) × (b.lines ≡ suc (length body))
 IsBody classes lines None =
-    (more body rest : List Sentence) (items : List Item) → HaveSmallNumbers classes lines → lines ++ more ≡ body ++ Ends ∷ rest → AreItems (StandsFor classes) body items →
+    (more body rest : List Sentence) (items : List Item) → HaveSmallNumbers classes lines → lines ++ more ≡ body ++ Ends ∷ rest →
+        AreItems (StandsFor classes) body items →
     length lines ≤ length body
 
 abbrev pub total_of : List Script → ℕ

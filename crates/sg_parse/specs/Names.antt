@@ -11,7 +11,7 @@ use Rattle.sg_text.specs.Lines.{Maker, AsNew, AsVector, AsMature, Sentence, Decl
 use Rattle.sg_grammar.specs.Text.{IsClassName, StandsFor}
 use Rattle.sg_parse.specs.declared.names.Named.{Named}
 use Rattle.sg_parse.specs.declared.names.Named.TheVariants.{Classes, Misnamed}
-use Rattle.sg_parse.specs.Faults.{classes_in, IsFit, IsMisnamed, IsPairClass}
+use Rattle.sg_limits.specs.Faults.{classes_in, IsFit, IsMisnamed, IsPairClass}
 use Rattle.sg_text.specs.Reading.{shape_in}
 use Rattle.sg_parse.specs.Indices.{IsFirstIn, HasNoneIn}
 

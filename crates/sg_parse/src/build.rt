@@ -1,19 +1,19 @@
 //! The program of a text, and the first line that breaks a limit.
 ghost use Rattle.std.specs.Prelude.{◌≡◌, ℕ, ◌^◌, ◌<◌, ◌≤◌, Some, slice_get, map, length, IfOk};
 ghost use Rattle.std.specs.List.{AllByRecursion};
-ghost use Rattle.sg_parse.specs.Building.{HasSmallNumbers, AreLines, config_set, config_with, config_of, IsBuiltAs};
-ghost use Rattle.sg_parse.specs.Faults.{classes_in, IsMisnamed};
+ghost use Rattle.sg_limits.specs.LineLimits.{HasSmallNumbers};
+ghost use Rattle.sg_parse.specs.Building.{AreLines, config_set, config_with, config_of, IsBuiltAs};
+ghost use Rattle.sg_limits.specs.Faults.{classes_in, IsMisnamed};
 ghost use Rattle.sg_text.specs.Lines.{Begins};
 ghost use Rattle.sg_parse.specs.Names.{AreNames};
 ghost use Rattle.sg_text.specs.Reading.{sentence_of};
 ghost use Rattle.sg_parse.specs.Indices.{HasNoneIn};
 ghost use Rattle.sg_grammar.specs.Text.{IsWholeText};
 
-use crate::limits::line_fault;
 use crate::names::Names;
-use crate::refusal::Which;
 use crate::scripts::{Scripts, read_scripts};
 use sg_grammar::one_program;
+use sg_limits::{Which, line_fault, line_limits};
 use sg_program::{Class, Config, Name, Program, items_unfold};
 use sg_text::{Line, Setting};
 use sg_words::List;
@@ -122,8 +122,9 @@ pub(crate) fn build(
     requires said { AreLines (map sentence_of lines.now) }
     ensures { IfOk result (IsBuiltAs (map sentence_of lines.now)) }
 {
-    // Two laws: these calls do nothing.
+    // Three laws: these calls do nothing.
     one_program();
+    line_limits();
     items_unfold();
     let fault = line_fault(lines);
     let end = match fault {

@@ -2,7 +2,7 @@
 ghost use Rattle.std.specs.Prelude.{◌≡◌, ◌↔◌, ℕ, IsTrue, true, false, map, IfSome, IfNone};
 ghost use Rattle.std.specs.List.{count_by};
 ghost use Rattle.sg_desc.specs.declared.shapes.Descriptor.TheVariants.{Ephemeron};
-ghost use Rattle.sg_parse.specs.Faults.{is_begin, classes_in, IsLater, IsMisnamed, IsPairClass};
+ghost use Rattle.sg_limits.specs.Faults.{is_begin, classes_in, IsLater, IsMisnamed, IsPairClass};
 ghost use Rattle.sg_parse.specs.Names.{classes_of, AreNames, IsMadeLater, IsDoneLater, IsLaterBy};
 ghost use Rattle.sg_text.specs.Reading.{maker_of, shape_in, sentence_of};
 ghost use Rattle.sg_parse.specs.Indices.{HasNoneIn, IsFirstIn};

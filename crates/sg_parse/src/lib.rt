@@ -5,7 +5,6 @@
 
 mod build;
 mod later;
-mod limits;
 mod names;
 mod program;
 mod refusal;
@@ -14,5 +13,6 @@ mod scripts;
 mod tests;
 
 pub use program::{one_refusal, parse};
-pub use refusal::{Refusal, Which};
+pub use refusal::Refusal;
 pub use sg_grammar::one_reading;
+pub use sg_limits::Which;

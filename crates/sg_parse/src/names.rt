@@ -1,7 +1,7 @@
 //! The classes of a text by their names.
 ghost use Rattle.std.specs.Prelude.{◌≡◌, ℕ, Some, true, false, ◌++◌, [], ◌∷◌, slice_get, map, OnOk, IfOk, IfSome, IfNone};
 ghost use Rattle.sg_desc.specs.Shapes.{is_vector};
-ghost use Rattle.sg_parse.specs.Faults.{wants_vector, class_in};
+ghost use Rattle.sg_limits.specs.Faults.{wants_vector, class_in};
 ghost use Rattle.sg_parse.specs.Names.{class_named, classes_of, HaveOwnNames, Misnames, IsNamed, IsNaming};
 ghost use Rattle.sg_text.specs.Reading.{maker_of, shape_in, sentence_of};
 ghost use Rattle.sg_grammar.specs.Text.{IsClassName, StandsFor};

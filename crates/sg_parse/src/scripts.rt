@@ -1,13 +1,14 @@
 //! The scripts of a text.
 ghost use Rattle.std.specs.Prelude.{◌≡◌, ℕ, ◌^◌, ◌<◌, ◌≤◌, map, length, IfOk, IfSome};
 ghost use Rattle.std.specs.List.{AllByRecursion};
-ghost use Rattle.sg_parse.specs.Building.{HasSmallNumbers, IsStatement, IsBody, AreScriptsRead, IsToldWithin};
+ghost use Rattle.sg_limits.specs.LineLimits.{HasSmallNumbers};
+ghost use Rattle.sg_parse.specs.Building.{IsStatement, IsBody, AreScriptsRead, IsToldWithin};
 ghost use Rattle.sg_text.specs.Lines.{made_by};
 ghost use Rattle.sg_parse.specs.Names.{classes_of};
 ghost use Rattle.sg_text.specs.Reading.{maker_of, at_cell, sentence_of};
 
 use crate::names::Names;
-use crate::refusal::Which;
+use sg_limits::Which;
 use sg_program::{Item, Script, Statement, limits, script_finals, script_total};
 use sg_text::{Cell, Line, Maker};
 use sg_words::List;

@@ -4,7 +4,7 @@ use Rattle.sg_program.specs.declared.program.Program.{Program}
 use Rattle.sg_program.specs.Kinds.{IsFirstMisuse}
 use Rattle.sg_parse.specs.declared.refusal.Refusal.{Refusal}
 use Rattle.sg_parse.specs.declared.refusal.Refusal.TheVariants.{TooLong, Syntax, Class, Limit, Later, Memory}
-use Rattle.sg_parse.specs.declared.refusal.Which.{Which}
+use Rattle.sg_limits.specs.declared.which.Which.{Which}
 use Rattle.sg_parse.specs.Text.{HasOneReading}
 use Rattle.sg_parse.specs.Accepted.{IsRefusedBy, HasOneRefusal}
 use Rattle.sg_kinds.specs.declared.KindFault.{KindFault}

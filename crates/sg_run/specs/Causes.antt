@@ -6,8 +6,8 @@ use Rattle.sg_program.specs.Kinds.{IsFirstMisuse}
 use Rattle.sg_trace.specs.Trace.{space, line_feed}
 use Rattle.sg_parse.specs.declared.refusal.Refusal.{Refusal}
 use Rattle.sg_parse.specs.declared.refusal.Refusal.TheVariants.{TooLong, Syntax, Class, Limit, Later, Memory}
-use Rattle.sg_parse.specs.declared.refusal.Which.{Which}
-use Rattle.sg_parse.specs.declared.refusal.Which.TheVariants.{Nursery, Blocks, Pages, Buffer, Workers, Cement, Classes, Fields, Vector, Global, Weak, Times, Nesting, Statements, Finals, Mutators}
+use Rattle.sg_limits.specs.declared.which.Which.{Which}
+use Rattle.sg_limits.specs.declared.which.Which.TheVariants.{Nursery, Blocks, Pages, Buffer, Workers, Cement, Classes, Fields, Vector, Global, Weak, Times, Nesting, Statements, Finals, Mutators}
 use Rattle.sg_parse.specs.Accepted.{IsReadAs, IsRefusedBy}
 use Rattle.sg_run.specs.declared.refusal.Cause.{Cause}
 use Rattle.sg_run.specs.declared.refusal.Cause.TheVariants.{Refused, Misused}

@@ -3,7 +3,7 @@ use Rattle.sg_text.specs.declared.line.Line.{Line}
 use Rattle.sg_text.specs.Words.{lines_of}
 use Rattle.sg_grammar.specs.Text.{IsWholeText}
 use Rattle.sg_program.specs.declared.program.Program.{Program}
-use Rattle.sg_parse.specs.declared.refusal.Which.{Which}
+use Rattle.sg_limits.specs.declared.which.Which.{Which}
 use Rattle.sg_parse.specs.declared.names.Names.{Names}
 use Rattle.sg_parse.specs.declared.names.Named.{Named}
 use Rattle.sg_parse.specs.declared.names.Named.TheVariants.{Classes, Misnamed}
@@ -11,7 +11,7 @@ use Rattle.sg_parse.specs.declared.build.Built.{Built}
 use Rattle.sg_parse.specs.declared.build.Built.TheVariants.{Program as Made, Over, NoMutator}
 use Rattle.sg_parse.specs.Names.{IsNaming}
 use Rattle.sg_parse.specs.Building.{IsBuiltAs}
-use Rattle.sg_parse.specs.Faults.{IsMisnamed}
+use Rattle.sg_limits.specs.Faults.{IsMisnamed}
 use Rattle.sg_text.specs.Reading.{sentence_of, AreRead}
 use Rattle.sg_parse.specs.Indices.{IsFirstIn, HasNoneIn}
 use Rattle.sg_text.specs.Lines.{Sentence}

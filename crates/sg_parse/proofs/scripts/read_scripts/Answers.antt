@@ -3,7 +3,7 @@ use Rattle.std.specs.List.{count_by}
 use Rattle.std.proofs.lemmas.List.{length-map}
 use Rattle.sg_program.specs.declared.program.Script.{Script}
 use Rattle.sg_program.specs.Scripts.{is_final, written_out}
-use Rattle.sg_parse.specs.declared.refusal.Which.TheVariants.{Statements, Finals}
+use Rattle.sg_limits.specs.declared.which.Which.TheVariants.{Statements, Finals}
 use Rattle.sg_parse.specs.declared.scripts.Scripts.TheVariants.{Read}
 use Rattle.sg_parse.specs.Names.{classes_of}
 use Rattle.sg_text.specs.Reading.{sentence_of}

@@ -1,18 +1,18 @@
--- The limits of single lines, as tests.
-use Rattle.std.specs.Prelude.{◌≡◌, ℕ, ◌+◌, ◌%◌, ◌<◌, ◌==◌, ◌&&◌, nat_le, nat_lt, Bool, Option, Some, None, if◌then◌else◌, List, length, take, slice_get}
+-- The limits of single lines: as tests, and what the numbers of a line come to that keeps them.
+use Rattle.std.specs.Prelude.{◌≡◌, ℕ, ◌+◌, ◌%◌, ◌<◌, ◌≤◌, ◌==◌, ◌&&◌, nat_le, nat_lt, Bool, Option, Some, None, if◌then◌else◌, List, length, take, slice_get}
 use Rattle.std.specs.List.{count_by}
 use Rattle.sg_desc.specs.declared.shapes.Descriptor.{Descriptor}
 use Rattle.sg_desc.specs.declared.shapes.Descriptor.TheVariants.{PtrFree, Run, Bitmap, VectorRefs, VectorPlain, Ephemeron}
 use Rattle.sg_desc.specs.declared.shapes.Shape.{Shape}
 use Rattle.sg_program.specs.declared.program.Statement.{Statement}
 use Rattle.sg_program.specs.declared.program.Statement.TheVariants.{GPut, GGet, WSet, WGet}
-use Rattle.sg_parse.specs.declared.refusal.Which.{Which}
-use Rattle.sg_parse.specs.declared.refusal.Which.TheVariants.{Nursery, Blocks, Pages, Buffer, Workers, Cement, Classes, Fields, Vector, Global, Weak, Times, Nesting, Mutators}
-use Rattle.sg_program.specs.Limits.{least_nursery, most_nursery, nursery_step, most_blocks, most_pages, least_buffer, most_buffer, most_workers, most_cement, most_classes, most_fields, most_mask, most_vector, last_place, most_times, most_nesting, most_mutators}
+use Rattle.sg_limits.specs.declared.which.Which.{Which}
+use Rattle.sg_limits.specs.declared.which.Which.TheVariants.{Nursery, Blocks, Pages, Buffer, Workers, Cement, Classes, Fields, Vector, Global, Weak, Times, Nesting, Mutators}
+use Rattle.sg_program.specs.Limits.{MayHave, least_nursery, most_nursery, nursery_step, most_blocks, most_pages, least_buffer, most_buffer, most_workers, most_cement, most_classes, most_fields, most_mask, most_vector, last_place, most_times, most_nesting, most_mutators}
 use Rattle.sg_text.specs.declared.line.Setting.{Setting}
 use Rattle.sg_text.specs.declared.line.Setting.TheVariants.{Nursery as TheNursery, Blocks as TheBlocks, Pages as ThePages, Buffer as TheBuffer, Workers as TheWorkers, Cement as TheCement}
 use Rattle.sg_text.specs.Lines.{Maker, AsVector, Sentence, Sets, Declares, Begins, Repeats, Makes, Says}
-use Rattle.sg_parse.specs.Faults.{classes_in, open_behind, is_begin}
+use Rattle.sg_limits.specs.Faults.{classes_in, open_behind, is_begin}
 
 abbrev pub is_within : ℕ → ℕ → ℕ → Bool
 is_within low high n = nat_le low n && nat_le n high
@@ -79,4 +79,21 @@ HasNoLineFault lines n = (j : ℕ) (line : Sentence) → j < n → slice_get lin
 -- the first line that breaks a limit by itself, and the first limit that it breaks
 abbrev pub IsLineFault : List Sentence → Option (ℕ × Which) → Type 0
 IsLineFault lines None = HasNoLineFault lines (length lines)
-IsLineFault lines (Some found) = ((line : Sentence) × (slice_get lines found.0 ≡ Some line) × (fault_behind (take found.0 lines) line ≡ Some found.1)) × HasNoLineFault lines found.0
+IsLineFault lines (Some found) = ((line : Sentence) × (slice_get lines found.0 ≡ Some line) × (fault_behind (take found.0 lines) line ≡ Some found.1))
+    × HasNoLineFault lines found.0
+
+-- the numbers of the line fit the fields of a program
+abbrev pub HasSmallPlace : Statement → Type 0
+HasSmallPlace (GPut g r) = g ≤ last_place
+HasSmallPlace (GGet r g) = g ≤ last_place
+HasSmallPlace (WSet w r long) = w ≤ last_place
+HasSmallPlace (WGet r w) = w ≤ last_place
+HasSmallPlace s = Unit {0}
+
+abbrev pub HasSmallNumbers : Sentence → Type 0
+HasSmallNumbers (Sets setting n) = n ≤ most_nursery
+HasSmallNumbers (Declares name shape) = MayHave shape.kind shape.fields
+HasSmallNumbers (Repeats times) = times ≤ most_times
+HasSmallNumbers (Makes (AsVector count) r name) = count ≤ most_vector
+HasSmallNumbers (Says s) = HasSmallPlace s
+HasSmallNumbers line = Unit {0}

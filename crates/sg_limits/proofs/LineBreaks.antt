@@ -10,17 +10,17 @@ use Rattle.sg_desc.specs.declared.shapes.Shape.{Shape}
 use Rattle.sg_program.specs.Limits.{MayHave, IsNurserySize, most_nursery, most_blocks, most_pages, least_buffer, most_buffer, most_workers, most_cement, most_classes, most_fields, most_vector, last_place, most_times, most_nesting, most_mutators}
 use Rattle.sg_program.specs.declared.program.Statement.{Statement}
 use Rattle.sg_program.specs.declared.program.Statement.TheVariants.{New, NewV, Mature, Put, Get, PutD, GetD, Num, Move, Hide, Unhide, Drop, Push, Pop, GPut, GGet, WSet, WGet, Final, NextFin, Same, Collect, Sections}
-use Rattle.sg_parse.specs.declared.refusal.Which.{Which}
-use Rattle.sg_parse.specs.declared.refusal.Which.TheVariants.{Nursery, Blocks, Pages, Buffer, Workers, Cement, Classes, Fields, Vector, Global, Weak, Times, Nesting, Statements, Finals, Mutators}
+use Rattle.sg_limits.specs.declared.which.Which.{Which}
+use Rattle.sg_limits.specs.declared.which.Which.TheVariants.{Nursery, Blocks, Pages, Buffer, Workers, Cement, Classes, Fields, Vector, Global, Weak, Times, Nesting, Statements, Finals, Mutators}
 use Rattle.sg_text.specs.declared.line.Setting.{Setting}
 use Rattle.sg_text.specs.declared.line.Setting.TheVariants.{Nursery as TheNursery, Blocks as TheBlocks, Pages as ThePages, Buffer as TheBuffer, Workers as TheWorkers, Cement as TheCement}
 use Rattle.sg_text.specs.Lines.{Maker, AsNew, AsVector, AsMature, Sentence, Heads, Sets, Declares, Begins, Repeats, Ends, Makes, Says}
-use Rattle.sg_parse.specs.Faults.{classes_in, class_in, open_behind, is_begin, Breaks, BreaksFirst, place}
-use Rattle.sg_parse.specs.Building.{HasSmallPlace, HasSmallNumbers}
-use Rattle.sg_parse.specs.LineLimits.{is_within, is_nursery_size, may_have, unless, setting_fault, class_fault, repeat_fault, maker_fault, statement_fault, fault_behind}
+use Rattle.sg_limits.specs.Faults.{classes_in, class_in, open_behind, is_begin, Breaks, BreaksFirst, place}
+use Rattle.sg_limits.specs.Laws.{HaveLineLimits}
+use Rattle.sg_limits.specs.LineLimits.{HasSmallPlace, HasSmallNumbers, is_within, is_nursery_size, may_have, unless, setting_fault, class_fault, repeat_fault, maker_fault, statement_fault, fault_behind}
 
 -- a limit on what is counted at a mutator's end
-pub data IsCounted : Which → Type 0 where
+data IsCounted : Which → Type 0 where
   OfStatements : IsCounted Statements
   OfFinals : IsCounted Finals
 
@@ -93,9 +93,11 @@ group-le-place Finals = omega arith
 group-le-place Mutators = omega arith
 
 -- the first limit of a group is the first one that the line breaks
-pub first_of_group : (which : Which) (before : List Sentence) (line : Sentence) → group which ≡ place which → Breaks which before line → BreaksFirst which before line
+first_of_group : (which : Which) (before : List Sentence) (line : Sentence) → group which ≡ place which → Breaks which before line →
+    BreaksFirst which before line
 first_of_group which before line first broken =
-    (broken, λ other lower b. let p = grouped which before line broken in let q = grouped other before line b in let r = group-le-place other in absurd (omega arith))
+    (broken, λ other lower b. let p = grouped which before line broken in let q = grouped other before line b in let r = group-le-place other in
+        absurd (omega arith))
 
 abbrev row : ℕ → Which
 row n =
@@ -135,7 +137,7 @@ row-place Finals = refl
 row-place Mutators = refl
 
 -- the second limit of a group is the first one that the line breaks, where it keeps the first
-pub second_of_group : (first which : Which) (before : List Sentence) (line : Sentence) → group which ≡ place first → place which ≡ suc (place first) →
+second_of_group : (first which : Which) (before : List Sentence) (line : Sentence) → group which ≡ place first → place which ≡ suc (place first) →
     Breaks which before line → ¬ Breaks first before line → BreaksFirst which before line
 second_of_group first which before line together behind broken kept = (
   broken,
@@ -200,39 +202,51 @@ lt_false : (n high : ℕ) → nat_lt n high ≡ false → high ≤ n
 lt_false n high e = grind (arith, nat_tests, common_steps)
 
 -- a line of which no limit is told breaks none by itself
-pub none_broken : (which : Which) (before : List Sentence) (line : Sentence) → ¬ IsCounted which → fault_behind before line ≡ None → ¬ Breaks which before line
+none_broken : (which : Which) (before : List Sentence) (line : Sentence) → ¬ IsCounted which → fault_behind before line ≡ None → ¬ Breaks which before line
 none_broken Nursery before line o q b =
     let k : unless (is_nursery_size b.0) Nursery ≡ None = subst (λ l. fault_behind before l ≡ None) b.1 q in b.2 (nursery_true b.0 (unless_none _ _ k))
 none_broken Blocks before line o q b =
-    let k : unless (is_within 1 most_blocks b.0) Blocks ≡ None = subst (λ l. fault_behind before l ≡ None) b.1 q in b.2 (within_true 1 most_blocks b.0 (unless_none _ _ k))
+    let k : unless (is_within 1 most_blocks b.0) Blocks ≡ None = subst (λ l. fault_behind before l ≡ None) b.1 q in
+        b.2 (within_true 1 most_blocks b.0 (unless_none _ _ k))
 none_broken Pages before line o q b =
-    let k : unless (nat_le b.0 most_pages) Pages ≡ None = subst (λ l. fault_behind before l ≡ None) b.1 q in let h = le_true b.0 most_pages (unless_none _ _ k) in let g = b.2 in omega arith
+    let k : unless (nat_le b.0 most_pages) Pages ≡ None = subst (λ l. fault_behind before l ≡ None) b.1 q in
+        let h = le_true b.0 most_pages (unless_none _ _ k) in let g = b.2 in omega arith
 none_broken Buffer before line o q b =
-    let k : unless (is_within least_buffer most_buffer b.0) Buffer ≡ None = subst (λ l. fault_behind before l ≡ None) b.1 q in b.2 (within_true least_buffer most_buffer b.0 (unless_none _ _ k))
+    let k : unless (is_within least_buffer most_buffer b.0) Buffer ≡ None = subst (λ l. fault_behind before l ≡ None) b.1 q in
+        b.2 (within_true least_buffer most_buffer b.0 (unless_none _ _ k))
 none_broken Workers before line o q b =
-    let k : unless (is_within 1 most_workers b.0) Workers ≡ None = subst (λ l. fault_behind before l ≡ None) b.1 q in b.2 (within_true 1 most_workers b.0 (unless_none _ _ k))
+    let k : unless (is_within 1 most_workers b.0) Workers ≡ None = subst (λ l. fault_behind before l ≡ None) b.1 q in
+        b.2 (within_true 1 most_workers b.0 (unless_none _ _ k))
 none_broken Cement before line o q b =
-    let k : unless (is_within 1 most_cement b.0) Cement ≡ None = subst (λ l. fault_behind before l ≡ None) b.1 q in b.2 (within_true 1 most_cement b.0 (unless_none _ _ k))
+    let k : unless (is_within 1 most_cement b.0) Cement ≡ None = subst (λ l. fault_behind before l ≡ None) b.1 q in
+        b.2 (within_true 1 most_cement b.0 (unless_none _ _ k))
 none_broken Classes before line o q b =
     let k : class_fault (length (classes_in before)) b.1 ≡ None = subst (λ l. fault_behind before l ≡ None) b.2 q in
-    pick (nat_le most_classes (length (classes_in before))) (Some Classes) (unless (may_have b.1.kind b.1.fields) Fields) None k (λ t e. absurd cc) (λ f e. let h = le_false most_classes (length (classes_in before)) f in let g = b.3 in omega arith)
+    pick (nat_le most_classes (length (classes_in before))) (Some Classes) (unless (may_have b.1.kind b.1.fields) Fields) None k (λ t e. absurd cc)
+        (λ f e. let h = le_false most_classes (length (classes_in before)) f in let g = b.3 in omega arith)
 none_broken Fields before line o q b =
     let k : class_fault (length (classes_in before)) b.1 ≡ None = subst (λ l. fault_behind before l ≡ None) b.2 q in
-    pick (nat_le most_classes (length (classes_in before))) (Some Classes) (unless (may_have b.1.kind b.1.fields) Fields) None k (λ t e. absurd cc) (λ f e. b.3 (may_true b.1.kind b.1.fields (unless_none _ _ e)))
+    pick (nat_le most_classes (length (classes_in before))) (Some Classes) (unless (may_have b.1.kind b.1.fields) Fields) None k (λ t e. absurd cc)
+        (λ f e. b.3 (may_true b.1.kind b.1.fields (unless_none _ _ e)))
 none_broken Vector before line o q b =
-    let k : unless (nat_le b.0 most_vector) Vector ≡ None = subst (λ l. fault_behind before l ≡ None) b.3 q in let h = le_true b.0 most_vector (unless_none _ _ k) in let g = b.4 in omega arith
+    let k : unless (nat_le b.0 most_vector) Vector ≡ None = subst (λ l. fault_behind before l ≡ None) b.3 q in
+        let h = le_true b.0 most_vector (unless_none _ _ k) in let g = b.4 in omega arith
 none_broken Global before line o q b =
-    let k : unless (nat_le b.0 last_place) Global ≡ None = elim b.2 [ inl e ↦ subst (λ l. fault_behind before l ≡ None) e q | inr e ↦ subst (λ l. fault_behind before l ≡ None) e q ] in
+    let k : unless (nat_le b.0 last_place) Global ≡ None = elim b.2 [ inl e ↦ subst (λ l. fault_behind before l ≡ None) e q
+        | inr e ↦ subst (λ l. fault_behind before l ≡ None) e q ] in
     let h = le_true b.0 last_place (unless_none _ _ k) in let g = b.3 in omega arith
 none_broken Weak before line o q b =
-    let k : unless (nat_le b.0 last_place) Weak ≡ None = elim b.3 [ inl e ↦ subst (λ l. fault_behind before l ≡ None) e q | inr e ↦ subst (λ l. fault_behind before l ≡ None) e q ] in
+    let k : unless (nat_le b.0 last_place) Weak ≡ None = elim b.3 [ inl e ↦ subst (λ l. fault_behind before l ≡ None) e q
+        | inr e ↦ subst (λ l. fault_behind before l ≡ None) e q ] in
     let h = le_true b.0 last_place (unless_none _ _ k) in let g = b.4 in omega arith
 none_broken Times before line o q b =
     let k : repeat_fault (open_behind before) b.0 ≡ None = subst (λ l. fault_behind before l ≡ None) b.1 q in
-    pick (is_within 1 most_times b.0) (unless (nat_le (open_behind before) most_nesting) Nesting) (Some Times) None k (λ t e. b.2 (within_true 1 most_times b.0 t)) (λ f e. absurd cc)
+    pick (is_within 1 most_times b.0) (unless (nat_le (open_behind before) most_nesting) Nesting) (Some Times) None k
+        (λ t e. b.2 (within_true 1 most_times b.0 t)) (λ f e. absurd cc)
 none_broken Nesting before line o q b =
     let k : repeat_fault (open_behind before) b.0 ≡ None = subst (λ l. fault_behind before l ≡ None) b.1 q in
-    pick (is_within 1 most_times b.0) (unless (nat_le (open_behind before) most_nesting) Nesting) (Some Times) None k (λ t e. let h = le_true (open_behind before) most_nesting (unless_none _ _ e) in let g = b.2 in omega arith) (λ f e. absurd cc)
+    pick (is_within 1 most_times b.0) (unless (nat_le (open_behind before) most_nesting) Nesting) (Some Times) None k
+        (λ t e. let h = le_true (open_behind before) most_nesting (unless_none _ _ e) in let g = b.2 in omega arith) (λ f e. absurd cc)
 none_broken Statements before line o q b = o OfStatements
 none_broken Finals before line o q b = o OfFinals
 none_broken Mutators before line o q b =
@@ -240,32 +254,43 @@ none_broken Mutators before line o q b =
     let h = lt_true (count_by is_begin before) 16 (unless_none _ _ k) in let g = b.1 in omega arith
 
 -- the limit is the told one
-told : (first : Which) (before : List Sentence) (line : Sentence) (which : Which) → which ≡ first → BreaksFirst first before line → BreaksFirst which before line
+told : (first : Which) (before : List Sentence) (line : Sentence) (which : Which) → which ≡ first → BreaksFirst first before line →
+    BreaksFirst which before line
 told first before line which e b = subst (λ w. BreaksFirst w before line) (sym e) b
 
 of_setting : (first : Which) (before : List Sentence) (setting : Setting) (n : ℕ) (test : Bool) (which : Which) → unless test first ≡ Some which →
     (test ≡ false → BreaksFirst first before (Sets setting n)) → BreaksFirst which before (Sets setting n)
 of_setting first before setting n test which q f = let u = unless_some test first which q in told first before (Sets setting n) which u.1 (f u.0)
 
-setting_broken : (before : List Sentence) (setting : Setting) (n : ℕ) (which : Which) → setting_fault setting n ≡ Some which → BreaksFirst which before (Sets setting n)
-setting_broken before TheNursery n which q = of_setting Nursery before TheNursery n (is_nursery_size n) which q (λ f. first_of_group Nursery before (Sets TheNursery n) refl (n, refl, nursery_false n f))
-setting_broken before TheBlocks n which q = of_setting Blocks before TheBlocks n (is_within 1 most_blocks n) which q (λ f. first_of_group Blocks before (Sets TheBlocks n) refl (n, refl, within_false 1 most_blocks n f))
-setting_broken before ThePages n which q = of_setting Pages before ThePages n (nat_le n most_pages) which q (λ f. first_of_group Pages before (Sets ThePages n) refl (n, refl, le_false n most_pages f))
-setting_broken before TheBuffer n which q = of_setting Buffer before TheBuffer n (is_within least_buffer most_buffer n) which q (λ f. first_of_group Buffer before (Sets TheBuffer n) refl (n, refl, within_false least_buffer most_buffer n f))
-setting_broken before TheWorkers n which q = of_setting Workers before TheWorkers n (is_within 1 most_workers n) which q (λ f. first_of_group Workers before (Sets TheWorkers n) refl (n, refl, within_false 1 most_workers n f))
-setting_broken before TheCement n which q = of_setting Cement before TheCement n (is_within 1 most_cement n) which q (λ f. first_of_group Cement before (Sets TheCement n) refl (n, refl, within_false 1 most_cement n f))
+setting_broken : (before : List Sentence) (setting : Setting) (n : ℕ) (which : Which) → setting_fault setting n ≡ Some which →
+    BreaksFirst which before (Sets setting n)
+setting_broken before TheNursery n which q = of_setting Nursery before TheNursery n (is_nursery_size n) which q
+    (λ f. first_of_group Nursery before (Sets TheNursery n) refl (n, refl, nursery_false n f))
+setting_broken before TheBlocks n which q = of_setting Blocks before TheBlocks n (is_within 1 most_blocks n) which q
+    (λ f. first_of_group Blocks before (Sets TheBlocks n) refl (n, refl, within_false 1 most_blocks n f))
+setting_broken before ThePages n which q = of_setting Pages before ThePages n (nat_le n most_pages) which q
+    (λ f. first_of_group Pages before (Sets ThePages n) refl (n, refl, le_false n most_pages f))
+setting_broken before TheBuffer n which q = of_setting Buffer before TheBuffer n (is_within least_buffer most_buffer n) which q
+    (λ f. first_of_group Buffer before (Sets TheBuffer n) refl (n, refl, within_false least_buffer most_buffer n f))
+setting_broken before TheWorkers n which q = of_setting Workers before TheWorkers n (is_within 1 most_workers n) which q
+    (λ f. first_of_group Workers before (Sets TheWorkers n) refl (n, refl, within_false 1 most_workers n f))
+setting_broken before TheCement n which q = of_setting Cement before TheCement n (is_within 1 most_cement n) which q
+    (λ f. first_of_group Cement before (Sets TheCement n) refl (n, refl, within_false 1 most_cement n f))
 
-class_broken : (before : List Sentence) (name : List ℕ) (shape : Shape) (which : Which) → class_fault (length (classes_in before)) shape ≡ Some which → BreaksFirst which before (Declares name shape)
+class_broken : (before : List Sentence) (name : List ℕ) (shape : Shape) (which : Which) → class_fault (length (classes_in before)) shape ≡ Some which →
+    BreaksFirst which before (Declares name shape)
 class_broken before name shape which q =
     pick (nat_le most_classes (length (classes_in before))) (Some Classes) (unless (may_have shape.kind shape.fields) Fields) (Some which) q
     (λ t e. let same : which ≡ Classes = cc in
-    told Classes before (Declares name shape) which same (first_of_group Classes before (Declares name shape) refl (name, shape, refl, le_true most_classes (length (classes_in before)) t)))
+    told Classes before (Declares name shape) which same (first_of_group Classes before (Declares name shape) refl
+        (name, shape, refl, le_true most_classes (length (classes_in before)) t)))
     (λ f e. let u = unless_some (may_have shape.kind shape.fields) Fields which e in
     told Fields before (Declares name shape) which u.1
     (second_of_group Classes Fields before (Declares name shape) refl refl (name, shape, refl, may_false shape.kind shape.fields u.0)
     (λ b. let h = le_false most_classes (length (classes_in before)) f in let g = b.3 in omega arith)))
 
-repeat_broken : (before : List Sentence) (times : ℕ) (which : Which) → repeat_fault (open_behind before) times ≡ Some which → BreaksFirst which before (Repeats times)
+repeat_broken : (before : List Sentence) (times : ℕ) (which : Which) → repeat_fault (open_behind before) times ≡ Some which →
+    BreaksFirst which before (Repeats times)
 repeat_broken before times which q =
     pick (is_within 1 most_times times) (unless (nat_le (open_behind before) most_nesting) Nesting) (Some Times) (Some which) q
     (λ t e. let u = unless_some (nat_le (open_behind before) most_nesting) Nesting which e in
@@ -275,22 +300,28 @@ repeat_broken before times which q =
     (λ f e. let same : which ≡ Times = cc in
     told Times before (Repeats times) which same (first_of_group Times before (Repeats times) refl (times, refl, within_false 1 most_times times f)))
 
-maker_broken : (before : List Sentence) (maker : Maker) (r : ℕ) (name : List ℕ) (which : Which) → maker_fault maker ≡ Some which → BreaksFirst which before (Makes maker r name)
+maker_broken : (before : List Sentence) (maker : Maker) (r : ℕ) (name : List ℕ) (which : Which) → maker_fault maker ≡ Some which →
+    BreaksFirst which before (Makes maker r name)
 maker_broken before AsNew r name which q = absurd cc
 maker_broken before (AsVector count) r name which q =
     let u = unless_some _ Vector which q in
-    told Vector before (Makes (AsVector count) r name) which u.1 (first_of_group Vector before (Makes (AsVector count) r name) refl (count, r, name, refl, le_false count most_vector u.0))
+    told Vector before (Makes (AsVector count) r name) which u.1 (first_of_group Vector before (Makes (AsVector count) r name) refl
+        (count, r, name, refl, le_false count most_vector u.0))
 maker_broken before AsMature r name which q = absurd cc
 
 statement_broken : (before : List Sentence) (s : Statement) (which : Which) → statement_fault s ≡ Some which → BreaksFirst which before (Says s)
 statement_broken before (GPut g r) which q =
-    let u = unless_some _ Global which q in told Global before (Says (GPut g r)) which u.1 (first_of_group Global before (Says (GPut g r)) refl (g, r, inl refl, le_false g last_place u.0))
+    let u = unless_some _ Global which q in told Global before (Says (GPut g r)) which u.1
+        (first_of_group Global before (Says (GPut g r)) refl (g, r, inl refl, le_false g last_place u.0))
 statement_broken before (GGet r g) which q =
-    let u = unless_some _ Global which q in told Global before (Says (GGet r g)) which u.1 (first_of_group Global before (Says (GGet r g)) refl (g, r, inr refl, le_false g last_place u.0))
+    let u = unless_some _ Global which q in told Global before (Says (GGet r g)) which u.1
+        (first_of_group Global before (Says (GGet r g)) refl (g, r, inr refl, le_false g last_place u.0))
 statement_broken before (WSet w r long) which q =
-    let u = unless_some _ Weak which q in told Weak before (Says (WSet w r long)) which u.1 (first_of_group Weak before (Says (WSet w r long)) refl (w, r, long, inl refl, le_false w last_place u.0))
+    let u = unless_some _ Weak which q in told Weak before (Says (WSet w r long)) which u.1
+        (first_of_group Weak before (Says (WSet w r long)) refl (w, r, long, inl refl, le_false w last_place u.0))
 statement_broken before (WGet r w) which q =
-    let u = unless_some _ Weak which q in told Weak before (Says (WGet r w)) which u.1 (first_of_group Weak before (Says (WGet r w)) refl (w, r, false, inr refl, le_false w last_place u.0))
+    let u = unless_some _ Weak which q in told Weak before (Says (WGet r w)) which u.1
+        (first_of_group Weak before (Says (WGet r w)) refl (w, r, false, inr refl, le_false w last_place u.0))
 statement_broken before (New r class) which q = absurd cc
 statement_broken before (NewV r class count) which q = absurd cc
 statement_broken before (Mature r class) which q = absurd cc
@@ -312,12 +343,13 @@ statement_broken before (Collect major) which q = absurd cc
 statement_broken before Sections which q = absurd cc
 
 -- the told limit is the first one that the line breaks
-pub found_broken : (before : List Sentence) (line : Sentence) (which : Which) → fault_behind before line ≡ Some which → BreaksFirst which before line
+found_broken : (before : List Sentence) (line : Sentence) (which : Which) → fault_behind before line ≡ Some which → BreaksFirst which before line
 found_broken before Heads which q = absurd cc
 found_broken before (Sets at n) which q = setting_broken before at n which q
 found_broken before (Declares name shape) which q = class_broken before name shape which q
 found_broken before Begins which q =
-    let u = unless_some _ Mutators which q in told Mutators before Begins which u.1 (first_of_group Mutators before Begins refl (refl, lt_false (count_by is_begin before) 16 u.0))
+    let u = unless_some _ Mutators which q in told Mutators before Begins which u.1
+        (first_of_group Mutators before Begins refl (refl, lt_false (count_by is_begin before) 16 u.0))
 found_broken before (Repeats times) which q = repeat_broken before times which q
 found_broken before Ends which q = absurd cc
 found_broken before (Makes maker r name) which q = maker_broken before maker r name which q
@@ -340,7 +372,8 @@ class_small classes shape q =
 
 repeat_small : (behind times : ℕ) → repeat_fault behind times ≡ None → times ≤ most_times
 repeat_small behind times q =
-    pick (is_within 1 most_times times) (unless (nat_le behind most_nesting) Nesting) (Some Times) None q (λ t e. (within_true 1 most_times times t).1) (λ f e. absurd cc)
+    pick (is_within 1 most_times times) (unless (nat_le behind most_nesting) Nesting) (Some Times) None q (λ t e. (within_true 1 most_times times t).1)
+        (λ f e. absurd cc)
 
 maker_small : (maker : Maker) (r : ℕ) (name : List ℕ) → maker_fault maker ≡ None → HasSmallNumbers (Makes maker r name)
 maker_small AsNew r name q = tt
@@ -372,7 +405,7 @@ statement_small (Same r t) q = tt
 statement_small (Collect major) q = tt
 statement_small Sections q = tt
 
-pub line_small : (before : List Sentence) (line : Sentence) → fault_behind before line ≡ None → HasSmallNumbers line
+line_small : (before : List Sentence) (line : Sentence) → fault_behind before line ≡ None → HasSmallNumbers line
 line_small before Heads q = tt
 line_small before (Sets at n) q = setting_small at n q
 line_small before (Declares name shape) q = (class_small (length (classes_in before)) shape q).1
@@ -382,7 +415,8 @@ line_small before Ends q = tt
 line_small before (Makes maker r name) q = maker_small maker r name q
 line_small before (Says s) q = statement_small s q
 
-pub class_room : (before : List Sentence) (line : Sentence) → fault_behind before line ≡ None → length (classes_in before) ≤ most_classes → length (classes_in before) + length (class_in line) ≤ most_classes
+class_room : (before : List Sentence) (line : Sentence) → fault_behind before line ≡ None → length (classes_in before) ≤ most_classes →
+    length (classes_in before) + length (class_in line) ≤ most_classes
 class_room before Heads q l = omega arith
 class_room before (Sets at n) q l = omega arith
 class_room before (Declares name shape) q l = let c = class_small (length (classes_in before)) shape q in let c0 = c.0 in omega arith
@@ -401,10 +435,10 @@ counted_true : {which : Which} → IsCounted which → counted which ≡ true
 counted_true OfStatements = refl
 counted_true OfFinals = refl
 
-pub not_counted : (which : Which) → counted which ≡ false → ¬ IsCounted which
+not_counted : (which : Which) → counted which ≡ false → ¬ IsCounted which
 not_counted which e c = let t = counted_true c in cc
 
-pub is_counted_or : (which : Which) → (which ≡ Statements) ⊎ ((which ≡ Finals) ⊎ (¬ IsCounted which))
+is_counted_or : (which : Which) → (which ≡ Statements) ⊎ ((which ≡ Finals) ⊎ (¬ IsCounted which))
 is_counted_or Nursery = inr (inr (not_counted Nursery refl))
 is_counted_or Blocks = inr (inr (not_counted Blocks refl))
 is_counted_or Pages = inr (inr (not_counted Pages refl))
@@ -422,8 +456,20 @@ is_counted_or Statements = inl refl
 is_counted_or Finals = inr (inl refl)
 is_counted_or Mutators = inr (inr (not_counted Mutators refl))
 
-pub statements_first : (before : List Sentence) (line : Sentence) → Breaks Statements before line → BreaksFirst Statements before line
-statements_first before line b = first_of_group Statements before line refl b
+-- a line of which no limit is told breaks at most a limit of what is counted
+counted_only : (before : List Sentence) (line : Sentence) (which : Which) → fault_behind before line ≡ None → Breaks which before line →
+    (which ≡ Statements) ⊎ (which ≡ Finals)
+counted_only before line which none broken = elim (is_counted_or which) [
+  | inl e ↦ inl e
+  | inr f ↦ elim f [ inl e ↦ inr e | inr o ↦ absurd (none_broken which before line o none broken) ]
+]
 
-pub finals_first : (before : List Sentence) (line : Sentence) → Breaks Finals before line → ¬ Breaks Statements before line → BreaksFirst Finals before line
-finals_first before line b n = second_of_group Statements Finals before line refl refl b n
+pub have_line_limits : HaveLineLimits
+have_line_limits = record {
+  first = found_broken;
+  counted = counted_only;
+  small = line_small;
+  room = class_room;
+  statements = λ before line broken. first_of_group Statements before line refl broken;
+  finals = λ before line broken kept. second_of_group Statements Finals before line refl refl broken kept;
+}

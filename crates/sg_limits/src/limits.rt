@@ -1,10 +1,10 @@
 //! The limits that a line keeps by itself, or by how many lines of a kind stand above it.
 ghost use Rattle.std.specs.Prelude.{◌≡◌, ◌+◌, ◌-◌, ◌^◌, ◌<◌, ◌&&◌, nat_le, cond, map, length};
-ghost use Rattle.sg_parse.specs.Faults.{class_in, is_opening, is_ending, is_begin};
-ghost use Rattle.sg_parse.specs.LineLimits.{is_within, is_nursery_size, may_have, unless, setting_fault, maker_fault, statement_fault, line_fault, IsLineFault};
+ghost use Rattle.sg_limits.specs.Faults.{class_in, is_opening, is_ending, is_begin};
+ghost use Rattle.sg_limits.specs.LineLimits.{is_within, is_nursery_size, may_have, unless, setting_fault, maker_fault, statement_fault, line_fault, IsLineFault};
 ghost use Rattle.sg_text.specs.Reading.{maker_of, shape_in, at_cell, sentence_of};
 
-use crate::refusal::Which;
+use crate::which::Which;
 use sg_program::{Statement, limits};
 use sg_text::{Cell, Form, Line, Maker, Setting};
 
@@ -161,8 +161,8 @@ impl Above {
     }
 }
 
-/// The first line that breaks a limit by itself, and the first limit that it breaks.
-pub(crate) fn line_fault(lines: &[Line<'_>]) -> Option<(usize, Which)>
+/// The first line that breaks a limit by itself, by its index, and the first limit that it breaks. Linear in the lines.
+pub fn line_fault(lines: &[Line<'_>]) -> Option<(usize, Which)>
     ensures { IsLineFault (map sentence_of lines.now) result }
 {
     let mut above = Above {
