@@ -2,12 +2,11 @@
 use Rattle.std.proofs.Common.{◌≡◌, ◌⊎◌, if◌then◌else◌, ℕ, suc, ◌+◌, ◌<◌, ◌≤◌, ◌==◌, nat_le, nat_lt, Bool, true, false, cond, Option, Some, None, List, length, inl, inr, sym, refl, ap, ◌∙◌, subst, arith}
 use Rattle.std.specs.List.{count_by}
 use Rattle.std.proofs.lemmas.Grind.{common_steps}
-use Rattle.std.proofs.lemmas.Bool.{cases_eq}
 use Rattle.std.proofs.lemmas.Bool.Decides.{nat_tests}
 use Rattle.sg_desc.specs.declared.shapes.Descriptor.{Descriptor}
 use Rattle.sg_desc.specs.declared.shapes.Descriptor.TheVariants.{PtrFree, Run, Bitmap, VectorRefs, VectorPlain, Ephemeron}
 use Rattle.sg_desc.specs.declared.shapes.Shape.{Shape}
-use Rattle.sg_program.specs.Limits.{MayHave, IsNurserySize, most_nursery, most_blocks, most_pages, least_buffer, most_buffer, most_workers, most_cement, most_classes, most_fields, most_vector, last_place, most_times, most_nesting, most_mutators}
+use Rattle.sg_program.specs.Limits.{MayHave, IsNurserySize, most_nursery, most_blocks, most_pages, least_buffer, most_buffer, most_workers, most_cement, most_classes, most_vector, last_place, most_times, most_nesting}
 use Rattle.sg_program.specs.declared.program.Statement.{Statement}
 use Rattle.sg_program.specs.declared.program.Statement.TheVariants.{New, NewV, Mature, Put, Get, PutD, GetD, Num, Move, Hide, Unhide, Drop, Push, Pop, GPut, GGet, WSet, WGet, Final, NextFin, Same, Collect, Sections}
 use Rattle.sg_limits.specs.declared.which.Which.{Which}
@@ -95,9 +94,11 @@ group-le-place Mutators = omega arith
 -- the first limit of a group is the first one that the line breaks
 first_of_group : (which : Which) (before : List Sentence) (line : Sentence) → group which ≡ place which → Breaks which before line →
     BreaksFirst which before line
-first_of_group which before line first broken =
-    (broken, λ other lower b. let p = grouped which before line broken in let q = grouped other before line b in let r = group-le-place other in
-        absurd (omega arith))
+first_of_group which before line first broken = (
+  broken,
+  λ other lower b. let p = grouped which before line broken in let q = grouped other before line b in let r = group-le-place other in
+      absurd (omega arith),
+)
 
 abbrev row : ℕ → Which
 row n =
@@ -207,46 +208,50 @@ none_broken Nursery before line o q b =
     let k : unless (is_nursery_size b.0) Nursery ≡ None = subst (λ l. fault_behind before l ≡ None) b.1 q in b.2 (nursery_true b.0 (unless_none _ _ k))
 none_broken Blocks before line o q b =
     let k : unless (is_within 1 most_blocks b.0) Blocks ≡ None = subst (λ l. fault_behind before l ≡ None) b.1 q in
-        b.2 (within_true 1 most_blocks b.0 (unless_none _ _ k))
+    b.2 (within_true 1 most_blocks b.0 (unless_none _ _ k))
 none_broken Pages before line o q b =
     let k : unless (nat_le b.0 most_pages) Pages ≡ None = subst (λ l. fault_behind before l ≡ None) b.1 q in
-        let h = le_true b.0 most_pages (unless_none _ _ k) in let g = b.2 in omega arith
+    let h = le_true b.0 most_pages (unless_none _ _ k) in let g = b.2 in omega arith
 none_broken Buffer before line o q b =
     let k : unless (is_within least_buffer most_buffer b.0) Buffer ≡ None = subst (λ l. fault_behind before l ≡ None) b.1 q in
-        b.2 (within_true least_buffer most_buffer b.0 (unless_none _ _ k))
+    b.2 (within_true least_buffer most_buffer b.0 (unless_none _ _ k))
 none_broken Workers before line o q b =
     let k : unless (is_within 1 most_workers b.0) Workers ≡ None = subst (λ l. fault_behind before l ≡ None) b.1 q in
-        b.2 (within_true 1 most_workers b.0 (unless_none _ _ k))
+    b.2 (within_true 1 most_workers b.0 (unless_none _ _ k))
 none_broken Cement before line o q b =
     let k : unless (is_within 1 most_cement b.0) Cement ≡ None = subst (λ l. fault_behind before l ≡ None) b.1 q in
-        b.2 (within_true 1 most_cement b.0 (unless_none _ _ k))
+    b.2 (within_true 1 most_cement b.0 (unless_none _ _ k))
 none_broken Classes before line o q b =
     let k : class_fault (length (classes_in before)) b.1 ≡ None = subst (λ l. fault_behind before l ≡ None) b.2 q in
     pick (nat_le most_classes (length (classes_in before))) (Some Classes) (unless (may_have b.1.kind b.1.fields) Fields) None k (λ t e. absurd cc)
-        (λ f e. let h = le_false most_classes (length (classes_in before)) f in let g = b.3 in omega arith)
+    (λ f e. let h = le_false most_classes (length (classes_in before)) f in let g = b.3 in omega arith)
 none_broken Fields before line o q b =
     let k : class_fault (length (classes_in before)) b.1 ≡ None = subst (λ l. fault_behind before l ≡ None) b.2 q in
     pick (nat_le most_classes (length (classes_in before))) (Some Classes) (unless (may_have b.1.kind b.1.fields) Fields) None k (λ t e. absurd cc)
-        (λ f e. b.3 (may_true b.1.kind b.1.fields (unless_none _ _ e)))
+    (λ f e. b.3 (may_true b.1.kind b.1.fields (unless_none _ _ e)))
 none_broken Vector before line o q b =
     let k : unless (nat_le b.0 most_vector) Vector ≡ None = subst (λ l. fault_behind before l ≡ None) b.3 q in
-        let h = le_true b.0 most_vector (unless_none _ _ k) in let g = b.4 in omega arith
+    let h = le_true b.0 most_vector (unless_none _ _ k) in let g = b.4 in omega arith
 none_broken Global before line o q b =
-    let k : unless (nat_le b.0 last_place) Global ≡ None = elim b.2 [ inl e ↦ subst (λ l. fault_behind before l ≡ None) e q
-        | inr e ↦ subst (λ l. fault_behind before l ≡ None) e q ] in
+    let k : unless (nat_le b.0 last_place) Global ≡ None = elim b.2 [
+      | inl e ↦ subst (λ l. fault_behind before l ≡ None) e q
+      | inr e ↦ subst (λ l. fault_behind before l ≡ None) e q
+    ] in
     let h = le_true b.0 last_place (unless_none _ _ k) in let g = b.3 in omega arith
 none_broken Weak before line o q b =
-    let k : unless (nat_le b.0 last_place) Weak ≡ None = elim b.3 [ inl e ↦ subst (λ l. fault_behind before l ≡ None) e q
-        | inr e ↦ subst (λ l. fault_behind before l ≡ None) e q ] in
+    let k : unless (nat_le b.0 last_place) Weak ≡ None = elim b.3 [
+      | inl e ↦ subst (λ l. fault_behind before l ≡ None) e q
+      | inr e ↦ subst (λ l. fault_behind before l ≡ None) e q
+    ] in
     let h = le_true b.0 last_place (unless_none _ _ k) in let g = b.4 in omega arith
 none_broken Times before line o q b =
     let k : repeat_fault (open_behind before) b.0 ≡ None = subst (λ l. fault_behind before l ≡ None) b.1 q in
     pick (is_within 1 most_times b.0) (unless (nat_le (open_behind before) most_nesting) Nesting) (Some Times) None k
-        (λ t e. b.2 (within_true 1 most_times b.0 t)) (λ f e. absurd cc)
+    (λ t e. b.2 (within_true 1 most_times b.0 t)) (λ f e. absurd cc)
 none_broken Nesting before line o q b =
     let k : repeat_fault (open_behind before) b.0 ≡ None = subst (λ l. fault_behind before l ≡ None) b.1 q in
     pick (is_within 1 most_times b.0) (unless (nat_le (open_behind before) most_nesting) Nesting) (Some Times) None k
-        (λ t e. let h = le_true (open_behind before) most_nesting (unless_none _ _ e) in let g = b.2 in omega arith) (λ f e. absurd cc)
+    (λ t e. let h = le_true (open_behind before) most_nesting (unless_none _ _ e) in let g = b.2 in omega arith) (λ f e. absurd cc)
 none_broken Statements before line o q b = o OfStatements
 none_broken Finals before line o q b = o OfFinals
 none_broken Mutators before line o q b =
@@ -283,7 +288,7 @@ class_broken before name shape which q =
     pick (nat_le most_classes (length (classes_in before))) (Some Classes) (unless (may_have shape.kind shape.fields) Fields) (Some which) q
     (λ t e. let same : which ≡ Classes = cc in
     told Classes before (Declares name shape) which same (first_of_group Classes before (Declares name shape) refl
-        (name, shape, refl, le_true most_classes (length (classes_in before)) t)))
+    (name, shape, refl, le_true most_classes (length (classes_in before)) t)))
     (λ f e. let u = unless_some (may_have shape.kind shape.fields) Fields which e in
     told Fields before (Declares name shape) which u.1
     (second_of_group Classes Fields before (Declares name shape) refl refl (name, shape, refl, may_false shape.kind shape.fields u.0)
@@ -306,22 +311,22 @@ maker_broken before AsNew r name which q = absurd cc
 maker_broken before (AsVector count) r name which q =
     let u = unless_some _ Vector which q in
     told Vector before (Makes (AsVector count) r name) which u.1 (first_of_group Vector before (Makes (AsVector count) r name) refl
-        (count, r, name, refl, le_false count most_vector u.0))
+    (count, r, name, refl, le_false count most_vector u.0))
 maker_broken before AsMature r name which q = absurd cc
 
 statement_broken : (before : List Sentence) (s : Statement) (which : Which) → statement_fault s ≡ Some which → BreaksFirst which before (Says s)
 statement_broken before (GPut g r) which q =
     let u = unless_some _ Global which q in told Global before (Says (GPut g r)) which u.1
-        (first_of_group Global before (Says (GPut g r)) refl (g, r, inl refl, le_false g last_place u.0))
+    (first_of_group Global before (Says (GPut g r)) refl (g, r, inl refl, le_false g last_place u.0))
 statement_broken before (GGet r g) which q =
     let u = unless_some _ Global which q in told Global before (Says (GGet r g)) which u.1
-        (first_of_group Global before (Says (GGet r g)) refl (g, r, inr refl, le_false g last_place u.0))
+    (first_of_group Global before (Says (GGet r g)) refl (g, r, inr refl, le_false g last_place u.0))
 statement_broken before (WSet w r long) which q =
     let u = unless_some _ Weak which q in told Weak before (Says (WSet w r long)) which u.1
-        (first_of_group Weak before (Says (WSet w r long)) refl (w, r, long, inl refl, le_false w last_place u.0))
+    (first_of_group Weak before (Says (WSet w r long)) refl (w, r, long, inl refl, le_false w last_place u.0))
 statement_broken before (WGet r w) which q =
     let u = unless_some _ Weak which q in told Weak before (Says (WGet r w)) which u.1
-        (first_of_group Weak before (Says (WGet r w)) refl (w, r, false, inr refl, le_false w last_place u.0))
+    (first_of_group Weak before (Says (WGet r w)) refl (w, r, false, inr refl, le_false w last_place u.0))
 statement_broken before (New r class) which q = absurd cc
 statement_broken before (NewV r class count) which q = absurd cc
 statement_broken before (Mature r class) which q = absurd cc
@@ -349,7 +354,7 @@ found_broken before (Sets at n) which q = setting_broken before at n which q
 found_broken before (Declares name shape) which q = class_broken before name shape which q
 found_broken before Begins which q =
     let u = unless_some _ Mutators which q in told Mutators before Begins which u.1
-        (first_of_group Mutators before Begins refl (refl, lt_false (count_by is_begin before) 16 u.0))
+    (first_of_group Mutators before Begins refl (refl, lt_false (count_by is_begin before) 16 u.0))
 found_broken before (Repeats times) which q = repeat_broken before times which q
 found_broken before Ends which q = absurd cc
 found_broken before (Makes maker r name) which q = maker_broken before maker r name which q
@@ -373,7 +378,7 @@ class_small classes shape q =
 repeat_small : (behind times : ℕ) → repeat_fault behind times ≡ None → times ≤ most_times
 repeat_small behind times q =
     pick (is_within 1 most_times times) (unless (nat_le behind most_nesting) Nesting) (Some Times) None q (λ t e. (within_true 1 most_times times t).1)
-        (λ f e. absurd cc)
+    (λ f e. absurd cc)
 
 maker_small : (maker : Maker) (r : ℕ) (name : List ℕ) → maker_fault maker ≡ None → HasSmallNumbers (Makes maker r name)
 maker_small AsNew r name q = tt

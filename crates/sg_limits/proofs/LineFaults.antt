@@ -1,10 +1,9 @@
 -- The limits of single lines.
-use Rattle.std.proofs.Common.{◌≡◌, ℕ, ◌+◌, ◌-◌, ◌<◌, ◌≤◌, Bool, cond, option_map, Some, None, List, [], ◌∷◌, ◌++◌, length, map, zero-add, take, get_or, slice_get, inl, inr, sym, refl, ap, ◌∙◌, arith}
+use Rattle.std.proofs.Common.{◌≡◌, ℕ, ◌+◌, ◌-◌, ◌≤◌, Bool, cond, Some, None, List, [], ◌∷◌, ◌++◌, length, take, slice_get, inl, inr, sym, ap, ◌∙◌, arith}
 use Rattle.std.specs.List.{count_by}
 use Rattle.std.proofs.lemmas.Bool.{cases_eq}
-use Rattle.std.proofs.lemmas.Option.{slice_get-map, slice_get-get_or, get_or_from_slice_get, slice_get_within}
-use Rattle.std.proofs.lemmas.List.{take_more, append-nil, length-append, length-take-le}
-use Rattle.std.proofs.lemmas.List.Sums.{count_by-le-length, sum_by-append}
+use Rattle.std.proofs.lemmas.List.{append-nil, length-append, length-take-le}
+use Rattle.std.proofs.lemmas.List.Sums.{count_by-le-length}
 use Rattle.std.proofs.lemmas.Grind.{flat_map-append}
 use Rattle.std.proofs.lemmas.List.Concat.{flat_map-cons}
 use Rattle.sg_text.specs.Lines.{Sentence, Declares}
@@ -20,9 +19,6 @@ pub record AreAbove (lines : List Sentence) (i classes opened ended begun : ℕ)
   pub begun_are : begun ≡ count_by is_begin (take i lines)
   pub none : HasNoLineFault lines i
 
-none_above : (lines : List Sentence) → AreAbove lines 0 0 0 0 0
-none_above lines = record { classes_are = refl; opened_are = refl; ended_are = refl; begun_are = refl; none = λ j line below at. absurd (omega arith) }
-
 classes-push : (before : List Sentence) (line : Sentence) → classes_in (before ++ line ∷ []) ≡ classes_in before ++ class_in line
 classes-push before line = flat_map-append class_in before (line ∷ []) ∙ ap (λ x. classes_in before ++ x) (append-nil (class_in line))
 
@@ -35,7 +31,7 @@ pub fault_here : (lines : List Sentence) (i classes opened ended begun : ℕ) �
     line_fault classes (opened - ended) begun line ≡ fault_behind (take i lines) line
 fault_here lines i classes opened ended begun above line =
     ap (λ x. line_fault x (opened - ended) begun line) above.classes_are ∙ ap (λ x. line_fault (length (classes_in (take i lines))) (x - ended) begun line)
-        above.opened_are
+    above.opened_are
     ∙ ap (λ x. line_fault (length (classes_in (take i lines))) (count_by is_opening (take i lines) - x) begun line) above.ended_are
     ∙ ap (λ x. line_fault (length (classes_in (take i lines))) (open_behind (take i lines)) x line) above.begun_are
 
@@ -52,12 +48,12 @@ pub one_more : (lines : List Sentence) (i classes opened ended begun classes1 op
     AreAbove lines i classes opened ended begun →
     slice_get lines i ≡ Some line → line_fault classes (opened - ended) begun line ≡ None →
     classes1 ≡ classes + length (class_in line) → opened1 ≡ opened + cond (is_opening line) 1 0 → ended1 ≡ ended + cond (is_ending line) 1 0 →
-        begun1 ≡ begun + cond (is_begin line) 1 0 →
+    begun1 ≡ begun + cond (is_begin line) 1 0 →
     AreAbove lines (i + 1) classes1 opened1 ended1 begun1
 one_more lines i classes opened ended begun classes1 opened1 ended1 begun1 line above at fine c o e b = record {
   classes_are = c ∙ ap (λ x. x + length (class_in line)) above.classes_are
       ∙ sym (ap (λ x. length (classes_in x)) (take_next lines i line at) ∙ ap length (classes-push (take i lines) line)
-          ∙ length-append (classes_in (take i lines)) (class_in line));
+      ∙ length-append (classes_in (take i lines)) (class_in line));
   opened_are = count_next is_opening lines i opened opened1 line at above.opened_are o;
   ended_are = count_next is_ending lines i ended ended1 line at above.ended_are e;
   begun_are = count_next is_begin lines i begun begun1 line at above.begun_are b;

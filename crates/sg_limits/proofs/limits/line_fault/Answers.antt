@@ -11,7 +11,7 @@ below-above-requires-clause-classes c =
     let l = length-map c.args.lines.now sentence_of in
     let m : c.loop-index.index ≤ length (map sentence_of c.args.lines.now) = omega arith in
     let few_here = few (map sentence_of c.args.lines.now) c.loop-index.index c.loop-index.above.classes c.loop-index.above.opened c.loop-index.above.ended
-        c.loop-index.above.begun m c.loop-index.invariant in
+    c.loop-index.above.begun m c.loop-index.invariant in
     omega arith
 
 pub below-above-requires-clause-opened : goal.below-above-requires-clause-opened
@@ -19,7 +19,7 @@ below-above-requires-clause-opened c =
     let l = length-map c.args.lines.now sentence_of in
     let m : c.loop-index.index ≤ length (map sentence_of c.args.lines.now) = omega arith in
     let few_here = few (map sentence_of c.args.lines.now) c.loop-index.index c.loop-index.above.classes c.loop-index.above.opened c.loop-index.above.ended
-        c.loop-index.above.begun m c.loop-index.invariant in
+    c.loop-index.above.begun m c.loop-index.invariant in
     omega arith
 
 pub below-above-requires-clause-ended : goal.below-above-requires-clause-ended
@@ -27,7 +27,7 @@ below-above-requires-clause-ended c =
     let l = length-map c.args.lines.now sentence_of in
     let m : c.loop-index.index ≤ length (map sentence_of c.args.lines.now) = omega arith in
     let few_here = few (map sentence_of c.args.lines.now) c.loop-index.index c.loop-index.above.classes c.loop-index.above.opened c.loop-index.above.ended
-        c.loop-index.above.begun m c.loop-index.invariant in
+    c.loop-index.above.begun m c.loop-index.invariant in
     omega arith
 
 pub below-above-requires-clause-begun : goal.below-above-requires-clause-begun
@@ -35,13 +35,20 @@ below-above-requires-clause-begun c =
     let l = length-map c.args.lines.now sentence_of in
     let m : c.loop-index.index ≤ length (map sentence_of c.args.lines.now) = omega arith in
     let few_here = few (map sentence_of c.args.lines.now) c.loop-index.index c.loop-index.above.classes c.loop-index.above.opened c.loop-index.above.ended
-        c.loop-index.above.begun m c.loop-index.invariant in
+    c.loop-index.above.begun m c.loop-index.invariant in
     omega arith
 
 pub returns-in-Some : goal.returns-in-Some
-returns-in-Some c = ((sentence_of (get_or c.args.lines.now c.loop-index.index Head), read_at sentence_of c.args.lines.now c.loop-index.index Head
-    c.loop-index-test.true, sym (fault_here _ _ _ _ _ _ c.loop-index.invariant (sentence_of (get_or c.args.lines.now c.loop-index.index Head)))
-    ∙ sym c.fault.ensures ∙ c.in-Some.is), c.loop-index.invariant.none)
+returns-in-Some c = (
+  (
+    sentence_of (get_or c.args.lines.now c.loop-index.index Head),
+    read_at sentence_of c.args.lines.now c.loop-index.index Head
+        c.loop-index-test.true,
+    sym (fault_here _ _ _ _ _ _ c.loop-index.invariant (sentence_of (get_or c.args.lines.now c.loop-index.index Head)))
+        ∙ sym c.fault.ensures ∙ c.in-Some.is,
+  ),
+  c.loop-index.invariant.none,
+)
 
 pub returns : goal.returns
 returns c = λ j line below. c.loop-index.invariant.none j line (let l = length-map c.args.lines.now sentence_of in
