@@ -70,7 +70,7 @@ pub index_fits : (lines : List Line) (end start : ℕ) (o : Scripts) (index : �
 index_fits lines end start o index which e told low within =
     let told1 : index < length (take (end - start) (drop start lines)) = subst (IsToldWithin (length (take (end - start) (drop start lines)))) e told in
     let l = length-take-le end lines within in let d = length-drop start lines in let t = length-take-le (end - start) (drop start lines) (omega arith) in
-        omega arith
+    omega arith
 
 -- no line breaks a limit
 pub record Fine (lines : List Line) (classes : List Class) (end start : ℕ) (scripts : List Script) : Type 0 where
@@ -86,7 +86,7 @@ module _ (limits : HaveLineLimits) where
   pub situation : (lines : List Line) (classes : List Class) (fault : Option (ℕ × Which)) (end start : ℕ) → IsWholeText (says lines) →
       HasNoneIn IsMisnamed (says lines) → classes ≡ classes_in (says lines) →
       IsLineFault (says lines) fault → EndOf lines fault end → start ≤ length (take end lines) →
-          ((j : ℕ) → j < start → ¬ (slice_get (says (take end lines)) j ≡ Some Begins)) →
+      ((j : ℕ) → j < start → ¬ (slice_get (says (take end lines)) j ≡ Some Begins)) →
       (start < length (take end lines) → slice_get (says (take end lines)) start ≡ Some Begins) → Situation lines classes fault end start
   situation lines classes fault end start whole named names f e low above here =
       let p = named_program (says lines) whole named in
@@ -125,17 +125,17 @@ module _ (limits : HaveLineLimits) where
   pub answer_heavy : (law : HaveOneProgram) → (lines : List Line) (classes : List Class) (fault : Option (ℕ × Which)) (end start : ℕ)
       (s : Situation lines classes fault end start) (o : Scripts) (index : ℕ) (which : Which) → o ≡ Heavy index which →
       AreScriptsRead classes (says (take (end - start) (drop start lines))) o → IsToldWithin (length (take (end - start) (drop start lines))) o →
-          IsBuiltAs (says lines) (Over (start + index) which)
+      IsBuiltAs (says lines) (Over (start + index) which)
   answer_heavy law lines classes fault end start s o index which e read told =
       let read1 : AreScriptsRead classes (says (take (end - start) (drop start lines))) (Heavy index which) =
-          subst (AreScriptsRead classes (says (take (end - start) (drop start lines)))) e read in
+      subst (AreScriptsRead classes (says (take (end - start) (drop start lines)))) e read in
       let told1 : index < length (take (end - start) (drop start lines)) = subst (IsToldWithin (length (take (end - start) (drop start lines)))) e told in
       let l = length-map (take (end - start) (drop start lines)) sentence_of in
       let few = few_started limits (says lines) s.program s.is end start (says (take (end - start) (drop start lines))) s.begun s.within s.none (omega arith) in
       let few2 = few.2 in let low = s.low in
       heavy_over limits law (says lines) s.program s.is end start index which s.none few.1 (omega arith)
       (heavy_read (says lines) s.program s.is classes (says (take (end - start) (drop start lines))) index which s.begun.more s.same s.begun.parts few.0 s.small
-          read1)
+      read1)
 
   -- a line breaks a limit
   pub answer_fault : (law : HaveOneProgram) → (lines : List Line) (classes : List Class) (fault : Option (ℕ × Which)) (end start : ℕ)
@@ -143,9 +143,9 @@ module _ (limits : HaveLineLimits) where
       AreScriptsRead classes (says (take (end - start) (drop start lines))) o → fault ≡ Some (index, which) → IsBuiltAs (says lines) (Over index which)
   answer_fault law lines classes fault end start s o scripts index which e read f =
       let read1 : AreScriptsRead classes (says (take (end - start) (drop start lines))) (Read scripts) =
-          subst (AreScriptsRead classes (says (take (end - start) (drop start lines)))) e read in
+      subst (AreScriptsRead classes (says (take (end - start) (drop start lines)))) e read in
       let keep = keep_read limits law (says lines) s.program s.is classes end start (says (take (end - start) (drop start lines))) scripts s.same s.begun
-          s.within s.none s.small read1 in
+      s.within s.none s.small read1 in
       let at : end ≡ index = subst (λ x. EndOf lines x end) f s.end_is in
       fault_over limits (says lines) index which (subst (IsLineFault (says lines)) f s.fault_is) (subst (KeepBelow (says lines)) at keep)
 
@@ -154,16 +154,16 @@ module _ (limits : HaveLineLimits) where
       AreScriptsRead classes (says (take (end - start) (drop start lines))) o → fault ≡ None → Fine lines classes end start scripts
   fine law lines classes fault end start s o scripts e read f =
       let read1 : AreScriptsRead classes (says (take (end - start) (drop start lines))) (Read scripts) =
-          subst (AreScriptsRead classes (says (take (end - start) (drop start lines)))) e read in
+      subst (AreScriptsRead classes (says (take (end - start) (drop start lines)))) e read in
       let at : end ≡ length lines = subst (λ x. EndOf lines x end) f s.end_is in
       let last : end ≡ length (says lines) = at ∙ sym (length-map lines sentence_of) in
       let none : HasNoLineFault (says lines) (length (says lines)) = subst (HasNoLineFault (says lines)) last s.none in
       let begun : Started (above_of s.is) s.is.scripts (length (says lines)) start (says (take (end - start) (drop start lines))) =
       subst (λ n. Started (above_of s.is) s.is.scripts n start (says (take (end - start) (drop start lines)))) last s.begun in
       let r = all_read limits (says lines) s.program s.is classes start (says (take (end - start) (drop start lines))) scripts s.same begun none s.small read1
-          in
+      in
       let keep = keep_read limits law (says lines) s.program s.is classes end start (says (take (end - start) (drop start lines))) scripts s.same s.begun
-          s.within s.none s.small read1 in
+      s.within s.none s.small read1 in
       record {
         program = s.program;
         is = s.is;
@@ -181,6 +181,6 @@ module _ (limits : HaveLineLimits) where
   pub answer_made : (law : HaveOneProgram) → (unfolds : ItemsUnfold) → (lines : List Line) (classes : List Class) (end start : ℕ) (scripts : List Script)
       (config : Config) (declared : List Class) → Fine lines classes end start scripts → HasNoneIn IsMisnamed (says lines) → AreLines (says lines) →
       config ≡ config_of (says lines) → declared ≡ classes_in (says lines) → scripts ≢ [] →
-          IsBuiltAs (says lines) (Made (record { config = config; classes = declared; mutators = scripts }))
+      IsBuiltAs (says lines) (Made (record { config = config; classes = declared; mutators = scripts }))
   answer_made law unfolds lines classes end start scripts config declared f named said e g some =
       made limits law unfolds (says lines) f.program f.is config declared scripts named said e g f.mutators some f.none f.keep f.statements f.finals

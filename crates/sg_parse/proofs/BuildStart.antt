@@ -67,7 +67,7 @@ module _ (limits : HaveLineLimits) where
       let next : suc n ≡ n + 1 = omega arith in
       let whole = ap (λ k. take k lines) next ∙ take_next lines n (get_or lines n Heads) at in
       let longer = ap (λ x. length (classes_in x)) whole ∙ ap length (classes-push (take n lines) (get_or lines n Heads))
-          ∙ length-append (classes_in (take n lines)) (class_in (get_or lines n Heads)) in
+      ∙ length-append (classes_in (take n lines)) (class_in (get_or lines n Heads)) in
       omega arith
 
   pub smalls : (lines : List Sentence) (end start : ℕ) → HasNoLineFault lines end → start ≤ end →
@@ -101,7 +101,7 @@ pub record Started (above scripts : List Sentence) (end start : ℕ) (found : Li
 pub started : (lines above scripts : List Sentence) (end start : ℕ) → lines ≡ above ++ scripts → AllByRecursion IsPlain above →
     ((scripts ≡ []) ⊎ ((tail : List Sentence) × (scripts ≡ Begins ∷ tail))) →
     end ≤ length lines → start ≤ end → ((j : ℕ) → j < start → ¬ (slice_get (take end lines) j ≡ Some Begins)) →
-        (start < end → slice_get (take end lines) start ≡ Some Begins) →
+    (start < end → slice_get (take end lines) start ≡ Some Begins) →
     Started above scripts end start (take (end - start) (drop start lines))
 started lines above scripts end start whole plain first within low none here =
     let reached : start < end → length above ≤ start = λ l. elim (cases_lt start (length above)) [
@@ -117,7 +117,7 @@ started lines above scripts end start whole plain first within low none here =
               | inl e ↦ let k = ap length whole in let k1 = length-append above scripts in let k2 = ap length e in absurd (omega arith)
               | inr t ↦
                   let at : slice_get lines (length above) ≡ Some Begins = ap (λ x. slice_get x (length above)) (whole ∙ ap (λ s. above ++ s) t.1)
-                      ∙ get_seam above t.0 Begins in
+                  ∙ get_seam above t.0 Begins in
                   absurd (none (length above) l (take_get lines end (length above) Begins inside at))
             ]
             | inr o ↦ o
@@ -143,7 +143,7 @@ started lines above scripts end start whole plain first within low none here =
 pub front_read : (lines : List Sentence) (p : Program) (is : IsProgram (StandsFor p.classes) lines p) (classes : List Class) (found : List Sentence)
     (scripts : List Script) (more : List Sentence) → classes ≡ p.classes →
     found ++ more ≡ is.scripts → length p.classes ≤ 256 → AllByRecursion HasSmallNumbers found → AreScriptsRead classes found (Read scripts) →
-        AreFront p.classes is.scripts p.mutators scripts (length found)
+    AreFront p.classes is.scripts p.mutators scripts (length found)
 front_read lines p is classes found scripts more same parts few small read =
     let read1 : AreScriptsRead p.classes found (Read scripts) = subst (λ cs. AreScriptsRead cs found (Read scripts)) same read in
     subst (λ l. AreFront p.classes l p.mutators scripts (length found)) parts
@@ -152,7 +152,7 @@ front_read lines p is classes found scripts more same parts few small read =
 pub heavy_read : (lines : List Sentence) (p : Program) (is : IsProgram (StandsFor p.classes) lines p) (classes : List Class) (found : List Sentence) (index : ℕ)
     (which : Which) (more : List Sentence) → classes ≡ p.classes →
     found ++ more ≡ is.scripts → length p.classes ≤ 256 → AllByRecursion HasSmallNumbers found → AreScriptsRead classes found (Heavy index which) →
-        IsHeavy p.classes is.scripts p.mutators index which
+    IsHeavy p.classes is.scripts p.mutators index which
 heavy_read lines p is classes found index which more same parts few small read =
     let read1 : AreScriptsRead p.classes found (Heavy index which) = subst (λ cs. AreScriptsRead cs found (Heavy index which)) same read in
     subst (λ l. IsHeavy p.classes l p.mutators index which) parts
@@ -169,7 +169,7 @@ module _ (limits : HaveLineLimits) where
   pub keep_read : (law : HaveOneProgram) → (lines : List Sentence) (p : Program) (is : IsProgram (StandsFor p.classes) lines p) (classes : List Class)
       (end start : ℕ) (found : List Sentence) (scripts : List Script) → classes ≡ p.classes →
       Started (above_of is) is.scripts end start found → end ≤ length lines → HasNoLineFault lines end → AllByRecursion HasSmallNumbers found →
-          AreScriptsRead classes found (Read scripts) → KeepBelow lines end
+      AreScriptsRead classes found (Read scripts) → KeepBelow lines end
   keep_read law lines p is classes end start found scripts same s within none small read = elim s.place [
     | inl at ↦
         let a0 = at.0 in let a1 = at.1 in let a2 = at.2 in

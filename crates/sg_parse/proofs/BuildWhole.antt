@@ -47,17 +47,17 @@ items_balanced (OneMakes maker r class name rest item items n o d) = let a = cou
     let b = count-cons is_ending (Makes maker r name) rest in let h = items_balanced d in omega arith
 items_balanced (NoRepeat times body rest whole items e b d) =
     let a = wrapped is_opening (Repeats times) body rest whole e in let c = wrapped is_ending (Repeats times) body rest whole e in let h = items_balanced b in
-        let k = items_balanced d in omega arith
+    let k = items_balanced d in omega arith
 items_balanced (OneRepeat times body rest whole item inner items e b n o d) =
     let a = wrapped is_opening (Repeats times) body rest whole e in let c = wrapped is_ending (Repeats times) body rest whole e in let h = items_balanced b in
-        let k = items_balanced d in omega arith
+    let k = items_balanced d in omega arith
 
 scripts_balanced : (names : List ℕ → ℕ → Type 0) (l : List Sentence) (scripts : List Script) → AreScripts names l scripts →
     count_by is_opening l ≡ count_by is_ending l
 scripts_balanced names l [] d = ap (count_by is_opening) d ∙ sym (ap (count_by is_ending) d)
 scripts_balanced names l (x ∷ scripts) d =
     let a = wrapped is_opening Begins d.0 d.1 l d.2 in let c = wrapped is_ending Begins d.0 d.1 l d.2 in let h = items_balanced d.3 in
-        let k = scripts_balanced names d.1 scripts d.4 in omega arith
+    let k = scripts_balanced names d.1 scripts d.4 in omega arith
 
 count_no : (p : Sentence → Bool) (x : Sentence) (l : List Sentence) → p x ≡ false → count_by p (x ∷ l) ≡ count_by p l
 count_no p x l e = count-cons p x l ∙ ap (λ (t : Bool). cond t 1 0 + count_by p l) e ∙ zero-add (count_by p l)
@@ -73,16 +73,16 @@ one_open names above done body scripts items a d b =
     let p = plain_opens above a in let p0 = p.0 in let p1 = p.1 in
     let q = scripts_balanced names done scripts d in let r = items_balanced b in
     let o1 = count-append is_opening above (done ++ Begins ∷ body) in let o2 = count-append is_opening done (Begins ∷ body) in
-        let o3 = count-cons is_opening Begins body in
+    let o3 = count-cons is_opening Begins body in
     let e1 = count-append is_ending above (done ++ Begins ∷ body) in let e2 = count-append is_ending done (Begins ∷ body) in
-        let e3 = count-cons is_ending Begins body in
+    let e3 = count-cons is_ending Begins body in
     omega arith
 
 -- ---- what is left of scripts
 
 no_left : (names : List ℕ → ℕ → Type 0) (done todo : List Sentence) (left : List Script) (until : ℕ) → AreScripts names todo left →
     ((body tail : List Sentence) (items : List Item) → todo ≡ Begins ∷ body ++ Ends ∷ tail → AreItems names body items →
-        until ≤ length done + (length body + 1)) → length done + length todo ≤ until → left ≡ []
+    until ≤ length done + (length body + 1)) → length done + length todo ≤ until → left ≡ []
 no_left names done todo [] until d next l = refl
 no_left names done todo (x ∷ left) until d next l =
     let n = next d.0 d.1 x.items d.2 d.3 in let k = ap length d.2 in let k1 = length-append d.0 (Ends ∷ d.1) in absurd (omega arith)
@@ -130,10 +130,10 @@ module _ (limits : HaveLineLimits) where
       let long : length (above_of is) + index ≡ length (above_of is ++ (front.done ++ Begins ∷ h.body)) = omega arith in
       let up : take (length (above_of is) + index) lines ≡ above_of is ++ (front.done ++ Begins ∷ h.body) =
       ap (λ n. take n lines) long ∙ ap (take (length (above_of is ++ (front.done ++ Begins ∷ h.body)))) whole
-          ∙ take-append_seam (above_of is ++ (front.done ++ Begins ∷ h.body)) (Ends ∷ h.tail) in
+      ∙ take-append_seam (above_of is ++ (front.done ++ Begins ∷ h.body)) (Ends ∷ h.tail) in
       let there : slice_get lines (length (above_of is) + index) ≡ Some Ends =
       ap (slice_get lines) long ∙ ap (λ x. slice_get x (length (above_of is ++ (front.done ++ Begins ∷ h.body)))) whole
-          ∙ get_seam (above_of is ++ (front.done ++ Begins ∷ h.body)) h.tail Ends in
+      ∙ get_seam (above_of is ++ (front.done ++ Begins ∷ h.body)) h.tail Ends in
       let q : Program = record { config = p.config; classes = p.classes; mutators = h.scripts ++ h.script ∷ [] } in
       let of : IsProgram (StandsFor p.classes) ((above_of is ++ (front.done ++ Begins ∷ h.body)) ++ Ends ∷ []) q = record {
         settings = is.settings;
@@ -147,7 +147,7 @@ module _ (limits : HaveLineLimits) where
             (one_script (StandsFor p.classes) h.body h.script h.items);
       } in
       let first = heavy_first law which (above_of is ++ (front.done ++ Begins ∷ h.body)) q
-          (one_open (StandsFor p.classes) (above_of is) front.done h.body h.scripts h.script.items (above_plain is) front.first h.items) of h.much in
+      (one_open (StandsFor p.classes) (above_of is) front.done h.body h.scripts h.script.items (above_plain is) front.first h.items) of h.much in
       (there, subst (λ b. BreaksFirst which b Ends) (sym up) first)
 
   -- ---- what the building answers
@@ -174,7 +174,7 @@ module _ (limits : HaveLineLimits) where
   pub all_read : (lines : List Sentence) (p : Program) (is : IsProgram (StandsFor p.classes) lines p) (classes : List Class) (start : ℕ) (found : List Sentence)
       (scripts : List Script) → classes ≡ p.classes →
       Started (above_of is) is.scripts (length lines) start found → HasNoLineFault lines (length lines) → AllByRecursion HasSmallNumbers found →
-          AreScriptsRead classes found (Read scripts) → (p.mutators ≡ scripts) × AreFront p.classes is.scripts p.mutators scripts (length found)
+      AreScriptsRead classes found (Read scripts) → (p.mutators ≡ scripts) × AreFront p.classes is.scripts p.mutators scripts (length found)
   all_read lines p is classes start found scripts same s none small read =
       let few = few_all limits lines p is none in
       let front = front_read lines p is classes found scripts s.more same s.parts few small read in
@@ -205,7 +205,7 @@ module _ (limits : HaveLineLimits) where
   pub made : (law : HaveOneProgram) → (unfolds : ItemsUnfold) → (lines : List Sentence) (p : Program) (is : IsProgram (StandsFor p.classes) lines p)
       (config : Config) (classes : List Class) (mutators : List Script) → HasNoneIn IsMisnamed lines → AreLines lines →
       config ≡ config_of lines → classes ≡ classes_in lines → p.mutators ≡ mutators → mutators ≢ [] → HasNoLineFault lines (length lines) →
-          KeepBelow lines (length lines) → total_of mutators ≤ 1048576 → finals_of mutators ≤ 1024 →
+      KeepBelow lines (length lines) → total_of mutators ≤ 1048576 → finals_of mutators ≤ 1024 →
       IsBuiltAs lines (Made (record { config = config; classes = classes; mutators = mutators }))
   made law unfolds lines p is config classes mutators named said e f g some none keep statements finals =
       let same_config : p.config ≡ config = sym (e ∙ config_is (StandsFor p.classes) lines p is) in
@@ -216,8 +216,11 @@ module _ (limits : HaveLineLimits) where
       let t = ap total_of g in let t1 = ap finals_of g in let t2 = ap length g in
       let begin : (j : ℕ) × (slice_get lines j ≡ Some Begins) = elim (scripts_some (StandsFor p.classes) is.scripts p.mutators is.are_scripts) [
         | inl n ↦ absurd (some (sym g ∙ n.0))
-        | inr b ↦ (length (above_of is), ap (λ x. slice_get x (length (above_of is))) (is.in_order ∙ ap (λ s. above_of is ++ s) b.1)
-            ∙ get_seam (above_of is) b.0 Begins)
+        | inr b ↦ (
+          length (above_of is),
+          ap (λ x. slice_get x (length (above_of is))) (is.in_order ∙ ap (λ s. above_of is ++ s) b.1)
+              ∙ get_seam (above_of is) b.0 Begins,
+        )
       ] in
       let least : 1 ≤ length mutators = not_none mutators some in
       subst (λ (x : Program). IsBuiltAs lines (Made x)) same

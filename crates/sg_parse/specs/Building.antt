@@ -40,11 +40,11 @@ IsStatement classes line o = Unit {0}
 abbrev pub IsBody : List Class → List Sentence → Option Body → Type 0
 IsBody classes lines (Some b) =
     (more body rest : List Sentence) (items : List Item) → HaveSmallNumbers classes lines → lines ++ more ≡ body ++ Ends ∷ rest →
-        AreItems (StandsFor classes) body items →
+    AreItems (StandsFor classes) body items →
     (b.items ≡ items) × (b.lines ≡ suc (length body))
 IsBody classes lines None =
     (more body rest : List Sentence) (items : List Item) → HaveSmallNumbers classes lines → lines ++ more ≡ body ++ Ends ∷ rest →
-        AreItems (StandsFor classes) body items →
+    AreItems (StandsFor classes) body items →
     length lines ≤ length body
 
 abbrev pub total_of : List Script → ℕ
