@@ -1,5 +1,5 @@
 -- The code's values as the rules see them, and what the code asks of them.
-use Rattle.std.specs.Prelude.{◌≡◌, ◌≢◌, ℕ, ◌+◌, ◌/◌, ◌-◌, ◌%◌, ◌<◌, ◌≤◌, ◌⊎◌, Bool, true, false, List, [], ◌∷◌, length, slice_index, slice_set, vec_len, vec_capacity, map, reverse}
+use Rattle.std.specs.Prelude.{◌≡◌, ◌≢◌, ℕ, ◌+◌, ◌-◌, ◌%◌, ◌<◌, ◌≤◌, ◌⊎◌, Bool, true, false, List, [], ◌∷◌, length, slice_index, slice_set, vec_len, vec_capacity, map, reverse}
 use Rattle.sg_words.specs.Address.{IsAddress, byte_at, word_at}
 use Rattle.sg_words.specs.Tags.{plain_word}
 use Rattle.sg_words.specs.Words.{put, Words}
@@ -12,19 +12,19 @@ use Rattle.sg_program.specs.declared.answers.Request.TheVariants.{Need, Minor}
 use Rattle.sg_desc.specs.Shapes.{Sort, Reference, Plain, has_field}
 use Rattle.sg_program.specs.Scripts.{kind_of, words_for, IsMaking, made_in, made_class, made_fields, made_words}
 use Rattle.sg_words.specs.Sections.{nursery_base, old_base, words_end, IsInSection}
-use Rattle.sg_words.specs.declared.layout.Layout.{Layout as Sections}
+use Rattle.sg_words.specs.declared.layout.Layout.{Layout}
 use Rattle.sg_space.specs.Space.{Contents, words_of, IsContents}
 use Rattle.sg_actor.specs.declared.mutator.Held.{Held}
 use Rattle.sg_actor.specs.declared.mutator.Mutator.{Mutator}
 use Rattle.sg_actor.specs.declared.mutator.Tested.{Tested}
 use Rattle.sg_actor.specs.declared.mutator.Tested.TheVariants.{NoObject, NoField, At as FieldAt}
-use Rattle.sg_rules.specs.Rules.{Layout, Slot, Idle, Look, Claim, StoreLength, Ask, Left, Actor, fresh, within, over, Went}
+use Rattle.sg_rules.specs.Rules.{Constants, StackWord, Mid, Idle, Claim, StoreLength, Ask, Left, Actor, fresh, within, over, looking, Went}
 
 -- how many fragments a space has, and before which word each ends
-abbrev pub layout_of : Contents → Layout
-layout_of s = record { fragments = length s.ends; limit = λ f. word_at (slice_index s.ends f) }
+abbrev pub constants_of : Contents → Constants
+constants_of s = record { fragments = length s.ends; limit = λ f. word_at (slice_index s.ends f) }
 
-abbrev pub slot_of : Held → Slot
+abbrev pub slot_of : Held → StackWord
 slot_of held = record { word = held.word; offset = held.offset }
 
 -- between two statements, before this script; the code's stack has its top last
@@ -61,19 +61,19 @@ HasWords s n f = slice_index s.next f + byte_at n ≤ slice_index s.ends f
 abbrev pub LacksWords : Contents → ℕ → ℕ → Type 0
 LacksWords s n f = slice_index s.ends f < slice_index s.next f + byte_at n
 
--- Any mutator that looks for n words from fragment f on comes to this, and no word changes.
-abbrev pub LooksFrom : Contents → ℕ → ℕ → (Actor → List Statement → Statement → Actor) → Type 0
-LooksFrom s n f to = (p : Program) (a : Actor) (rest : List Statement) (making : Statement) → made_words p making ≡ n →
-    Went p (layout_of s) (within a rest (Look making f)) (words_of s) (to a rest making) (words_of s)
+-- Any mutator that looks for n words from the first fragment on comes to this, and no word changes.
+abbrev pub LooksTo : Contents → ℕ → (Statement → Mid) → Type 0
+LooksTo s n to = (p : Program) (a : Actor) (rest : List Statement) (making : Statement) → made_words p making ≡ n →
+    Went p (constants_of s) (within a rest (looking (constants_of s) making 0)) (words_of s) (within a rest (to making)) (words_of s)
 
--- no fragment has n words left: who looks for them, where there is a fragment, comes to ask for a stop
-pub record FindsNone (s : Contents) (n : ℕ) : Type 0 where
-  pub went : 0 < length s.ends → LooksFrom s n 0 (λ a rest making. within a rest (Ask making))
+-- no fragment has n words left: who looks for them comes to ask for a stop
+pub record FindsNoRoom (s : Contents) (n : ℕ) : Type 0 where
+  pub went : LooksTo s n (λ making. Ask making)
   pub none : (f : ℕ) → f < length s.ends → LacksWords s n f
 
 -- fragment f, whose next word is `next`, is the lowest with n words left, and who looks for them finds it
 pub record FindsRoom (s : Contents) (n f next : ℕ) : Type 0 where
-  pub went : LooksFrom s n 0 (λ a rest making. within a rest (Claim making f next))
+  pub went : LooksTo s n (λ making. Claim making f next)
   pub there : f < length s.ends
   pub is : slice_index s.next f ≡ byte_at next
   pub above : nursery_base ≤ next
@@ -82,7 +82,7 @@ pub record FindsRoom (s : Contents) (n f next : ℕ) : Type 0 where
 
 -- Any mutator whose new object has the word x stores its header.
 abbrev pub StoresHeader : Contents → Contents → ℕ → ℕ → ℕ → Type 0
-StoresHeader s t x class fields = (p : Program) (lay : Layout) (a : Actor) (rest : List Statement) (making : Statement) → made_class making ≡ class → made_fields p making ≡ fields →
+StoresHeader s t x class fields = (p : Program) (lay : Constants) (a : Actor) (rest : List Statement) (making : Statement) → made_class making ≡ class → made_fields p making ≡ fields →
     Went p lay (within a rest (StoreLength making x)) (words_of s) (over a rest (put a.reg (made_in making) (byte_at x)) (At (byte_at x))) (words_of t)
 
 -- the space with the header of an object of this class, and with so many fields, at the word x
@@ -91,12 +91,11 @@ headed s x class fields = record s { words = slice_set (slice_set s.words (x + 1
 
 -- how far the search is before it looks at fragment f, or behind the last one
 pub record Searches (s : Contents) (n f : ℕ) : Type 0 where
-  pub looks : f < length s.ends → LooksFrom s n 0 (λ a rest making. within a rest (Look making f))
-  pub ends : 0 < f → f ≡ length s.ends → LooksFrom s n 0 (λ a rest making. within a rest (Ask making))
+  pub looks : LooksTo s n (λ making. looking (constants_of s) making f)
   pub passed : (j : ℕ) → j < f → LacksWords s n j
 
 -- there is room for one more answer, and for 64 words on the stack
-pub record HasRoom (m : Mutator) : Type 0 where
+pub record HasSpareRoom (m : Mutator) : Type 0 where
   pub answers : vec_len m.answers < vec_capacity m.answers
   pub stack : 64 ≤ vec_capacity m.stack
 
@@ -117,34 +116,32 @@ abbrev pub sort_of : Bool → Sort
 sort_of true = Reference
 sort_of false = Plain
 
--- the class in the tag of the object with the word x
-abbrev pub class_at : Words → ℕ → ℕ
-class_at w x = w.word x / 8 - 1
-
 -- a word of a reference: none, or an address
 abbrev pub IsReference : ℕ → Type 0
 IsReference v = (v ≡ 0) ⊎ IsAddress v
 
 -- the word x is the first one of an object of the program, among the words below n
-pub record IsObject (p : Program) (w : Words) (n x : ℕ) : Type 0 where
-  pub tag : w.word x ≡ plain_word (class_at w x)
-  pub class : class_at w x < length p.classes
+pub record IsProgramObject (p : Program) (w : Words) (n x : ℕ) : Type 0 where
+  pub class : ℕ
+  pub tag : w.word x ≡ plain_word class
+  pub there : class < length p.classes
   pub above : nursery_base ≤ x
   pub inside : x + 2 + w.word (x + 1) ≤ n
-  pub references : (i : ℕ) → has_field Reference (kind_of p (class_at w x)) (w.word (x + 1)) i ≡ true → IsReference (w.word (x + 2 + i))
+  pub references : (i : ℕ) → has_field Reference (kind_of p class) (w.word (x + 1)) i ≡ true → IsReference (w.word (x + 2 + i))
 
 -- register r holds an object or none
 abbrev pub HoldsObject : Program → Contents → Mutator → ℕ → Type 0
-HoldsObject p s m r = (r < 16) × (length p.classes ≤ 256) × (slice_index m.registers r ≢ 0 → IsObject p (words_of s) (words_end s.layout) (word_at (slice_index m.registers r)))
+HoldsObject p s m r = (r < 16) × (length p.classes ≤ 256) × (slice_index m.registers r ≢ 0 → IsProgramObject p (words_of s) (words_end s.layout) (word_at (slice_index m.registers r)))
 
 -- the object in a register that holds `held` has such a field, or not
 pub record IsMeasured (p : Program) (w : Words) (held field : ℕ) (sort : Sort) (has : Bool) : Type 0 where
   pub some : held ≢ 0
-  pub tag : w.word (word_at held) ≡ plain_word (class_at w (word_at held))
-  pub finds : has_field sort (kind_of p (class_at w (word_at held))) (w.word (word_at held + 1)) field ≡ has
+  pub class : ℕ
+  pub tag : w.word (word_at held) ≡ plain_word class
+  pub finds : has_field sort (kind_of p class) (w.word (word_at held + 1)) field ≡ has
 
 -- what an object test finds, in a space with these sections
-abbrev pub IsTested : Program → Words → ℕ → ℕ → Sort → Sections → Tested → Type 0
+abbrev pub IsTested : Program → Words → ℕ → ℕ → Sort → Layout → Tested → Type 0
 IsTested p w held field sort sections NoObject = held ≡ 0
 IsTested p w held field sort sections NoField = IsMeasured p w held field sort false
 IsTested p w held field sort sections (FieldAt place) = IsMeasured p w held field sort true × (place ≡ word_at held + 2 + field) × IsInSection sections place
@@ -197,13 +194,13 @@ IsRequestOf p s request = ⊥
 
 -- the statement is answered, and nobody has asked for a stop
 pub record IsAnswered (p : Program) (s : Contents) (m : Mutator) (statement : Statement) (t : Contents) (o : Mutator) : Type 0 where
-  pub went : (rest : List Statement) → Went p (layout_of s) (actor_of m (statement ∷ rest)) (words_of s) (actor_of o rest) (words_of t)
+  pub went : (rest : List Statement) → Went p (constants_of s) (actor_of m (statement ∷ rest)) (words_of s) (actor_of o rest) (words_of t)
   pub answers : IsNext m o
   pub keeps : KeepsGoing s t
 
 -- the mutator has asked for a stop and left: its statement waits for the answer, and nothing but the stop word has changed
-pub record IsAsked (p : Program) (s : Contents) (m : Mutator) (statement : Statement) (t : Contents) (o : Mutator) (request : Request) : Type 0 where
-  pub went : (rest : List Statement) → Went p (layout_of s) (actor_of m (statement ∷ rest)) (words_of s) (within (actor_of o rest) rest (Left statement)) (words_of t)
+pub record HasAsked (p : Program) (s : Contents) (m : Mutator) (statement : Statement) (t : Contents) (o : Mutator) (request : Request) : Type 0 where
+  pub went : (rest : List Statement) → Went p (constants_of s) (actor_of m (statement ∷ rest)) (words_of s) (within (actor_of o rest) rest (Left statement)) (words_of t)
   pub fits : IsRequestOf p statement request
   pub space : t ≡ record s { stop = 1 }
   pub mutator : o ≡ m
@@ -211,7 +208,7 @@ pub record IsAsked (p : Program) (s : Contents) (m : Mutator) (statement : State
 -- the mutator has the word x for a new object of n words, and no new answer
 pub record GetsRoom (p : Program) (s : Contents) (m : Mutator) (n : ℕ) (t : Contents) (o : Mutator) (x : ℕ) : Type 0 where
   pub went : (rest : List Statement) (making : Statement) → IsMaking making → made_words p making ≡ n →
-      Went p (layout_of s) (actor_of m (making ∷ rest)) (words_of s) (within (actor_of o rest) rest (StoreLength making x)) (words_of t)
+      Went p (constants_of s) (actor_of m (making ∷ rest)) (words_of s) (within (actor_of o rest) rest (StoreLength making x)) (words_of t)
   pub above : nursery_base ≤ x
   pub inside : x + n ≤ old_base s.layout
   pub answers : o.answers ≡ m.answers
@@ -220,18 +217,18 @@ pub record GetsRoom (p : Program) (s : Contents) (m : Mutator) (n : ℕ) (t : Co
 -- there is no room, and nothing has changed
 pub record GetsNone (p : Program) (s : Contents) (m : Mutator) (n : ℕ) (t : Contents) (o : Mutator) : Type 0 where
   pub went : (rest : List Statement) (making : Statement) → IsMaking making → made_words p making ≡ n →
-      Went p (layout_of s) (actor_of m (making ∷ rest)) (words_of s) (within (actor_of o rest) rest (Ask making)) (words_of t)
+      Went p (constants_of s) (actor_of m (making ∷ rest)) (words_of s) (within (actor_of o rest) rest (Ask making)) (words_of t)
   pub space : t ≡ s
   pub mutator : o ≡ m
 
 -- the exchange for n words at the word `next` of fragment f
-abbrev pub Claims : Program → Contents → Mutator → ℕ → ℕ → ℕ → Contents → Mutator → Type 0
-Claims p s m n f next t o = (rest : List Statement) (making : Statement) → made_words p making ≡ n →
-    Went p (layout_of s) (within (actor_of m rest) rest (Claim making f next)) (words_of s) (within (actor_of o rest) rest (StoreLength making next)) (words_of t)
+abbrev pub WinsRoom : Program → Contents → Mutator → ℕ → ℕ → ℕ → Contents → Mutator → Type 0
+WinsRoom p s m n f next t o = (rest : List Statement) (making : Statement) → made_words p making ≡ n →
+    Went p (constants_of s) (within (actor_of m rest) rest (Claim making f next)) (words_of s) (within (actor_of o rest) rest (StoreLength making next)) (words_of t)
 
 -- Fragment f is the lowest one with room for a new object of this class, and with so many fields. It gives its front, whose
 -- byte address is a: its next word is the one behind the object, whose header is written, and nothing else changes.
-pub record IsPlaced (s : Contents) (class fields : ℕ) (t : Contents) (a : ℕ) : Type 0 where
+pub record HoldsNew (s : Contents) (class fields : ℕ) (t : Contents) (a : ℕ) : Type 0 where
   pub fragment : ℕ
   pub there : fragment < length s.ends
   pub room : HasWords s (words_for fields) fragment

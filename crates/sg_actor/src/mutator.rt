@@ -5,15 +5,15 @@ ghost use Rattle.sg_program.specs.declared.program.Statement.{Statement};
 ghost use Rattle.sg_program.specs.Scripts.{IsMaking, made_in, made_class, made_fields, shape_of};
 ghost use Rattle.sg_desc.specs.Shapes.{has_field as field_of_sort};
 ghost use Rattle.sg_space.specs.Space.{Contents, words_of, IsContents};
-ghost use Rattle.sg_rules.specs.Rules.{Layout, reference_answer, over, over_with, owning, Went};
+ghost use Rattle.sg_rules.specs.Rules.{Constants, reference_answer, over, over_with, owning, Went};
 ghost use Rattle.sg_actor.specs.Direct.{IsDirect};
-ghost use Rattle.sg_actor.specs.Views.{layout_of, actor_of, IsSpace, KeepsSpace, KeepsGoing, HasByteAddresses, FindsRoom, sort_of, IsTested, IsBufferIn, IsReference, IsNext, HasRoom, CanGo, CanMake, HoldsObject, HoldsInner, IsFresh, IsEmptied, IsAnswered, IsAsked, GetsRoom, GetsNone, Claims};
+ghost use Rattle.sg_actor.specs.Views.{constants_of, actor_of, IsSpace, KeepsSpace, KeepsGoing, HasByteAddresses, FindsRoom, sort_of, IsTested, IsBufferIn, IsReference, IsNext, HasSpareRoom, CanGo, CanMake, HoldsObject, HoldsInner, IsFresh, IsEmptied, IsAnswered, HasAsked, GetsRoom, GetsNone, WinsRoom};
 
-use crate::shared::{Room, address, end, exchange_next, find, load_word, store_header, store_word};
+use crate::shared::{Room, end, exchange_next, find, load_word, store_header, store_word};
 use sg_desc::{Descriptor, Shape};
 use sg_program::{Answer, Program, Request, Statement};
 use sg_space::Space;
-use sg_words::{Tag, read_tag};
+use sg_words::{Addr, plain_class};
 use std::alloc::{AllocError, Global};
 
 /// A word of the stack, and the offset that stands beside it where the word is an address inside an object.
@@ -116,9 +116,9 @@ impl Mutator {
         statement: Statement,
     ) -> Option<Request>
         requires space { IsSpace space.old }
-        requires answers { HasRoom self.old }
+        requires answers { HasSpareRoom self.old }
         requires can { CanGo program.now space.old self.old statement }
-        ensures done { MatchOption result (IsAnswered program.now space.old self.old statement space.new self.new) (IsAsked program.now space.old self.old statement space.new self.new) }
+        ensures done { MatchOption result (IsAnswered program.now space.old self.old statement space.new self.new) (HasAsked program.now space.old self.old statement space.new self.new) }
         ensures keeps { KeepsSpace space.old space.new }
     {
         if space.stopping() {
@@ -159,10 +159,10 @@ impl Mutator {
     /// Does a statement that touches no shared word, or loads an object's length alone.
     fn direct(&mut self, program: &Program, space: &Space, statement: Statement)
         requires space { IsSpace space.now }
-        requires answers { HasRoom self.old }
+        requires answers { HasSpareRoom self.old }
         requires can { CanGo program.now space.now self.old statement }
         requires direct { IsDirect statement }
-        ensures went { (rest : List Statement) → Went program.now (layout_of space.now) (actor_of self.old (statement ∷ rest)) (words_of space.now) (actor_of self.new rest) (words_of space.now) }
+        ensures went { (rest : List Statement) → Went program.now (constants_of space.now) (actor_of self.old (statement ∷ rest)) (words_of space.now) (actor_of self.new rest) (words_of space.now) }
         ensures answers { IsNext self.old self.new }
     {
         match statement {
@@ -181,9 +181,9 @@ impl Mutator {
     /// `put`.
     fn put(&mut self, program: &Program, space: &mut Space, r: u8, field: u64, s: u8)
         requires space { IsSpace space.old }
-        requires answers { HasRoom self.old }
+        requires answers { HasSpareRoom self.old }
         requires can { CanGo program.now space.old self.old (Statement.Put r field s) }
-        ensures went { (rest : List Statement) → Went program.now (layout_of space.old) (actor_of self.old (Statement.Put r field s ∷ rest)) (words_of space.old) (actor_of self.new rest) (words_of space.new) }
+        ensures went { (rest : List Statement) → Went program.now (constants_of space.old) (actor_of self.old (Statement.Put r field s ∷ rest)) (words_of space.old) (actor_of self.new rest) (words_of space.new) }
         ensures answers { IsNext self.old self.new }
         ensures keeps { KeepsGoing space.old space.new }
     {
@@ -200,9 +200,9 @@ impl Mutator {
     /// `get`.
     fn get(&mut self, program: &Program, space: &Space, d: u8, r: u8, field: u64)
         requires space { IsSpace space.now }
-        requires answers { HasRoom self.old }
+        requires answers { HasSpareRoom self.old }
         requires can { CanGo program.now space.now self.old (Statement.Get d r field) }
-        ensures went { (rest : List Statement) → Went program.now (layout_of space.now) (actor_of self.old (Statement.Get d r field ∷ rest)) (words_of space.now) (actor_of self.new rest) (words_of space.now) }
+        ensures went { (rest : List Statement) → Went program.now (constants_of space.now) (actor_of self.old (Statement.Get d r field ∷ rest)) (words_of space.now) (actor_of self.new rest) (words_of space.now) }
         ensures answers { IsNext self.old self.new }
     {
         match self.test(program, space, r, field, true) {
@@ -218,9 +218,9 @@ impl Mutator {
     /// `putd`.
     fn put_number(&mut self, program: &Program, space: &mut Space, r: u8, field: u64, s: u8)
         requires space { IsSpace space.old }
-        requires answers { HasRoom self.old }
+        requires answers { HasSpareRoom self.old }
         requires can { CanGo program.now space.old self.old (Statement.PutD r field s) }
-        ensures went { (rest : List Statement) → Went program.now (layout_of space.old) (actor_of self.old (Statement.PutD r field s ∷ rest)) (words_of space.old) (actor_of self.new rest) (words_of space.new) }
+        ensures went { (rest : List Statement) → Went program.now (constants_of space.old) (actor_of self.old (Statement.PutD r field s ∷ rest)) (words_of space.old) (actor_of self.new rest) (words_of space.new) }
         ensures answers { IsNext self.old self.new }
         ensures keeps { KeepsGoing space.old space.new }
     {
@@ -238,9 +238,9 @@ impl Mutator {
     /// `getd`.
     fn get_number(&mut self, program: &Program, space: &Space, d: u8, r: u8, field: u64)
         requires space { IsSpace space.now }
-        requires answers { HasRoom self.old }
+        requires answers { HasSpareRoom self.old }
         requires can { CanGo program.now space.now self.old (Statement.GetD d r field) }
-        ensures went { (rest : List Statement) → Went program.now (layout_of space.now) (actor_of self.old (Statement.GetD d r field ∷ rest)) (words_of space.now) (actor_of self.new rest) (words_of space.now) }
+        ensures went { (rest : List Statement) → Went program.now (constants_of space.now) (actor_of self.old (Statement.GetD d r field ∷ rest)) (words_of space.now) (actor_of self.new rest) (words_of space.now) }
         ensures answers { IsNext self.old self.new }
     {
         match self.test(program, space, r, field, false) {
@@ -255,9 +255,9 @@ impl Mutator {
 
     /// `num`.
     fn number(&mut self, d: u8, n: u64)
-        requires answers { HasRoom self.old }
+        requires answers { HasSpareRoom self.old }
         requires d { d < 16 }
-        ensures went { (p : Program) (lay : Layout) (w : Words) (rest : List Statement) → w.stop ≡ 0 → Went p lay (actor_of self.old (Statement.Num d n ∷ rest)) w (actor_of self.new rest) w }
+        ensures went { (p : Program) (lay : Constants) (w : Words) (rest : List Statement) → w.stop ≡ 0 → Went p lay (actor_of self.old (Statement.Num d n ∷ rest)) w (actor_of self.new rest) w }
         ensures answers { IsNext self.old self.new }
     {
         self.tell(d, n, Answer::Fine);
@@ -265,9 +265,9 @@ impl Mutator {
 
     /// `drop`.
     fn clear(&mut self, r: u8)
-        requires answers { HasRoom self.old }
+        requires answers { HasSpareRoom self.old }
         requires r { r < 16 }
-        ensures went { (p : Program) (lay : Layout) (w : Words) (rest : List Statement) → w.stop ≡ 0 → Went p lay (actor_of self.old (Statement.Drop r ∷ rest)) w (actor_of self.new rest) w }
+        ensures went { (p : Program) (lay : Constants) (w : Words) (rest : List Statement) → w.stop ≡ 0 → Went p lay (actor_of self.old (Statement.Drop r ∷ rest)) w (actor_of self.new rest) w }
         ensures answers { IsNext self.old self.new }
     {
         self.tell(r, 0, Answer::Fine);
@@ -275,10 +275,10 @@ impl Mutator {
 
     /// `move`.
     fn copy(&mut self, d: u8, s: u8)
-        requires answers { HasRoom self.old }
+        requires answers { HasSpareRoom self.old }
         requires d { d < 16 }
         requires s { s < 16 }
-        ensures went { (p : Program) (lay : Layout) (w : Words) (rest : List Statement) → w.stop ≡ 0 → Went p lay (actor_of self.old (Statement.Move d s ∷ rest)) w (actor_of self.new rest) w }
+        ensures went { (p : Program) (lay : Constants) (w : Words) (rest : List Statement) → w.stop ≡ 0 → Went p lay (actor_of self.old (Statement.Move d s ∷ rest)) w (actor_of self.new rest) w }
         ensures answers { IsNext self.old self.new }
     {
         self.tell_inner(d, self.held(s), self.beside(s), Answer::Fine);
@@ -287,11 +287,11 @@ impl Mutator {
     /// `hide`.
     fn hide(&mut self, program: &Program, space: &Space, d: u8, s: u8, offset: u64)
         requires space { IsSpace space.now }
-        requires answers { HasRoom self.old }
+        requires answers { HasSpareRoom self.old }
         requires d { d < 16 }
         requires object { HoldsObject program.now space.now self.old s }
         requires going { space.now.stop ≡ 0 }
-        ensures went { (rest : List Statement) → Went program.now (layout_of space.now) (actor_of self.old (Statement.Hide d s offset ∷ rest)) (words_of space.now) (actor_of self.new rest) (words_of space.now) }
+        ensures went { (rest : List Statement) → Went program.now (constants_of space.now) (actor_of self.old (Statement.Hide d s offset ∷ rest)) (words_of space.now) (actor_of self.new rest) (words_of space.now) }
         ensures answers { IsNext self.old self.new }
     {
         let held = self.held(s);
@@ -307,11 +307,11 @@ impl Mutator {
 
     /// `unhide`.
     fn unhide(&mut self, d: u8, s: u8)
-        requires answers { HasRoom self.old }
+        requires answers { HasSpareRoom self.old }
         requires d { d < 16 }
         requires s { s < 16 }
         requires inner { HoldsInner self.old s }
-        ensures went { (p : Program) (lay : Layout) (w : Words) (rest : List Statement) → w.stop ≡ 0 → Went p lay (actor_of self.old (Statement.Unhide d s ∷ rest)) w (actor_of self.new rest) w }
+        ensures went { (p : Program) (lay : Constants) (w : Words) (rest : List Statement) → w.stop ≡ 0 → Went p lay (actor_of self.old (Statement.Unhide d s ∷ rest)) w (actor_of self.new rest) w }
         ensures answers { IsNext self.old self.new }
     {
         let held = self.held(s);
@@ -325,10 +325,10 @@ impl Mutator {
 
     /// `push`.
     fn push(&mut self, r: u8)
-        requires answers { HasRoom self.old }
+        requires answers { HasSpareRoom self.old }
         requires r { r < 16 }
         requires room { length self.old.stack.items < 64 }
-        ensures went { (p : Program) (lay : Layout) (w : Words) (rest : List Statement) → w.stop ≡ 0 → Went p lay (actor_of self.old (Statement.Push r ∷ rest)) w (actor_of self.new rest) w }
+        ensures went { (p : Program) (lay : Constants) (w : Words) (rest : List Statement) → w.stop ≡ 0 → Went p lay (actor_of self.old (Statement.Push r ∷ rest)) w (actor_of self.new rest) w }
         ensures answers { IsNext self.old self.new }
     {
         let held = Held {
@@ -343,10 +343,10 @@ impl Mutator {
 
     /// `pop`.
     fn pop(&mut self, r: u8)
-        requires answers { HasRoom self.old }
+        requires answers { HasSpareRoom self.old }
         requires r { r < 16 }
         requires some { 0 < length self.old.stack.items }
-        ensures went { (p : Program) (lay : Layout) (w : Words) (rest : List Statement) → w.stop ≡ 0 → Went p lay (actor_of self.old (Statement.Pop r ∷ rest)) w (actor_of self.new rest) w }
+        ensures went { (p : Program) (lay : Constants) (w : Words) (rest : List Statement) → w.stop ≡ 0 → Went p lay (actor_of self.old (Statement.Pop r ∷ rest)) w (actor_of self.new rest) w }
         ensures answers { IsNext self.old self.new }
     {
         match self.stack.pop() {
@@ -357,10 +357,10 @@ impl Mutator {
 
     /// `same`.
     fn same(&mut self, r: u8, s: u8)
-        requires answers { HasRoom self.old }
+        requires answers { HasSpareRoom self.old }
         requires r { r < 16 }
         requires s { s < 16 }
-        ensures went { (p : Program) (lay : Layout) (w : Words) (rest : List Statement) → w.stop ≡ 0 → Went p lay (actor_of self.old (Statement.Same r s ∷ rest)) w (actor_of self.new rest) w }
+        ensures went { (p : Program) (lay : Constants) (w : Words) (rest : List Statement) → w.stop ≡ 0 → Went p lay (actor_of self.old (Statement.Same r s ∷ rest)) w (actor_of self.new rest) w }
         ensures answers { IsNext self.old self.new }
     {
         if self.held(r) == self.held(s) {
@@ -381,7 +381,7 @@ impl Mutator {
         fields: u32,
     ) -> Option<Request>
         requires space { IsSpace space.old }
-        requires answers { HasRoom self.old }
+        requires answers { HasSpareRoom self.old }
         requires going { space.old.stop ≡ 0 }
         requires can { CanMake program.now statement }
         requires bytes { HasByteAddresses space.old }
@@ -389,14 +389,15 @@ impl Mutator {
         requires r { r ≡ made_in statement }
         requires class { class ≡ made_class statement }
         requires fields { fields ≡ made_fields program.now statement }
-        ensures done { MatchOption result (IsAnswered program.now space.old self.old statement space.new self.new) (IsAsked program.now space.old self.old statement space.new self.new) }
+        ensures done { MatchOption result (IsAnswered program.now space.old self.old statement space.new self.new) (HasAsked program.now space.old self.old statement space.new self.new) }
         ensures keeps { KeepsSpace space.old space.new }
     {
         let words = fields + 2;
         match self.take(program, space, words as u64) {
             Some(number) => {
                 store_header(space, number, class, fields);
-                self.tell(r, 8 * number, Answer::At(address(8 * number)));
+                let at = Addr::at_word(number);
+                self.tell(r, at.get(), Answer::At(at));
                 None
             }
             None => Some(ask(space, Request::Need { words })),
@@ -432,7 +433,7 @@ impl Mutator {
         requires small { words ≤ 64 }
         requires space { IsSpace space.old }
         requires room { FindsRoom space.old words room.fragment room.next }
-        ensures went { Claims program.now space.old self.old words room.fragment room.next space.new self.new }
+        ensures went { WinsRoom program.now space.old self.old words room.fragment room.next space.new self.new }
         ensures answers { self.new.answers ≡ self.old.answers }
         ensures stack { self.new.stack ≡ self.old.stack }
         ensures keeps { KeepsGoing space.old space.new }
@@ -467,13 +468,7 @@ impl Mutator {
             return Tested::NoObject;
         }
         let object = held / 8;
-        let class = match read_tag(load_word(space, object)) {
-            Some(Tag::Plain { class }) => class,
-            Some(Tag::Forwarded { .. }) => unreachable!(),
-            Some(Tag::Pinned { .. }) => unreachable!(),
-            Some(Tag::Cemented { .. }) => unreachable!(),
-            None => unreachable!(),
-        };
+        let class = plain_class(load_word(space, object)).unwrap();
         let len = load_word(space, object + 1);
         if has_field(&shape(program, class).kind, len, field, is_reference) {
             Tested::At {
@@ -522,7 +517,7 @@ impl Mutator {
 
     /// The statement has this answer.
     fn say(&mut self, answer: Answer)
-        requires { HasRoom self.old }
+        requires { HasSpareRoom self.old }
         ensures said { (script : List Statement) → actor_of self.new script ≡ over (actor_of self.old []) script (actor_of self.old []).reg answer }
         ensures answers { IsNext self.old self.new }
     {
@@ -534,7 +529,7 @@ impl Mutator {
     /// Register `d` becomes this word, and the statement has this answer.
     fn tell(&mut self, d: u8, word: u64, answer: Answer)
         requires d { d < 16 }
-        requires answers { HasRoom self.old }
+        requires answers { HasSpareRoom self.old }
         ensures told { (script : List Statement) → actor_of self.new script ≡ over (actor_of self.old []) script (put (actor_of self.old []).reg d word) answer }
         ensures answers { IsNext self.old self.new }
     {
@@ -545,7 +540,7 @@ impl Mutator {
     /// Register `d` becomes this word, with this offset beside it, and the statement has this answer.
     fn tell_inner(&mut self, d: u8, word: u64, offset: u64, answer: Answer)
         requires d { d < 16 }
-        requires answers { HasRoom self.old }
+        requires answers { HasSpareRoom self.old }
         ensures told { (script : List Statement) → actor_of self.new script ≡ over_with (actor_of self.old []) script (put (actor_of self.old []).reg d word) (put (actor_of self.old []).offset d offset) (actor_of self.old []).stack answer }
         ensures answers { IsNext self.old self.new }
     {
@@ -575,10 +570,9 @@ fn reference(word: u64) -> Answer
     requires { IsReference word }
     ensures { result ≡ reference_answer word }
 {
-    if word == 0 {
-        Answer::Nil
-    } else {
-        Answer::At(address(word))
+    match Addr::of(word) {
+        Some(at) => Answer::At(at),
+        None => Answer::Nil,
     }
 }
 

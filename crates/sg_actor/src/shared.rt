@@ -7,7 +7,7 @@ ghost use Rattle.sg_words.specs.Words.{read, write, Saw, after_step};
 ghost use Rattle.sg_program.specs.Scripts.{words_for};
 ghost use Rattle.sg_words.specs.Sections.{IsInSection};
 ghost use Rattle.sg_space.specs.Space.{Contents, words_of, IsContents};
-ghost use Rattle.sg_actor.specs.Views.{layout_of, IsSpace, KeepsSpace, KeepsGoing, HasByteAddresses, FindsRoom, FindsNone, StoresHeader, headed, IsPlaced, HasNowhere};
+ghost use Rattle.sg_actor.specs.Views.{constants_of, IsSpace, KeepsSpace, KeepsGoing, HasByteAddresses, FindsRoom, FindsNoRoom, StoresHeader, headed, HoldsNew, HasNowhere};
 
 use sg_space::Space;
 use sg_words::{Addr, Tag, write_tag};
@@ -22,7 +22,7 @@ pub(crate) struct Room {
 /// The number of the word behind the fragment's last one.
 pub(crate) fn end(space: &Space, fragment: u32) -> u64
     requires { fragment < length space.now.ends }
-    ensures { result ≡ (layout_of space.now).limit fragment }
+    ensures { result ≡ (constants_of space.now).limit fragment }
 {
     space.end_of(fragment) / 8
 }
@@ -41,7 +41,7 @@ pub(crate) fn load_word(space: &Space, number: u64) -> u64
     requires inside { IsInSection space.now.layout number }
     ensures { read (words_of space.now) (Place.Word number) ≡ result }
 {
-    space.read(address(8 * number))
+    space.read(Addr::at_word(number))
 }
 
 /// The word with this number becomes `value`.
@@ -52,7 +52,7 @@ pub(crate) fn store_word(space: &mut Space, number: u64, value: u64)
     ensures words { words_of space.new ≡ write (words_of space.old) (Place.Word number) value }
     ensures keeps { KeepsGoing space.old space.new }
 {
-    space.write(address(8 * number), value);
+    space.write(Addr::at_word(number), value);
 }
 
 /// The fragment's next word becomes `new` where it is `seen`; else it stays, and the error is the word found.
@@ -80,7 +80,7 @@ pub(crate) fn find(space: &Space, words: u64) -> Option<Room>
     requires some { 0 < words }
     requires small { words ≤ 64 }
     requires bytes { HasByteAddresses space.now }
-    ensures none { IfNone result (FindsNone space.now words) }
+    ensures none { IfNone result (FindsNoRoom space.now words) }
     ensures found { IfSome result (λ room. FindsRoom space.now words room.fragment room.next) }
 {
     for fragment in 0..space.fragments() {
@@ -114,7 +114,7 @@ pub fn place(space: &mut Space, class: u16, fields: u32) -> Option<Addr>
     requires bytes { HasByteAddresses space.old }
     requires class { class < 256 }
     requires fields { fields ≤ 62 }
-    ensures placed { MatchOption result (HasNowhere space.old (words_for fields) space.new) (IsPlaced space.old class fields space.new) }
+    ensures placed { MatchOption result (HasNowhere space.old (words_for fields) space.new) (HoldsNew space.old class fields space.new) }
     ensures bytes { HasByteAddresses space.new }
     ensures keeps { KeepsGoing space.old space.new }
 {
@@ -122,16 +122,5 @@ pub fn place(space: &mut Space, class: u16, fields: u32) -> Option<Addr>
     let room = find(space, words)?;
     space.set_next(room.fragment, 8 * (room.next + words));
     store_header(space, room.next, class, fields);
-    Some(address(8 * room.next))
-}
-
-/// The byte address that a word is.
-pub(crate) fn address(word: u64) -> Addr
-    requires { IsAddress word }
-    ensures { result ≡ word }
-{
-    match Addr::of(word) {
-        Some(address) => address,
-        None => unreachable!(),
-    }
+    Some(Addr::at_word(room.next))
 }

@@ -4,10 +4,12 @@ use Rattle.std.proofs.lemmas.Bool.{cond-true, cond-false, cases_lt, cases_Bool}
 use Rattle.sg_words.specs.Address.{byte_at}
 use Rattle.sg_words.specs.Tags.{plain_word}
 use Rattle.sg_words.specs.Reach.Reached.{Root, Next}
-use Rattle.sg_copy.specs.Area.{Area, has, In, IsYoung, size_of, is_strong, Traces, sent}
+use Rattle.sg_copy.specs.Area.{Area, IsYoung, is_strong, Traces}
+use Rattle.sg_words.specs.Lists.{has, In}
+use Rattle.sg_words.specs.Objects.{size_of, sent}
 use Rattle.sg_copy.specs.Image.{IsImage}
 use Rattle.sg_copy.specs.Round.{Round, IsOpening, Slot, Item, Copied, Failed, IsSettled, IsGoing, CopierLaw}
-use Rattle.sg_copy.proofs.Members.{out, not-in}
+use Rattle.sg_words.proofs.Members.{out, not-in}
 use Rattle.sg_copy.proofs.Going.{target-old, slot-word}
 use Rattle.sg_copy.proofs.Steps.{at_start, handled, more_items}
 

@@ -3,7 +3,7 @@ use Rattle.std.proofs.Common.{◌≡◌, ◌≢◌, ℕ, ◌+◌, ◌<◌, ◌�
 use Rattle.sg_words.specs.Sections.{large_base}
 use Rattle.sg_space.specs.Space.{Contents}
 use Rattle.sg_space.specs.Standing.{word}
-use Rattle.sg_copy.specs.Area.{size_of}
+use Rattle.sg_words.specs.Objects.{size_of}
 use Rattle.sg_copy.specs.Copying.{IsFilled, Ends, Goes}
 
 pub goes_on : (s : Contents) (front x : ℕ) → IsFilled s front x → word s x ≢ 0 → x < large_base s.layout → (x + size_of (word s) x ≤ large_base s.layout) × IsFilled s front (x + size_of (word s) x)

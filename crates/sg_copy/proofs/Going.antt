@@ -4,9 +4,12 @@ use Rattle.std.proofs.lemmas.Bool.{cond-true, cond-false, cases_eq, cases_lt, ca
 use Rattle.sg_words.specs.Address.{byte_at}
 use Rattle.sg_words.specs.Tags.{plain_word}
 use Rattle.sg_words.specs.Reach.Reached.{Root, Next}
-use Rattle.sg_copy.specs.Area.{Area, has, In, IsYoung, size_of, Traces, sent}
+use Rattle.sg_copy.specs.Area.{Area, IsYoung, Traces}
+use Rattle.sg_words.specs.Lists.{has, In}
+use Rattle.sg_words.specs.Objects.{size_of, sent}
 use Rattle.sg_copy.specs.Round.{Round, IsOpening, Slot, Item, Copied, Failed, IsSettled, IsGoing}
-use Rattle.sg_copy.proofs.Members.{has-cases, in-here, in-there, out, sent-at, sent-fixed, placed-grows, placed-in}
+use Rattle.sg_words.proofs.Members.{has-cases, in-here, in-there, out}
+use Rattle.sg_words.proofs.Objects.{sent-at, sent-fixed, placed-grows, placed-in}
 
 module _ (area : Area) (w : ℕ → ℕ) (items : List ℕ) (fill : ℕ) (op : IsOpening area w items fill) (r : Round) (go : IsGoing area w items fill r) where
   pub grown : fill ≤ r.fill

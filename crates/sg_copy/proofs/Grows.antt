@@ -3,9 +3,13 @@ use Rattle.std.proofs.Common.{◌≡◌, ◌≢◌, ℕ, ◌+◌, ◌-◌, ◌�
 use Rattle.std.proofs.lemmas.Bool.{cond-true, cond-false, cases_eq, cases_lt, cases_Bool, le-leb, lt-ltb, lt-leb, le-ltb}
 use Rattle.sg_words.specs.Address.{byte_at}
 use Rattle.sg_words.specs.Tags.{plain_word}
-use Rattle.sg_copy.specs.Area.{Area, has, In, IsYoung, size_of, is_strong, Traces, sent}
+use Rattle.sg_copy.specs.Area.{Area, IsYoung, is_strong, Traces}
+use Rattle.sg_words.specs.Lists.{has, In}
+use Rattle.sg_words.specs.Objects.{size_of, sent}
 use Rattle.sg_copy.specs.Round.{Round, slots, IsOpening, Slot, Item, Copied, Failed, IsSettled, IsGoing}
-use Rattle.sg_copy.proofs.Members.{in-last, in-before, last-cases, in-here, in-left, in-right, in-cases, in-one, out, not-in, sent-along, placed-more, slots-in, slots-are, sends, sends-at, sends-other}
+use Rattle.sg_copy.proofs.Members.{sends, sends-at, sends-other}
+use Rattle.sg_words.proofs.Members.{in-last, in-before, last-cases, in-here, in-left, in-right, in-cases, in-one, out, not-in}
+use Rattle.sg_words.proofs.Objects.{sent-along, placed-more, slots-in, slots-are}
 use Rattle.sg_copy.proofs.Going.{grown, young-below, target-old, slot-run}
 
 -- source, but the n words from `at` on come from x on
@@ -81,7 +85,7 @@ module _ (area : Area) (w : ℕ → ℕ) (items : List ℕ) (fill : ℕ) (op : I
         slots = λ s h. elim h [
           | inl h ↦ elim (in-cases s r.todo (slots area w x r.fill 0 (w (x + 1))) h) [
             | inl i ↦ slot-more s (go.slots s (inl i))
-            | inr i ↦ (let q = slots-are area w x r.fill 0 (w (x + 1)) s i in
+            | inr i ↦ (let q = slots-are (is_strong area w x) r.fill 0 (w (x + 1)) s i in
                 Copied x q.0 (in-right x r.moves (x ∷ []) (in-here x x [] refl)) (let z = q.1 in omega arith) q.2 (q.3 ∙ ap (λ (z : ℕ). z + 2 + q.0) (sym (sends-at r.m x r.fill x refl))))
           ]
           | inr h ↦ slot-more s (go.slots s (inr h))
@@ -118,7 +122,7 @@ module _ (area : Area) (w : ℕ → ℕ) (items : List ℕ) (fill : ℕ) (op : I
             | inl j ↦ old (go.all s (Copied a i j l e (q ∙ ap (λ (z : ℕ). z + 2 + i) (old-m a j))))
             | inr j ↦ inl (in-right s r.todo (slots area w x r.fill 0 (w (x + 1)))
                 (subst (λ (z : ℕ). In z (slots area w x r.fill 0 (w (x + 1)))) (sym (q ∙ ap (λ (z : ℕ). z + 2 + i) (sends-at r.m x r.fill a (in-one a x j))))
-                (slots-in area w x r.fill 0 (w (x + 1)) i zero-le (let k : w (a + 1) ≡ w (x + 1) = ap (λ (z : ℕ). w (z + 1)) (in-one a x j) in omega arith) (ap (λ (z : ℕ). is_strong area w z i) (sym (in-one a x j)) ∙ e))))
+                (slots-in (is_strong area w x) r.fill 0 (w (x + 1)) i zero-le (let k : w (a + 1) ≡ w (x + 1) = ap (λ (z : ℕ). w (z + 1)) (in-one a x j) in omega arith) (ap (λ (z : ℕ). is_strong area w z i) (sym (in-one a x j)) ∙ e))))
           ]
 
       -- where an object that a handled slot referred to is now doesn't change
@@ -185,7 +189,7 @@ module _ (area : Area) (w : ℕ → ℕ) (items : List ℕ) (fill : ℕ) (op : I
     slots = λ s h. elim h [
       | inl h ↦ elim (in-cases s r.todo (slots area w x x 0 (w (x + 1))) h) [
         | inl i ↦ slot-more s (go.slots s (inl i))
-        | inr i ↦ (let q = slots-are area w x x 0 (w (x + 1)) s i in Failed x q.0 (in-last x x r.fails refl) (let z = q.1 in omega arith) q.2 q.3)
+        | inr i ↦ (let q = slots-are (is_strong area w x) x 0 (w (x + 1)) s i in Failed x q.0 (in-last x x r.fails refl) (let z = q.1 in omega arith) q.2 q.3)
       ]
       | inr h ↦ slot-more s (go.slots s (inr h))
     ];
@@ -218,5 +222,5 @@ module _ (area : Area) (w : ℕ → ℕ) (items : List ℕ) (fill : ℕ) (op : I
             | inr j ↦ old (go.all s (Failed a i j l e q))
             | inl j ↦ inl (in-right s r.todo (slots area w x x 0 (w (x + 1)))
                 (subst (λ (z : ℕ). In z (slots area w x x 0 (w (x + 1)))) (sym (q ∙ ap (λ (z : ℕ). z + 2 + i) j))
-                (slots-in area w x x 0 (w (x + 1)) i zero-le (let k : w (a + 1) ≡ w (x + 1) = ap (λ (z : ℕ). w (z + 1)) j in omega arith) (ap (λ (z : ℕ). is_strong area w z i) (sym j) ∙ e))))
+                (slots-in (is_strong area w x) x 0 (w (x + 1)) i zero-le (let k : w (a + 1) ≡ w (x + 1) = ap (λ (z : ℕ). w (z + 1)) j in omega arith) (ap (λ (z : ℕ). is_strong area w z i) (sym j) ∙ e))))
           ]

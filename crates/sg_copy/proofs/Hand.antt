@@ -11,7 +11,8 @@ use Rattle.sg_desc.specs.Shapes.{is_strong}
 use Rattle.sg_words.specs.Sections.{old_base}
 use Rattle.sg_space.specs.Space.{Contents}
 use Rattle.sg_space.specs.Standing.{word}
-use Rattle.sg_copy.specs.Area.{Area, IsYoung, size_of}
+use Rattle.sg_copy.specs.Area.{Area, IsYoung}
+use Rattle.sg_words.specs.Objects.{size_of}
 use Rattle.sg_copy.specs.Round.{slots_by, Handles, Copies, Fails}
 use Rattle.sg_copy.specs.Copying.{is_strong_in, area_of, IsStill, Stores, HasCopied, IsTarget, Went, Stays, IsPlain}
 
@@ -30,12 +31,6 @@ still_set s t a v e = (
 
 pub still_same : (s : Contents) → IsStill s s
 still_same s = (refl, refl)
-
-pub still_on : (s t u : Contents) → IsStill s t → IsStill t u → IsStill s u
-still_on s t u h k = (k.0 ∙ ap (λ (z : Contents). record z { words = u.words }) h.0, k.1 ∙ h.1)
-
-pub area_still : (s t : Contents) → IsStill s t → area_of t ≡ area_of s
-area_still s t h = ap area_of h.0
 
 pub length_still : (s t : Contents) → IsStill s t → length t.words ≡ length s.words
 length_still s t h = h.1

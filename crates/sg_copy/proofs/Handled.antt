@@ -8,11 +8,12 @@ use Rattle.sg_words.specs.declared.tags.Tag.TheVariants.{Plain, Forwarded, Pinne
 use Rattle.sg_words.specs.Sections.{old_base, large_base}
 use Rattle.sg_space.specs.Space.{Contents}
 use Rattle.sg_space.specs.Standing.{word}
+use Rattle.sg_words.proofs.Numbers.{word_at-plus, whole-plus}
 use Rattle.sg_copy.specs.Area.{IsYoung}
 use Rattle.sg_copy.specs.Round.{slots_by, Handles, FindsForwarded}
 use Rattle.sg_copy.specs.declared.copier.Copier.{Copier}
-use Rattle.sg_copy.specs.Copying.{area_of, IsStill, Stores, HasCopied, IsFront, IsHandled}
-use Rattle.sg_copy.proofs.Hand.{stores, still_set, still_same, still_on, area_still, fails_at, copies_to}
+use Rattle.sg_copy.specs.Copying.{area_of, IsStill, Stores, HasCopied, IsFront, IsHandled, still_on, area_still}
+use Rattle.sg_copy.proofs.Hand.{stores, still_set, still_same, fails_at, copies_to}
 
 layout_still : (s t : Contents) → IsStill s t → t.layout ≡ s.layout
 layout_still s t h = ap (λ (z : Contents). z.layout) h.0
@@ -23,12 +24,6 @@ front_still s t f g h e front = record {
   above = subst (λ l. old_base l ≤ word_at g) (sym (layout_still s t h)) (subst (λ (z : ℕ). old_base s.layout ≤ word_at z) (sym e) front.above);
   below = subst (λ l. word_at g ≤ large_base l) (sym (layout_still s t h)) (subst (λ (z : ℕ). word_at z ≤ large_base s.layout) (sym e) front.below);
 }
-
-pub moved_front : (f n : ℕ) → byte_at (word_at f) ≡ f → byte_at (word_at (f + 8 * (n + 2))) ≡ f + 8 * (n + 2)
-moved_front f n e = omega arith
-
-pub moved_word : (f n : ℕ) → word_at (f + 8 * (n + 2)) ≡ word_at f + (n + 2)
-moved_word f n = omega arith
 
 module _ (old : Copier) (slot : ℕ) (front : IsFront old.space old.front) where
   -- nothing changes
@@ -100,11 +95,11 @@ module _ (old : Copier) (slot : ℕ) (front : IsFront old.space old.front) where
         let st1 = stores s1 s2 (word_at target) v in1 e2 in
         let st2 = stores s2 new.space slot old.front in2 e3 in
         let layout = layout_still old.space new.space still in
-        let fill = ap word_at fr ∙ moved_word old.front n in
+        let fill = ap word_at fr ∙ word_at-plus old.front (n + 2) in
         record {
           still = still;
           front = record {
-            whole = subst (λ (z : ℕ). byte_at (word_at z) ≡ z) (sym fr) (moved_front old.front n front.whole);
+            whole = subst (λ (z : ℕ). byte_at (word_at z) ≡ z) (sym fr) (whole-plus old.front (n + 2) front.whole);
             above = subst (λ l. old_base l ≤ word_at new.front) (sym layout) (let a = front.above in let b = fill in omega arith);
             below = subst (λ l. word_at new.front ≤ large_base l) (sym layout) (let a = room in let b = fill in omega arith);
           };

@@ -3,7 +3,6 @@ pub mod Going
 pub mod Grows
 pub mod Steps
 pub mod Ends
-pub mod Addresses
 pub mod Hand
 pub mod Handled
 pub mod Running

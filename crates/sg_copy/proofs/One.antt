@@ -12,7 +12,8 @@ use Rattle.sg_space.specs.Standing.{word}
 use Rattle.sg_copy.specs.Area.{class_of, is_strong, Traces}
 use Rattle.sg_copy.specs.Round.{IsOpening}
 use Rattle.sg_copy.specs.Copying.{is_strong_in, area_of, Ends, CanCopyAll}
-use Rattle.sg_copy.proofs.Members.{word_at-byte_at, in-one}
+use Rattle.sg_words.proofs.Numbers.{word_at-byte_at}
+use Rattle.sg_words.proofs.Members.{in-one}
 use Rattle.sg_copy.proofs.Hand.{stores}
 
 module _ (s : Contents) (contents : IsContents s) (shape : Shape) (first : slice_get s.shapes 0 ≡ Some shape) (some : 0 < length s.shapes) (plain : shape.kind ≡ PtrFree)

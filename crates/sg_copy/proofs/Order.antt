@@ -5,10 +5,14 @@ use Rattle.std.proofs.lemmas.List.{append-nil, append_assoc, map-append}
 use Rattle.sg_words.specs.Address.{byte_at, word_at}
 use Rattle.sg_words.specs.Tags.{plain_word}
 use Rattle.sg_words.specs.Reach.{AreDistinct}
-use Rattle.sg_copy.specs.Area.{Area, has, In, IsYoung, class_of, size_of, is_strong}
+use Rattle.sg_copy.specs.Area.{Area, IsYoung, class_of, is_strong}
+use Rattle.sg_words.specs.Lists.{has, In}
+use Rattle.sg_words.specs.Objects.{size_of}
 use Rattle.sg_copy.specs.Round.{Round, slots, slots_by, IsOpening, Slot, Item, Copied, Failed, IsSettled, IsGoing, started, Handles, HoldsNone, FindsPinned, FindsForwarded, Copies, Fails, IsAfter}
 use Rattle.sg_copy.specs.Order.{is_plain, target, targets, slots_of, firsts, Fits, IsInOrder}
-use Rattle.sg_copy.proofs.Members.{in-here, in-there, in-left, in-right, has-cases, out, slots-same, word_at-byte_at}
+use Rattle.sg_copy.proofs.Members.{slots-same}
+use Rattle.sg_words.proofs.Members.{in-here, in-there, in-left, in-right, has-cases, out}
+use Rattle.sg_words.proofs.Numbers.{word_at-byte_at}
 use Rattle.sg_copy.proofs.Going.{slot-word, plain-words}
 use Rattle.sg_copy.proofs.Steps.{tag-moves, tag-plain, tag-pinned, young-slot, one}
 

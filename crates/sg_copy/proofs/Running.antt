@@ -9,14 +9,14 @@ use Rattle.sg_words.specs.Sections.{old_base, IsInSection}
 use Rattle.sg_space.specs.Space.{Contents}
 use Rattle.sg_space.specs.Standing.{word}
 use Rattle.sg_copy.specs.declared.copier.Copier.{Copier}
-use Rattle.sg_copy.specs.Area.{Area, In, has, IsYoung}
+use Rattle.sg_copy.specs.Area.{Area, IsYoung}
+use Rattle.sg_words.specs.Lists.{In, has}
 use Rattle.sg_copy.specs.Round.{Round, Slot, Item, Copied, Failed, IsGoing, Handles, IsAfter, remains}
-use Rattle.sg_copy.specs.Copying.{area_of, IsStill, Went, Stays, IsPlain, HasTarget, IsFront, moved_to, IsHandled, CanCopy}
-use Rattle.sg_copy.proofs.Addresses.{is_address}
-use Rattle.sg_copy.proofs.Members.{in-here, in-there, not-in}
+use Rattle.sg_copy.specs.Copying.{area_of, IsStill, Went, Stays, IsPlain, HasTarget, IsFront, moved_to, IsHandled, CanCopy, area_still}
+use Rattle.sg_words.proofs.Numbers.{is_address}
+use Rattle.sg_words.proofs.Members.{in-here, in-there, not-in}
 use Rattle.sg_copy.proofs.Going.{target-old, plain-words}
 use Rattle.sg_copy.proofs.Steps.{handled, word-of, young-slot}
-use Rattle.sg_copy.proofs.Hand.{area_still}
 
 -- what is left of a list before its end begins with the item there
 pub begins_at : (xs : List ℕ) (i s : ℕ) → i < length xs → s ≡ get_or xs i s → drop i (map word_at xs) ≡ word_at s ∷ drop (i + 1) (map word_at xs)

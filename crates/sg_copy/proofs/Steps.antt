@@ -6,10 +6,14 @@ use Rattle.sg_words.specs.Address.{byte_at}
 use Rattle.sg_words.specs.Tags.{plain_word}
 use Rattle.sg_words.specs.Reach.{AreDistinct}
 use Rattle.sg_words.specs.Reach.Reached.{Root, Next}
-use Rattle.sg_copy.specs.Area.{Area, has, In, IsYoung, size_of, Traces, sent}
+use Rattle.sg_copy.specs.Area.{Area, IsYoung, Traces}
+use Rattle.sg_words.specs.Lists.{has, In}
+use Rattle.sg_words.specs.Objects.{size_of, sent}
 use Rattle.sg_copy.specs.Round.{Round, slots, slots_by, IsOpening, Slot, Item, Copied, Failed, IsSettled, IsGoing, started, Handles, HoldsNone, FindsPinned, FindsForwarded, Copies, Fails, IsAfter}
 use Rattle.sg_words.proofs.Distinct.{few}
-use Rattle.sg_copy.proofs.Members.{in-here, in-left, in-cases, in-right, out, not-in, distinct-more, in-last, among-all, sent-at, slots-same, slots-few, in-one, sends, sends-at, sends-other}
+use Rattle.sg_copy.proofs.Members.{slots-same, sends, sends-at, sends-other}
+use Rattle.sg_words.proofs.Members.{in-here, in-left, in-cases, in-right, out, not-in, distinct-more, in-last, among-all, in-one}
+use Rattle.sg_words.proofs.Objects.{sent-at, slots-few}
 use Rattle.sg_copy.proofs.Going.{young-below, slot-run, slot-apart, slot-word, plain-words, traced, found, quiet, settle}
 use Rattle.sg_copy.proofs.Grows.{from_range, from-out, grow, fail}
 
@@ -161,7 +165,7 @@ module _ (area : Area) (w : ℕ → ℕ) (items : List ℕ) (fill : ℕ) (op : I
           less =
               (let l : length r.todo ≡ suc (length rest) = ap (λ (l : List ℕ). length l) td in
               let k : length (rest ++ slots area w x r.fill 0 (w (x + 1))) ≡ length rest + length (slots area w x r.fill 0 (w (x + 1))) = length-append rest (slots area w x r.fill 0 (w (x + 1))) in
-              let j : length (slots area w x r.fill 0 (w (x + 1))) ≤ w (x + 1) = subst (λ (l : List ℕ). length l ≤ w (x + 1)) (slots-same area w x r.fill c 0 (w (x + 1)) wx) (slots-few area c r.fill 0 (w (x + 1))) in
+              let j : length (slots area w x r.fill 0 (w (x + 1))) ≤ w (x + 1) = subst (λ (l : List ℕ). length l ≤ w (x + 1)) (slots-same area w x r.fill c 0 (w (x + 1)) wx) (slots-few (area.strong c) r.fill 0 (w (x + 1))) in
               omega arith);
         }
 
@@ -198,7 +202,7 @@ module _ (area : Area) (w : ℕ → ℕ) (items : List ℕ) (fill : ℕ) (op : I
           less =
               (let l : length r.todo ≡ suc (length rest) = ap (λ (l : List ℕ). length l) td in
               let k : length (rest ++ slots area w x x 0 (w (x + 1))) ≡ length rest + length (slots area w x x 0 (w (x + 1))) = length-append rest (slots area w x x 0 (w (x + 1))) in
-              let j : length (slots area w x x 0 (w (x + 1))) ≤ w (x + 1) = subst (λ (l : List ℕ). length l ≤ w (x + 1)) (slots-same area w x x c 0 (w (x + 1)) wx) (slots-few area c x 0 (w (x + 1))) in
+              let j : length (slots area w x x 0 (w (x + 1))) ≤ w (x + 1) = subst (λ (l : List ℕ). length l ≤ w (x + 1)) (slots-same area w x x c 0 (w (x + 1)) wx) (slots-few (area.strong c) x 0 (w (x + 1))) in
               let n1 : length (r.fails ++ x ∷ []) ≡ length r.fails + 1 = length-append r.fails (x ∷ []) in
               let b : length (r.fails ++ x ∷ []) ≤ area.high = few area.high (r.fails ++ x ∷ []) d1 (among-all area.high (r.fails ++ x ∷ []) (λ a i. (let y = (op.inside a (g.failed a i).0).0 in (let y0 = y.0 in omega arith, let y1 = y.1 in omega arith)))) in
               let sp = spend (length r.fails) area.high (omega arith) in

@@ -1,6 +1,7 @@
 -- What a round works on, and what the words of an area refer to. Words are functions of their numbers.
-use Rattle.std.specs.Prelude.{◌≡◌, ℕ, ◌+◌, ◌-◌, ◌/◌, ◌<◌, ◌≤◌, ◌==◌, Bool, true, false, if◌then◌else◌, List, [], ◌∷◌}
-use Rattle.sg_words.specs.Address.{byte_at, word_at}
+use Rattle.std.specs.Prelude.{◌≡◌, ℕ, ◌+◌, ◌-◌, ◌/◌, ◌<◌, ◌≤◌, Bool, true, List}
+use Rattle.sg_words.specs.Address.{byte_at}
+use Rattle.sg_words.specs.Lists.{In}
 use Rattle.sg_words.specs.Reach.{Reached}
 
 -- The nursery is from the word `low` to before `high`, the major heap ends before `limit`; field i of an object of class c
@@ -10,14 +11,6 @@ pub record Area : Type 0 where
   pub high : ℕ
   pub limit : ℕ
   pub strong : ℕ → ℕ → Bool
-
--- x is one of these
-abbrev pub has : ℕ → List ℕ → Bool
-has x [] = false
-has x (y ∷ ys) = if x == y then true else has x ys
-
-abbrev pub In : ℕ → List ℕ → Type 0
-In x xs = has x xs ≡ true
 
 abbrev pub IsYoung : Area → ℕ → Type 0
 IsYoung area x = (area.low ≤ x) × (x < area.high)
@@ -30,10 +23,6 @@ class_of v = v / 8 - 1
 abbrev pub is_strong : Area → (ℕ → ℕ) → ℕ → ℕ → Bool
 is_strong area w a i = area.strong (class_of (w a)) i
 
--- the words of the object whose first word is a
-abbrev pub size_of : (ℕ → ℕ) → ℕ → ℕ
-size_of w a = w (a + 1) + 2
-
 -- a strong field of the object a refers to the young object c
 abbrev pub Points : Area → (ℕ → ℕ) → ℕ → ℕ → Type 0
 Points area w a c = IsYoung area c × ((i : ℕ) × (i < w (a + 1)) × (is_strong area w a i ≡ true) × (w (a + 2 + i) ≡ byte_at c))
@@ -45,12 +34,3 @@ Held area w slots a = IsYoung area a × ((s : ℕ) × In s slots × (w s ≡ byt
 -- the young objects that the slots refer to, and those that strong fields of these refer to
 abbrev pub Traces : Area → (ℕ → ℕ) → List ℕ → ℕ → Type 0
 Traces area w slots = Reached (Points area w) (Held area w slots)
-
--- where a word leads once each object x is at m x: an address of x becomes that of m x, any other number stays
-abbrev pub sent : (ℕ → ℕ) → ℕ → ℕ
-sent m v = if v == byte_at (word_at v) then byte_at (m (word_at v)) else v
-
--- the moved objects stand one behind another from the word `at` on, to before `end`
-abbrev pub Placed : (ℕ → ℕ) → ℕ → List ℕ → (ℕ → ℕ) → ℕ → Type 0
-Placed w at [] m end = end ≡ at
-Placed w at (a ∷ moves) m end = (m a ≡ at) × Placed w (at + size_of w a) moves m end

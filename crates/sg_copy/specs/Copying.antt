@@ -1,5 +1,6 @@
 -- What the code of a copier works on, and what it does with one slot.
 use Rattle.std.specs.Prelude.{◌≡◌, ◌≢◌, ℕ, ◌+◌, ◌-◌, ◌<◌, ◌≤◌, Bool, false, Option, Some, None, List, [], ◌∷◌, ◌++◌, map, length, slice_get}
+use Rattle.std.proofs.Common.{ap, ◌∙◌}
 use Rattle.sg_words.specs.Address.{IsAddress, byte_at, word_at}
 use Rattle.sg_words.specs.Tags.{plain_word}
 use Rattle.sg_words.specs.declared.pieces.Move.{Move}
@@ -9,7 +10,9 @@ use Rattle.sg_words.specs.Sections.{nursery_base, old_base, large_base, IsInSect
 use Rattle.sg_space.specs.Space.{Contents, IsContents}
 use Rattle.sg_space.specs.Standing.{word}
 use Rattle.sg_copy.specs.declared.copier.Copier.{Copier}
-use Rattle.sg_copy.specs.Area.{Area, In, IsYoung, size_of, class_of, Traces}
+use Rattle.sg_copy.specs.Area.{Area, IsYoung, class_of, Traces}
+use Rattle.sg_words.specs.Lists.{In}
+use Rattle.sg_words.specs.Objects.{size_of}
 use Rattle.sg_copy.specs.Image.{IsImage}
 use Rattle.sg_copy.specs.Order.{IsInOrder}
 use Rattle.sg_copy.specs.Round.{IsOpening, Handles, slots_by}
@@ -26,6 +29,12 @@ area_of s = record { low = nursery_base; high = old_base s.layout; limit = large
 -- nothing but words differs
 abbrev pub IsStill : Contents → Contents → Type 0
 IsStill old new = (new ≡ record old { words = new.words }) × (length new.words ≡ length old.words)
+
+pub still_on : (s t u : Contents) → IsStill s t → IsStill t u → IsStill s u
+still_on s t u h k = (k.0 ∙ ap (λ (z : Contents). record z { words = u.words }) h.0, k.1 ∙ h.1)
+
+pub area_still : (s t : Contents) → IsStill s t → area_of t ≡ area_of s
+area_still s t h = ap area_of h.0
 
 -- the word a is v now, and no other one has changed
 abbrev pub Stores : (ℕ → ℕ) → ℕ → ℕ → (ℕ → ℕ) → Type 0

@@ -2,7 +2,9 @@
 use Rattle.std.specs.Prelude.{◌≡◌, ◌≢◌, ℕ, ◌+◌, ◌<◌, ◌≤◌, ◌⊎◌, true, false, if◌then◌else◌, List}
 use Rattle.sg_words.specs.Address.{byte_at}
 use Rattle.sg_words.specs.Tags.{plain_word}
-use Rattle.sg_copy.specs.Area.{Area, In, has, size_of, is_strong, Traces, sent, Placed}
+use Rattle.sg_copy.specs.Area.{Area, is_strong, Traces}
+use Rattle.sg_words.specs.Lists.{In, has}
+use Rattle.sg_words.specs.Objects.{size_of, sent, Placed}
 
 -- From the words w, a round over these slots, with the major heap filled to before `fill`, has led to `word` and filled the
 -- heap to before `end`. Each object x is at m x now: `moves` were copied, in this order, and `fails` stayed for want of room.

@@ -2,7 +2,9 @@
 use Rattle.std.specs.Prelude.{◌≡◌, ℕ, ◌+◌, ◌<◌, ◌≤◌, ◌⊎◌, leb, ltb, ◌==◌, Bool, false, if◌then◌else◌, List, [], ◌∷◌, ◌++◌}
 use Rattle.sg_words.specs.Address.{byte_at, word_at}
 use Rattle.sg_words.specs.Tags.{plain_word}
-use Rattle.sg_copy.specs.Area.{Area, has, class_of, size_of}
+use Rattle.sg_copy.specs.Area.{Area, class_of}
+use Rattle.sg_words.specs.Lists.{has}
+use Rattle.sg_words.specs.Objects.{size_of}
 use Rattle.sg_copy.specs.Round.{slots}
 
 -- x is a young object that is plain

@@ -2,8 +2,10 @@
 use Rattle.std.specs.Prelude.{◌≡◌, ◌≢◌, ℕ, zero, suc, ◌+◌, ◌-◌, ◌*◌, ◌≤◌, ◌<◌, ◌⊎◌, true, false, if◌then◌else◌, List, [], ◌∷◌, ◌++◌, length}
 use Rattle.sg_words.specs.Address.{byte_at}
 use Rattle.sg_words.specs.Tags.{plain_word}
+use Rattle.sg_words.specs.Objects.{strong_slots, size_of, sent, Placed}
 use Rattle.sg_words.specs.Reach.{AreDistinct}
-use Rattle.sg_copy.specs.Area.{Area, In, has, IsYoung, size_of, is_strong, Traces, sent, Placed}
+use Rattle.sg_copy.specs.Area.{Area, IsYoung, is_strong, Traces}
+use Rattle.sg_words.specs.Lists.{In, has}
 use Rattle.sg_copy.specs.Image.{IsImage}
 
 -- The words; where each object is now; which word of the opening each word was copied from; the slots to come and those
@@ -20,8 +22,7 @@ pub record Round : Type 0 where
 
 -- the strong slots among the n fields from i on, of an object at `at` that has the class of the object a
 abbrev pub slots : Area → (ℕ → ℕ) → ℕ → ℕ → ℕ → ℕ → List ℕ
-slots area w a at i zero = []
-slots area w a at i (suc n) = if is_strong area w a i then (at + 2 + i) ∷ slots area w a at (suc i) n else slots area w a at (suc i) n
+slots area w a at i n = strong_slots (is_strong area w a) at i n
 
 -- The opening of a round: the objects that it can come to lie apart in the nursery, plain or pinned; its slots lie outside of
 -- the plain ones and not in the rest of the heap.
@@ -81,8 +82,7 @@ started w items fill = record {
 
 -- the strong slots among the n fields from i on, of an object of class c at `at`
 abbrev pub slots_by : Area → ℕ → ℕ → ℕ → ℕ → List ℕ
-slots_by area c at i zero = []
-slots_by area c at i (suc n) = if area.strong c i then (at + 2 + i) ∷ slots_by area c at (suc i) n else slots_by area c at (suc i) n
+slots_by area c at i n = strong_slots (area.strong c) at i n
 
 -- How a copier handles the slot s, on the words as they are: they become `word`, the heap is filled to `filled`, the slots
 -- `added` are to come too, and this object moved or failed, or none did.

@@ -4,7 +4,8 @@ ghost use Rattle.sg_words.specs.Tags.{plain_word};
 ghost use Rattle.sg_words.specs.Sections.{nursery_base, old_base, large_base, IsLayout, IsInSection};
 ghost use Rattle.sg_space.specs.Space.{IsContents};
 ghost use Rattle.sg_space.specs.Standing.{word};
-ghost use Rattle.sg_copy.specs.Area.{IsYoung, size_of};
+ghost use Rattle.sg_copy.specs.Area.{IsYoung};
+ghost use Rattle.sg_words.specs.Objects.{size_of};
 ghost use Rattle.sg_copy.specs.Round.{slots_by};
 ghost use Rattle.sg_copy.specs.Copying.{area_of, IsStill, Stores, HasCopied, HasTarget, IsTarget, IsFront, IsHandled, CanCopy, HasCopiedTo};
 

@@ -1,7 +1,7 @@
 ghost use Rattle.std.specs.Prelude.{◌≡◌, ℕ, ◌++◌, IfOk, map};
 ghost use Rattle.sg_words.specs.Address.{word_at};
 ghost use Rattle.sg_space.specs.Space.{IsContents};
-ghost use Rattle.sg_copy.specs.Area.{In};
+ghost use Rattle.sg_words.specs.Lists.{In};
 ghost use Rattle.sg_copy.specs.Copying.{IsWhole, fields_of, fields_of_all};
 
 use crate::copier::push_slots;

@@ -1,5 +1,5 @@
 -- Which fields an object has, and of which sort each is.
-use Rattle.std.specs.Prelude.{ℕ, ◌+◌, ◌==◌, ◌&&◌, nat_le, nat_lt, Bool, true, false, not}
+use Rattle.std.specs.Prelude.{◌≡◌, ℕ, ◌+◌, ◌==◌, ◌&&◌, nat_le, nat_lt, Bool, true, false, not, refl}
 use Rattle.std.specs.Int.{bit_at}
 use Rattle.sg_desc.specs.declared.shapes.Descriptor.{Descriptor}
 use Rattle.sg_desc.specs.declared.shapes.Descriptor.TheVariants.{PtrFree, Run, Bitmap, VectorRefs, VectorPlain, Ephemeron}
@@ -21,6 +21,24 @@ is_strong (Bitmap bits) i n = holds_reference (Bitmap bits) i n
 is_strong VectorRefs i n = true
 is_strong VectorPlain i n = false
 is_strong Ephemeron i n = false
+
+-- which fields are strong doesn't hang on how many there are
+pub strong_any : (kind : Descriptor) (i m n : ℕ) → is_strong kind i m ≡ is_strong kind i n
+strong_any PtrFree i m n = refl
+strong_any (Run first count) i m n = refl
+strong_any (Bitmap bits) i m n = refl
+strong_any VectorRefs i m n = refl
+strong_any VectorPlain i m n = refl
+strong_any Ephemeron i m n = refl
+
+-- a strong field holds a reference
+pub strong_holds : (kind : Descriptor) (i n : ℕ) → is_strong kind i n ≡ true → holds_reference kind i n ≡ true
+strong_holds PtrFree i n e = e
+strong_holds (Run first count) i n e = e
+strong_holds (Bitmap bits) i n e = e
+strong_holds VectorRefs i n e = e
+strong_holds VectorPlain i n e = e
+strong_holds Ephemeron i n e = refl
 
 -- an object of a class with this descriptor has as many fields as it was made with
 abbrev pub is_vector : Descriptor → Bool

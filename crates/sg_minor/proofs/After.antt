@@ -11,8 +11,11 @@ use Rattle.sg_words.specs.Sections.{nursery_base}
 use Rattle.sg_graph.specs.Invariants.{IsPlain}
 use Rattle.sg_space.specs.declared.objects.Object.{Object}
 use Rattle.sg_graph.specs.Heap.{Owner, Of, Frag, Buf, Nobody, IsHeap, layout_of}
-use Rattle.sg_copy.specs.Area.{Area, In, has, IsYoung, size_of}
-use Rattle.sg_copy.proofs.Members.{out, placed-grows, placed-in}
+use Rattle.sg_copy.specs.Area.{Area, IsYoung}
+use Rattle.sg_words.specs.Lists.{In, has}
+use Rattle.sg_words.specs.Objects.{size_of}
+use Rattle.sg_words.proofs.Members.{out}
+use Rattle.sg_words.proofs.Objects.{placed-grows, placed-in}
 use Rattle.sg_minor.specs.Pieces.{IsTaken, ArePieces}
 use Rattle.sg_minor.specs.Joined.{IsKept, IsTraced, IsPictured, IsPicture}
 use Rattle.sg_minor.specs.Law.{HaveWords}

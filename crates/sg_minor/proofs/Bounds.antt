@@ -4,7 +4,7 @@ use Rattle.sg_program.specs.declared.program.Program.{Program}
 use Rattle.sg_desc.specs.declared.shapes.Shape.{Shape}
 use Rattle.sg_program.specs.Scripts.{kind_of, fields_of}
 use Rattle.sg_graph.specs.Book.{Book}
-use Rattle.sg_graph.proofs.Quiet.{strong_any}
+use Rattle.sg_desc.specs.Shapes.{strong_any}
 use Rattle.sg_words.specs.declared.layout.Layout.{Layout}
 use Rattle.sg_space.specs.Space.{Contents}
 use Rattle.sg_minor.specs.Holding.{IsSpaceOf}

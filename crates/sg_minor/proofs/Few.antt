@@ -13,7 +13,7 @@ use Rattle.sg_space.specs.declared.objects.Object.{Object}
 use Rattle.sg_words.specs.Sections.{IsLayout, nursery_base, old_base}
 use Rattle.sg_minor.specs.Pieces.{IsGap, ArePieces}
 use Rattle.sg_minor.proofs.Gaps.{place_is}
-use Rattle.sg_pins.proofs.Merging.{sorted_far}
+use Rattle.sg_words.proofs.Sorted.{sorted_far}
 
 module _ (layout : Layout) (standing : List Object) where
   -- a gap that begins behind another one begins at its end or later

@@ -8,7 +8,8 @@ use Rattle.sg_words.specs.Sections.{old_base, large_base}
 use Rattle.sg_space.specs.Space.{Contents}
 use Rattle.sg_space.specs.Standing.{word}
 use Rattle.sg_graph.specs.Heap.{Owner, Of, layout_of, IsHeap}
-use Rattle.sg_copy.specs.Area.{In, size_of}
+use Rattle.sg_words.specs.Lists.{In}
+use Rattle.sg_words.specs.Objects.{size_of}
 use Rattle.sg_copy.specs.Copying.{IsFilled, Ends, Goes, IsWhole}
 use Rattle.sg_minor.specs.Joined.{ArePins, HasTagged}
 use Rattle.sg_minor.proofs.Named.{common, in-nursery, pin-named, outer, tag-of, first, size-at}

@@ -12,7 +12,7 @@ use Rattle.sg_space.specs.declared.objects.Object.{Object}
 use Rattle.sg_words.specs.Sections.{nursery_base, old_base}
 use Rattle.sg_words.specs.Pieces.{IsPieceOf, place}
 use Rattle.sg_minor.specs.Pieces.{IsTaken, IsGap, ArePieces, IsGrown}
-use Rattle.sg_pins.proofs.Merging.{increasing_push}
+use Rattle.sg_words.proofs.Sorted.{increasing_push}
 
 -- words from f up to g, without g, that no object has, between objects or edges
 pub record IsStretch (layout : Layout) (standing : List Object) (f g : ℕ) : Type 0 where

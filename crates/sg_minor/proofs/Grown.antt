@@ -2,7 +2,7 @@
 use Rattle.std.proofs.Common.{◌≡◌, ℕ, ◌⊎◌, inl, inr, List, [], ◌∷◌, ◌++◌, subst}
 use Rattle.sg_words.specs.Address.{byte_at}
 use Rattle.sg_copy.specs.Area.{Area, IsYoung}
-use Rattle.sg_copy.proofs.Members.{in-before, in-last, last-cases}
+use Rattle.sg_words.proofs.Members.{in-before, in-last, last-cases}
 use Rattle.sg_minor.specs.Parts.{GrowsBy}
 
 module _ (area : Area) (w : ℕ → ℕ) where

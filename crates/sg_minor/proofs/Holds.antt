@@ -8,8 +8,10 @@ use Rattle.sg_graph.specs.Book.{Young, Old, nursery_end, word_of}
 use Rattle.sg_words.specs.Sections.{nursery_base, ready_base}
 use Rattle.sg_graph.proofs.Quiet.{strong_here}
 use Rattle.sg_graph.specs.Heap.{Of, IsHeaded, IsKnown, IsKnownEntry, IsOfSort, Objects, Fields, Globals, Clear, Fragments, IsHeap, layout_of}
-use Rattle.sg_copy.specs.Area.{In, IsYoung, size_of, is_strong, sent}
-use Rattle.sg_copy.proofs.Members.{sent-at}
+use Rattle.sg_copy.specs.Area.{IsYoung, is_strong}
+use Rattle.sg_words.specs.Lists.{In}
+use Rattle.sg_words.specs.Objects.{size_of, sent}
+use Rattle.sg_words.proofs.Objects.{sent-at}
 use Rattle.sg_minor.proofs.Names.{some-name, name-some, size-is, strong-of, target-kept, global-kept}
 use Rattle.sg_minor.proofs.Tiles.{next_of, limit_of, tiles-apart}
 use Rattle.sg_minor.proofs.After.{Ended, sizes, names, young-or, stands_on, stood, stands-nothing, stands-kept, booked, section_of, count, fill-grows, end-within, fill-from, Place, Stayed, Moved, Older, place, pictured, nil-at, unmoved-stays, owner3, tile-of, frag-owns, owns, owned, packed}

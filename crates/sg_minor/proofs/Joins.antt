@@ -12,9 +12,8 @@ use Rattle.sg_graph.specs.Heap.{layout_of}
 use Rattle.sg_copy.specs.Area.{Area, Traces}
 use Rattle.sg_copy.specs.Image.{IsImage}
 use Rattle.sg_copy.specs.Round.{IsOpening}
-use Rattle.sg_copy.specs.Copying.{area_of, fields_of_all, CanCopyAll}
-use Rattle.sg_copy.proofs.Members.{word_at-byte_at}
-use Rattle.sg_copy.proofs.Hand.{area_still}
+use Rattle.sg_copy.specs.Copying.{area_of, fields_of_all, CanCopyAll, area_still}
+use Rattle.sg_words.proofs.Numbers.{word_at-byte_at}
 use Rattle.sg_minor.specs.Joined.{AreSeeds, IsTraced, IsPicture, HasSwept, IsBegun, IsEnded, JoinLaw}
 use Rattle.sg_minor.proofs.Areas.{area_for, area_is, classes_are}
 use Rattle.sg_minor.proofs.Slots.{AreStarts, starts}

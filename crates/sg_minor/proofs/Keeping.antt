@@ -12,7 +12,7 @@ use Rattle.sg_space.specs.declared.objects.Object.{Object}
 use Rattle.sg_words.specs.Sections.{old_base}
 use Rattle.sg_minor.specs.Pieces.{AreStanding, first_word, word_behind}
 use Rattle.sg_minor.specs.Parts.{IsStaying, WentTo, AreRounded, AreStaying, AreKept}
-use Rattle.sg_pins.proofs.Merging.{sorted_far, increasing_push}
+use Rattle.sg_words.proofs.Sorted.{sorted_far, increasing_push}
 
 -- after i objects: the pins below the index are below the objects to come, and the others above the objects passed
 pub record IsBetween (told : List Object) (pins : List ℕ) (i index : ℕ) : Type 0 where

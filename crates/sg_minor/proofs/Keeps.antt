@@ -9,9 +9,10 @@ use Rattle.sg_graph.specs.Graph.{Graph}
 use Rattle.sg_graph.specs.Book.{Book}
 use Rattle.sg_words.specs.Sections.{globals_base}
 use Rattle.sg_graph.specs.Heap.{Owner, layout_of, IsHeap}
-use Rattle.sg_copy.specs.Area.{In, has, IsYoung, Points, Traces}
+use Rattle.sg_copy.specs.Area.{IsYoung, Points, Traces}
+use Rattle.sg_words.specs.Lists.{In, has}
 use Rattle.sg_copy.specs.Image.{IsImage}
-use Rattle.sg_copy.proofs.Members.{in-left, in-right, in-cases, out}
+use Rattle.sg_words.proofs.Members.{in-left, in-right, in-cases, out}
 use Rattle.sg_minor.specs.Joined.{ArePins, HasTagged, IsItem, IsKept, IsTraced}
 use Rattle.sg_minor.proofs.Areas.{area_for}
 use Rattle.sg_minor.proofs.Named.{field_refers, first, length, strong-of, pin-named, in-nursery, inner-field, len, tag-of, strong, field-of}

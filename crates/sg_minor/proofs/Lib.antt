@@ -1,6 +1,5 @@
 pub mod Gaps
 pub mod Walk
-pub mod Lists
 pub mod Grown
 pub mod Sound
 pub mod Keeping

@@ -4,15 +4,15 @@ use Rattle.std.proofs.lemmas.Bool.{cases_Bool}
 use Rattle.sg_words.specs.Address.{byte_at}
 use Rattle.sg_words.specs.Tags.{plain_word}
 use Rattle.sg_program.specs.declared.program.Program.{Program}
-use Rattle.sg_desc.specs.Shapes.{is_strong as is_strong_by}
+use Rattle.sg_desc.specs.Shapes.{is_strong as is_strong_by, strong_any, strong_holds}
 use Rattle.sg_program.specs.Scripts.{kind_of, fields_of}
 use Rattle.sg_graph.specs.Graph.{Entry, Graph}
 use Rattle.sg_graph.specs.Book.{Book, Young, Old, nursery_end, word_of}
 use Rattle.sg_words.specs.Sections.{nursery_base}
-use Rattle.sg_graph.proofs.Quiet.{strong_any, strong_holds}
 use Rattle.sg_graph.specs.Heap.{Owner, IsKnownEntry, IsOfSort, IsHeap}
-use Rattle.sg_copy.specs.Area.{has, In, IsYoung, class_of, is_strong, Points}
-use Rattle.sg_copy.proofs.Members.{out}
+use Rattle.sg_copy.specs.Area.{IsYoung, class_of, is_strong, Points}
+use Rattle.sg_words.specs.Lists.{has, In}
+use Rattle.sg_words.proofs.Members.{out}
 use Rattle.sg_minor.specs.Joined.{ArePins, HasTagged}
 use Rattle.sg_minor.proofs.Areas.{refers, area_for}
 use Rattle.sg_minor.proofs.Names.{of-same, class-of-plain, ref-of}

@@ -4,7 +4,7 @@ use Rattle.std.proofs.lemmas.Bool.{cond-true, cond-false, cases_lt, cases_Bool, 
 use Rattle.sg_words.specs.Address.{byte_at}
 use Rattle.sg_words.specs.Tags.{plain_word}
 use Rattle.sg_program.specs.declared.program.Program.{Program}
-use Rattle.sg_desc.specs.Shapes.{is_strong as is_strong_by}
+use Rattle.sg_desc.specs.Shapes.{is_strong as is_strong_by, strong_holds}
 use Rattle.sg_program.specs.Scripts.{kind_of, words_for}
 use Rattle.sg_graph.specs.Graph.{Graph, Entry, Ref, Int, Inner}
 use Rattle.sg_graph.specs.Book.{Book, Young, Old, Large, nursery_end, old_end, word_of}
@@ -13,9 +13,10 @@ use Rattle.sg_graph.specs.Pause.{IsTarget, IsReached, IsRoot}
 use Rattle.sg_graph.specs.Invariants.{IsPlain}
 use Rattle.sg_words.specs.Reach.{Reached, Root, Next}
 use Rattle.sg_words.proofs.Closure.{from_rounds, within_closed, to_rounds}
-use Rattle.sg_graph.proofs.Quiet.{strong_holds, none_ready, as_rounds}
+use Rattle.sg_graph.proofs.Quiet.{none_ready, as_rounds}
 use Rattle.sg_graph.specs.Heap.{Owner, Of, IsOfSort, IsKnownEntry, IsHeap, layout_of}
-use Rattle.sg_copy.specs.Area.{Area, has, IsYoung, class_of, is_strong, Points}
+use Rattle.sg_copy.specs.Area.{Area, IsYoung, class_of, is_strong, Points}
+use Rattle.sg_words.specs.Lists.{has}
 use Rattle.sg_minor.specs.Joined.{IsItem, IsKept, IsTraced}
 
 pub of-same : (m n : ℕ) → Of m ≡ Of n → m ≡ n

@@ -4,17 +4,17 @@ use Rattle.std.proofs.lemmas.Bool.{cases_eq, cases_lt, false≢true}
 use Rattle.sg_words.specs.Address.{byte_at}
 use Rattle.sg_words.specs.Tags.{plain_word}
 use Rattle.sg_program.specs.declared.program.Program.{Program}
-use Rattle.sg_desc.specs.Shapes.{is_strong as is_strong_by}
+use Rattle.sg_desc.specs.Shapes.{is_strong as is_strong_by, strong_any}
 use Rattle.sg_program.specs.Scripts.{kind_of, fields_of}
 use Rattle.sg_graph.specs.Graph.{Graph}
 use Rattle.sg_graph.specs.Book.{Book, Old, nursery_end, old_end}
-use Rattle.sg_graph.proofs.Quiet.{strong_any}
 use Rattle.sg_words.specs.Sections.{globals_base, old_base, large_base}
 use Rattle.sg_space.specs.Space.{Contents, IsContents}
 use Rattle.sg_space.specs.Standing.{word}
 use Rattle.sg_graph.specs.Heap.{Owner, Of, IsHeap}
 use Rattle.sg_minor.specs.Holding.{IsSpaceOf, HoldsHeap}
-use Rattle.sg_copy.specs.Area.{Area, In, IsYoung, class_of}
+use Rattle.sg_copy.specs.Area.{Area, IsYoung, class_of}
+use Rattle.sg_words.specs.Lists.{In}
 use Rattle.sg_copy.specs.Copying.{area_of, is_strong_in}
 use Rattle.sg_minor.specs.Joined.{IsSeed, Global, Field, AreSeeds}
 use Rattle.sg_minor.specs.Parts.{GrowsBy, IsGlobal, IsFieldOf, IsOldField}

@@ -8,7 +8,8 @@ use Rattle.sg_graph.specs.Graph.{Graph}
 use Rattle.sg_graph.specs.Book.{Book, old_end}
 use Rattle.sg_words.specs.Sections.{nursery_base, words_end}
 use Rattle.sg_graph.specs.Heap.{Owner, layout_of, IsHeap}
-use Rattle.sg_copy.specs.Area.{In, IsYoung, is_strong, Points, Traces}
+use Rattle.sg_copy.specs.Area.{IsYoung, is_strong, Points, Traces}
+use Rattle.sg_words.specs.Lists.{In}
 use Rattle.sg_copy.specs.Round.{IsOpening}
 use Rattle.sg_minor.specs.Joined.{ArePins, HasTagged}
 use Rattle.sg_minor.proofs.Areas.{area_for}

@@ -2,8 +2,10 @@
 use Rattle.std.proofs.Common.{◌≡◌, ℕ, ◌+◌, ◌≤◌, ◌<◌, List, [], ◌∷◌, sym, refl, ap, ◌∙◌, inl, inr, arith}
 use Rattle.std.proofs.lemmas.Bool.{cases_lt}
 use Rattle.sg_graph.specs.Heap.{Owner}
-use Rattle.sg_copy.specs.Area.{In, size_of, Placed}
-use Rattle.sg_copy.proofs.Members.{has-cases, in-here, in-there, placed-grows}
+use Rattle.sg_words.specs.Lists.{In}
+use Rattle.sg_words.specs.Objects.{size_of, Placed}
+use Rattle.sg_words.proofs.Members.{has-cases, in-here, in-there}
+use Rattle.sg_words.proofs.Objects.{placed-grows}
 use Rattle.sg_words.proofs.Puts.{within_range, range-in, range-below, range-above}
 
 module _ (w : ℕ → ℕ) (m : ℕ → ℕ) where

@@ -10,7 +10,7 @@ use Rattle.sg_space.specs.declared.objects.Object.{Object}
 use Rattle.sg_space.specs.Space.{Contents}
 use Rattle.sg_space.specs.Standing.{word}
 use Rattle.sg_minor.specs.Holding.{IsSpaceOf, HoldsHeap}
-use Rattle.sg_space.proofs.Fragments.{same_count}
+use Rattle.sg_words.proofs.Fragments.{same_count}
 use Rattle.sg_copy.specs.Copying.{area_of}
 use Rattle.sg_minor.specs.Pieces.{ArePieces}
 use Rattle.sg_minor.specs.Joined.{ArePins, IsEnded}

@@ -5,9 +5,12 @@ use Rattle.sg_graph.specs.Graph.{Graph}
 use Rattle.sg_graph.specs.Book.{Book, Old, old_end}
 use Rattle.sg_words.specs.Sections.{globals_base}
 use Rattle.sg_graph.specs.Heap.{Owner, layout_of, IsHeap}
-use Rattle.sg_copy.specs.Area.{In, has, IsYoung, size_of, is_strong, Traces, sent, Placed}
+use Rattle.sg_copy.specs.Area.{IsYoung, is_strong, Traces}
+use Rattle.sg_words.specs.Lists.{In, has}
+use Rattle.sg_words.specs.Objects.{size_of, sent, Placed}
 use Rattle.sg_copy.specs.Image.{IsImage}
-use Rattle.sg_copy.proofs.Members.{in-here, in-there, in-left, in-right, in-cases, out, placed-grows, placed-in}
+use Rattle.sg_words.proofs.Members.{in-here, in-there, in-left, in-right, in-cases, out}
+use Rattle.sg_words.proofs.Objects.{placed-grows, placed-in}
 use Rattle.sg_minor.specs.Joined.{ArePins, HasTagged, IsPictured, IsPicture, HasSwept}
 use Rattle.sg_minor.proofs.Areas.{area_for}
 use Rattle.sg_minor.proofs.Named.{field_refers, length, strong-of, pin-named, in-nursery, in-old, nursery, inner, outer, inner-field, strong, size-at}

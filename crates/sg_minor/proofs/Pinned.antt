@@ -10,12 +10,12 @@ use Rattle.sg_space.specs.Space.{Contents, IsContents}
 use Rattle.sg_space.specs.Standing.{word}
 use Rattle.sg_graph.specs.Heap.{Owner, IsHeap}
 use Rattle.sg_minor.specs.Holding.{IsSpaceOf}
-use Rattle.sg_copy.specs.Area.{In}
-use Rattle.sg_copy.proofs.Members.{word_at-byte_at}
+use Rattle.sg_words.specs.Lists.{In}
+use Rattle.sg_words.proofs.Numbers.{word_at-byte_at}
 use Rattle.sg_pins.specs.Pins.{ArePinned}
 use Rattle.sg_minor.specs.Joined.{ArePins}
 use Rattle.sg_minor.specs.Parts.{ArePlain}
-use Rattle.sg_minor.proofs.Lists.{contains_in, in_contains, in_map, map_in}
+use Rattle.sg_words.proofs.Members.{contains_in, in_contains, in_map, map_in}
 use Rattle.sg_minor.proofs.Sound.{owner_of, named_front, is_owned, owns, owns_first, owned, young_inside, young_there, class_is, few_classes, nursery_is}
 
 module _ (p : Program) (s : Contents) (g : Graph) (b : Book) (is : IsSpaceOf p s b) (owner : ℕ → Owner) (heap : IsHeap p (word s) g b owner) (contents : IsContents s)

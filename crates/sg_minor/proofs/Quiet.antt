@@ -5,9 +5,12 @@ use Rattle.sg_program.specs.declared.program.Program.{Program}
 use Rattle.sg_graph.specs.Graph.{Graph}
 use Rattle.sg_graph.specs.Book.{Book, Old, nursery_end, old_end}
 use Rattle.sg_graph.specs.Heap.{Owner, IsHeap}
-use Rattle.sg_copy.specs.Area.{In, has, IsYoung, size_of, is_strong, Traces, sent}
+use Rattle.sg_copy.specs.Area.{IsYoung, is_strong, Traces}
+use Rattle.sg_words.specs.Lists.{In, has}
+use Rattle.sg_words.specs.Objects.{size_of, sent}
 use Rattle.sg_copy.specs.Image.{IsImage}
-use Rattle.sg_copy.proofs.Members.{out, not-in, sent-fixed}
+use Rattle.sg_words.proofs.Members.{out, not-in}
+use Rattle.sg_words.proofs.Objects.{sent-fixed}
 use Rattle.sg_minor.specs.Joined.{ArePins, HasTagged}
 use Rattle.sg_minor.proofs.Areas.{area_for}
 use Rattle.sg_minor.proofs.Named.{field_refers, common, inner-field, size-at}

@@ -7,14 +7,14 @@ use Rattle.std.specs.List.{Contains}
 use Rattle.std.specs.List.Sorted.{IsStrictlyIncreasing}
 use Rattle.sg_words.specs.declared.pieces.Move.{Move}
 use Rattle.sg_space.specs.declared.objects.Object.{Object}
-use Rattle.sg_pins.proofs.Merging.{rising}
+use Rattle.sg_words.proofs.Sorted.{rising}
 use Rattle.sg_minor.specs.Law.{AreTold, AreToldMoves, HaveWords}
 use Rattle.sg_minor.specs.Pieces.{AreStanding, IsTaken, first_word, word_behind}
 use Rattle.sg_minor.specs.Parts.{IsStaying, AreRounded, AreStaying, AreKept, AreCleaned}
 use Rattle.sg_words.specs.Address.{IsAddress, byte_at, word_at}
 use Rattle.sg_words.specs.Tags.{plain_word}
 use Rattle.sg_program.specs.declared.program.Program.{Program}
-use Rattle.sg_desc.specs.Shapes.{holds_reference, is_strong as is_strong_by}
+use Rattle.sg_desc.specs.Shapes.{holds_reference, is_strong as is_strong_by, strong_holds}
 use Rattle.sg_program.specs.Scripts.{kind_of}
 use Rattle.sg_words.specs.Reach.{Root, Next}
 use Rattle.sg_graph.specs.Graph.{Graph, Entry, Ref, Int, Inner}
@@ -22,17 +22,17 @@ use Rattle.sg_graph.specs.Book.{Book, Young, old_end, word_of}
 use Rattle.sg_words.specs.Sections.{globals_base}
 use Rattle.sg_space.specs.Space.{Contents, IsContents}
 use Rattle.sg_space.specs.Standing.{word, TellsYoung}
-use Rattle.sg_graph.proofs.Quiet.{strong_holds}
 use Rattle.sg_graph.specs.Heap.{Owner, Of, Frag, Buf, Nobody, IsHeap, layout_of, IsOfSort, IsKnownEntry}
 use Rattle.sg_minor.specs.Holding.{IsSpaceOf}
-use Rattle.sg_copy.specs.Area.{Area, In, has, IsYoung, class_of, size_of, Traces}
+use Rattle.sg_copy.specs.Area.{Area, IsYoung, class_of, Traces}
+use Rattle.sg_words.specs.Lists.{In, has}
+use Rattle.sg_words.specs.Objects.{size_of}
 use Rattle.sg_copy.specs.Image.{IsImage}
-use Rattle.sg_copy.specs.Copying.{area_of, IsStill, fields_of, fields_of_all}
-use Rattle.sg_copy.proofs.Members.{word_at-byte_at, in-left, in-right, out, in-cases, in-there, in-here, placed-in}
-use Rattle.sg_copy.proofs.Addresses.{is_address}
-use Rattle.sg_copy.proofs.Hand.{area_still}
+use Rattle.sg_copy.specs.Copying.{area_of, IsStill, fields_of, fields_of_all, area_still}
+use Rattle.sg_words.proofs.Numbers.{word_at-byte_at, is_address}
+use Rattle.sg_words.proofs.Members.{in-left, in-right, out, in-cases, in-there, in-here, contains_in, in_contains, in_map, map_in}
+use Rattle.sg_words.proofs.Objects.{placed-in, slots-are}
 use Rattle.sg_minor.specs.Joined.{ArePins, HasSwept, HasTagged, AreSeeds, IsSeed, Global, Field}
-use Rattle.sg_minor.proofs.Lists.{slots_by-are, contains_in, in_contains, in_map, map_in}
 use Rattle.sg_minor.proofs.OldSlots.{strong_is, same_object}
 use Rattle.sg_minor.proofs.Sound.{owner_of, named_front, is_owned, owns, owns_first, owned, one_owner, inside, length_is, class_is, young_inside, young_there, few_classes, nursery_is}
 
@@ -40,7 +40,7 @@ use Rattle.sg_minor.proofs.Sound.{owner_of, named_front, is_owned, owns, owns_fi
 fields_all : (t : Contents) (hs : List ℕ) (x : ℕ) → In x (fields_of_all t hs) → (h : ℕ) × In h hs × ((j : ℕ) × (j < word t (h + 1)) × ((area_of t).strong (class_of (word t h)) j ≡ true) × (x ≡ h + 2 + j))
 fields_all t [] x i = let z = i in cc
 fields_all t (h ∷ hs) x i = elim (in-cases x (fields_of t h) (fields_of_all t hs) i) [
-  | inl here ↦ let q = slots_by-are (area_of t) (class_of (word t h)) h 0 (word t (h + 1)) x here in (h, in-here h h hs refl, (q.0, (let l = q.1 in omega arith), q.2, q.3))
+  | inl here ↦ let q = slots-are ((area_of t).strong (class_of (word t h))) h 0 (word t (h + 1)) x here in (h, in-here h h hs refl, (q.0, (let l = q.1 in omega arith), q.2, q.3))
   | inr there ↦ let q = fields_all t hs x there in (q.0, in-there q.0 h hs q.1, q.2)
 ]
 
@@ -388,7 +388,7 @@ module _ (p : Program) (s : Contents) (g : Graph) (b : Book) (is : IsSpaceOf p s
               let to = place.1 in
               let nursery = nursery_is p s g b is owner heap contents in
               (omega arith, omega arith, omega arith);
-          apart = λ j k d l there. told_apart (get_or told j d) (get_or told k d) (Contains-get_or told j d (omega arith)) (Contains-get_or told k d there) (rising told tells.in_order j k d l there);
+          apart = λ j k d l there. told_apart (get_or told j d) (get_or told k d) (Contains-get_or told j d (omega arith)) (Contains-get_or told k d there) (rising (λ (o : Object). o.at) told tells.in_order j k d l there);
         }
 
         pub told_rounded : AreRounded s.layout v told

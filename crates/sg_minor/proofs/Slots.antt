@@ -9,10 +9,12 @@ use Rattle.sg_words.specs.Sections.{globals_base}
 use Rattle.sg_space.specs.Space.{Contents}
 use Rattle.sg_space.specs.Standing.{word}
 use Rattle.sg_graph.specs.Heap.{Owner, layout_of, IsHeap}
-use Rattle.sg_copy.specs.Area.{Area, In, IsYoung, class_of}
+use Rattle.sg_copy.specs.Area.{Area, IsYoung, class_of}
+use Rattle.sg_words.specs.Lists.{In}
 use Rattle.sg_copy.specs.Round.{slots, slots_by}
 use Rattle.sg_copy.specs.Copying.{area_of, fields_of, fields_of_all}
-use Rattle.sg_copy.proofs.Members.{has-cases, in-here, in-there, in-left, in-right, in-cases, slots-in, slots-are, slots-same}
+use Rattle.sg_words.proofs.Members.{has-cases, in-here, in-there, in-left, in-right, in-cases}
+use Rattle.sg_words.proofs.Objects.{slots-in, slots-are}
 use Rattle.sg_minor.specs.Joined.{ArePins, HasTagged, IsSeed, Global, Field, AreSeeds}
 use Rattle.sg_minor.proofs.Areas.{refers, area_for}
 use Rattle.sg_minor.proofs.Named.{field_refers, pin-named, class-as, refers-as, size-at}
@@ -28,22 +30,6 @@ pub data IsStart (p : Program) (g : Graph) (b : Book) (pins : List ℕ) (s : ℕ
 pub record AreStarts (p : Program) (w : ℕ → ℕ) (g : Graph) (b : Book) (pins items : List ℕ) : Type 0 where
   pub each : (s : ℕ) → In s items → IsStart p g b pins s
   pub all : (s x : ℕ) → IsStart p g b pins s → w s ≡ byte_at x → IsYoung (area_for p) x → In s items
-
--- the slots of a class, as those of an object with its plain tag
-module _ (area : Area) (c : ℕ) where
-  slots_as : (at i n : ℕ) → slots_by area c at i n ≡ slots area (λ _. plain_word c) 0 at i n
-  slots_as at i n = slots-same area (λ _. plain_word c) 0 at c i n refl
-
-  strong_as : (j : ℕ) → area.strong (class_of (plain_word c)) j ≡ area.strong c j
-  strong_as j = ap (λ (z : ℕ). area.strong z j) (class-of-plain c)
-
-  pub slots_by-in : (at n j : ℕ) → j < n → area.strong c j ≡ true → In (at + 2 + j) (slots_by area c at 0 n)
-  slots_by-in at n j l e = subst (λ (xs : List ℕ). In (at + 2 + j) xs) (sym (slots_as at 0 n)) (slots-in area (λ _. plain_word c) 0 at 0 n j (omega arith) (omega arith) (strong_as j ∙ e))
-
-  pub slots_by-are : (at n s : ℕ) → In s (slots_by area c at 0 n) → (j : ℕ) × (j < n) × (area.strong c j ≡ true) × (s ≡ at + 2 + j)
-  slots_by-are at n s h =
-      let q = slots-are area (λ _. plain_word c) 0 at 0 n s (subst (λ (xs : List ℕ). In s xs) (slots_as at 0 n) h) in
-      (q.0, let l = q.1 in omega arith, sym (strong_as q.0) ∙ q.2, q.3)
 
 -- a field of one of several objects
 pub fields-in : (s : Contents) (hs : List ℕ) (h x : ℕ) → In h hs → In x (fields_of s h) → In x (fields_of_all s hs)
@@ -84,7 +70,7 @@ module _ (p : Program) (w : ℕ → ℕ) (g : Graph) (b : Book) (owner : ℕ →
 
       of-field : (s n : ℕ) → n ≢ 0 → b.stands n ≡ true → In (b.address n) pins → In s (fields_of tagged (b.address n)) → IsStart p g b pins s
       of-field s n d st i h =
-          let q = slots_by-are (area_of tagged) (class_of (word tagged (b.address n))) (b.address n) (word tagged (b.address n + 1)) s h in
+          let q = slots-are ((area_of tagged).strong (class_of (word tagged (b.address n)))) (b.address n) 0 (word tagged (b.address n + 1)) s h in
           AtField n q.0 d st (inr i) (let l = q.1 in let z = size-at p w g b owner t ambiguous pins ps (word tagged) tg (b.address n) n st d refl in omega arith) (sym (strong-as n q.0 d st) ∙ q.2) q.3
 
       held : (s x : ℕ) → IsStart p g b pins s → w s ≡ byte_at x → IsYoung (area_for p) x → In s (slots ++ fields_of_all tagged pins)
@@ -92,5 +78,5 @@ module _ (p : Program) (w : ℕ → ℕ) (g : Graph) (b : Book) (owner : ℕ →
       held s x (AtField n i d st (inl o) l e u) q y = in-left s slots (fields_of_all tagged pins) (sd.all s x (Field n i d st o l e u) q y)
       held s x (AtField n i d st (inr o) l e u) q y = in-right s slots (fields_of_all tagged pins) (fields-in tagged pins (b.address n) s o
           (subst (λ (z : ℕ). In z (fields_of tagged (b.address n))) (sym u)
-          (slots_by-in (area_of tagged) (class_of (word tagged (b.address n))) (b.address n) (word tagged (b.address n + 1)) i
+          (slots-in ((area_of tagged).strong (class_of (word tagged (b.address n)))) (b.address n) 0 (word tagged (b.address n + 1)) i (omega arith)
           (let z = size-at p w g b owner t ambiguous pins ps (word tagged) tg (b.address n) n st d refl in omega arith) (strong-as n i d st ∙ e))))

@@ -5,12 +5,11 @@ use Rattle.std.specs.List.Sorted.{IsStrictlyIncreasing}
 use Rattle.std.proofs.lemmas.List.{get_or-take, take_more, map_push, get_or_default, length-take-le}
 use Rattle.sg_words.specs.Address.{byte_at, word_at}
 use Rattle.sg_space.specs.Space.{Contents, IsContents}
-use Rattle.sg_copy.specs.Area.{In, has}
+use Rattle.sg_words.specs.Lists.{In, has}
 use Rattle.sg_copy.specs.Copying.{IsStill, Stores}
-use Rattle.sg_copy.proofs.Members.{out, not-in, in-before, in-last, last-cases}
+use Rattle.sg_words.proofs.Members.{out, not-in, in-before, in-last, last-cases, map_in, contains_in}
 use Rattle.sg_minor.specs.Joined.{HasTagged}
-use Rattle.sg_minor.proofs.Lists.{map_in, contains_in}
-use Rattle.sg_pins.proofs.Merging.{sorted_far}
+use Rattle.sg_words.proofs.Sorted.{sorted_far}
 
 pub contents_still : (s t : Contents) → IsStill s t → IsContents s → IsContents t
 contents_still s t h c = subst IsContents (sym h.0) (record {

@@ -9,12 +9,14 @@ use Rattle.sg_graph.specs.Book.{Young, Old, nursery_end, old_end, IsWordOf, IsAp
 use Rattle.sg_words.specs.Sections.{nursery_base}
 use Rattle.sg_graph.specs.Pause.{IsPinned, StandsYoung, IsRoot}
 use Rattle.sg_graph.proofs.Quiet.{quiet}
-use Rattle.sg_graph.specs.Tiling.{IsCovered, IsTiled}
-use Rattle.sg_graph.specs.Tiling.{IsGap as IsGapOf}
-use Rattle.sg_graph.specs.Minor.{IsLoose, HasMoved, HasFailed, IsStill, AreLines, IsMinorPause, move_of}
+use Rattle.sg_graph.specs.Tiling.{IsCovered, IsTiled, IsGap as IsGapOf}
+use Rattle.sg_graph.specs.Minor.{IsLoose, HasMoved, HasFailed, IsStill, Keeping, Staying, Telling, Tidying, IsMinorPause, move_of}
 use Rattle.sg_graph.specs.Heap.{layout_of}
-use Rattle.sg_copy.specs.Area.{In, has, IsYoung, size_of}
-use Rattle.sg_copy.proofs.Members.{in-left, in-right, in-cases, not-in, placed-in}
+use Rattle.sg_copy.specs.Area.{IsYoung}
+use Rattle.sg_words.specs.Lists.{In, has}
+use Rattle.sg_words.specs.Objects.{size_of}
+use Rattle.sg_words.proofs.Members.{in-left, in-right, in-cases, not-in}
+use Rattle.sg_words.proofs.Objects.{placed-in}
 use Rattle.sg_minor.specs.Pieces.{IsTaken, IsGap}
 use Rattle.sg_minor.specs.Joined.{ArePins, IsKept}
 use Rattle.sg_minor.specs.Law.{IsReportOf}
@@ -202,8 +204,8 @@ module _ (c : Ended) where
       ]
     ]
 
-    lines : AreLines c.p c.g c.b c.ambiguous report (booked c)
-    lines = record {
+    tells : Telling c.p c.g c.b c.ambiguous report (booked c)
+    tells = record {
       pins_in_order = told.pins.in_order;
       pins = λ a. (
         λ h. (let e = (told.pins.exact a).0 h in let q = pinned.each e.0 e.1 in (q.0, q.1, e.2 ∙ ap byte_at (sym q.2))),
@@ -237,20 +239,30 @@ module _ (c : Ended) where
       | inr d ↦ (some-name n d, c.heap.laid.objects.given n (stood c n (sym (stays_as n d) ∙ k)))
     ]
 
-    pub minor : c.pieces ≡ report.pieces → IsMinorPause c.p c.g c.b c.ambiguous report c.g (booked c)
-    minor same = record {
+    keeps : Keeping c.p c.g c.b c.ambiguous c.g (booked c)
+    keeps = record {
       kept = stays_on;
       pause = quiet c.p c.g c.plain (IsRoot c.p c.g c.b c.ambiguous) stays_on among (λ n d. (let e = exactly c.p c.area c.tie c.w c.g c.b c.ambiguous c.owner c.heap c.stays c.moves c.traced c.plain n d in
           ((λ k. e.0 (sym (stays_as n d) ∙ k)), (λ r. stays_as n d ∙ e.1 r))));
       nothing = (stands-nothing c, unmoved-nil c);
       stands = λ n d. sym (stays_as n d);
       stood = stood c;
+    }
+
+    stays : Staying c.g c.b c.ambiguous report.moves (booked c)
+    stays = record {
       pinned = λ n h. (pin-stands n h, still-of n (pin-stays (c.b.address n) (pinned.all n h)));
       still = λ n d k. still-or-told n d (place c n d k);
-      lines = lines;
+    }
+
+    tidies : c.pieces ≡ report.pieces → Tidying c.p c.b report.pieces c.g (booked c)
+    tidies same = record {
       filled = (fill-grows c, end-within c);
       packed = filled-by;
       tiled = subst (IsTiled c.p c.g (booked c)) same tiled;
       emptied = λ k. (refl, refl);
-      apart = apart;
+      sound = record { apart = apart };
     }
+
+    pub minor : c.pieces ≡ report.pieces → IsMinorPause c.p c.g c.b c.ambiguous report c.g (booked c)
+    minor same = record { keeps = keeps; stays = stays; tells = tells; tidies = tidies same }

@@ -15,11 +15,11 @@ use Rattle.sg_words.specs.Sections.{old_base, large_base}
 use Rattle.sg_space.specs.Space.{Contents, IsContents}
 use Rattle.sg_space.specs.Standing.{word, IsSoundBy, TellsYoung}
 use Rattle.sg_minor.specs.Holding.{HoldsHeap}
-use Rattle.sg_copy.specs.Area.{size_of}
+use Rattle.sg_words.specs.Objects.{size_of}
 use Rattle.sg_copy.specs.Image.{IsImage}
-use Rattle.sg_copy.specs.Copying.{area_of, IsStill, IsFilled, Ends, Goes, CanCopyAll, HasCopiedTo, fields_of_all}
-use Rattle.sg_copy.proofs.Members.{out, word_at-byte_at}
-use Rattle.sg_copy.proofs.Hand.{area_still, still_on}
+use Rattle.sg_copy.specs.Copying.{area_of, IsStill, IsFilled, Ends, Goes, CanCopyAll, HasCopiedTo, fields_of_all, area_still, still_on}
+use Rattle.sg_words.proofs.Members.{out}
+use Rattle.sg_words.proofs.Numbers.{word_at-byte_at}
 use Rattle.sg_pins.specs.Pins.{ArePinned}
 use Rattle.sg_minor.specs.Joined.{ArePins, HasTagged, AreSeeds, IsBegun, IsEnded, JoinLaw}
 use Rattle.sg_minor.specs.Law.{HasPaused, PauseLaw}

@@ -14,7 +14,9 @@ use Rattle.sg_space.specs.Space.{Contents, IsContents}
 use Rattle.sg_space.specs.Standing.{word}
 use Rattle.sg_graph.specs.Heap.{layout_of}
 use Rattle.sg_minor.specs.Holding.{HoldsHeap}
-use Rattle.sg_copy.specs.Area.{Area, In, has, IsYoung, size_of, is_strong, Points, sent, Placed}
+use Rattle.sg_copy.specs.Area.{Area, IsYoung, is_strong, Points}
+use Rattle.sg_words.specs.Lists.{In, has}
+use Rattle.sg_words.specs.Objects.{size_of, sent, Placed}
 use Rattle.sg_copy.specs.Copying.{area_of, IsStill, CanCopyAll, HasCopiedTo, fields_of_all}
 
 -- these are the first words of exactly the pinned objects

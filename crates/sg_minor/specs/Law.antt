@@ -16,7 +16,8 @@ use Rattle.sg_space.specs.declared.objects.Object.{Object}
 use Rattle.sg_space.specs.Space.{Contents, IsContents}
 use Rattle.sg_space.specs.Standing.{word}
 use Rattle.sg_minor.specs.Holding.{HoldsHeap}
-use Rattle.sg_copy.specs.Area.{In, size_of}
+use Rattle.sg_words.specs.Lists.{In}
+use Rattle.sg_words.specs.Objects.{size_of}
 use Rattle.sg_minor.specs.Pieces.{IsTaken, ArePieces}
 use Rattle.sg_minor.specs.Joined.{ArePins, IsEnded}
 

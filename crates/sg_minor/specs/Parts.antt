@@ -17,7 +17,8 @@ use Rattle.sg_words.specs.Sections.{globals_base, IsInSection}
 use Rattle.sg_space.specs.Space.{Contents}
 use Rattle.sg_space.specs.Standing.{word}
 use Rattle.sg_minor.specs.Holding.{HoldsHeap}
-use Rattle.sg_copy.specs.Area.{Area, In, IsYoung}
+use Rattle.sg_copy.specs.Area.{Area, IsYoung}
+use Rattle.sg_words.specs.Lists.{In}
 use Rattle.sg_minor.specs.Pieces.{AreStanding, IsTaken, first_word, word_behind}
 
 -- some program's graph stands in the space by some book

@@ -1,5 +1,5 @@
 -- Each rule by which a mutator goes on keeps the relation: the load and the store of a field.
-use Rattle.std.proofs.Common.{◌≡◌, ◌≢◌, ℕ, ◌+◌, ◌<◌, ◌≤◌, ◌&&◌, not, nat_lt, Bool, true, false, Option, Some, None, List, ◌∷◌, inl, inr, sym, refl, ap, ◌∙◌, subst, le_refl, arith}
+use Rattle.std.proofs.Common.{◌≡◌, ◌≢◌, ℕ, ◌+◌, ◌<◌, ◌≤◌, ◌&&◌, not, nat_lt, Bool, true, false, Option, Some, None, List, ◌∷◌, inl, inr, sym, refl, ap, ◌∙◌, subst, le_refl, ap₂, arith}
 use Rattle.std.proofs.lemmas.Bool.{cases_eq, eq-eqb, ne_eqb, cond-true, cond-false, ltb-true}
 use Rattle.sg_words.specs.Address.{byte_at}
 use Rattle.sg_words.specs.declared.steps.Place.TheVariants.{Word}
@@ -14,18 +14,18 @@ use Rattle.sg_desc.specs.Shapes.{Reference, Plain, has_field, holds_reference}
 use Rattle.sg_program.specs.Scripts.{kind_of}
 use Rattle.sg_program.specs.Kinds.{IsRef, IsInt}
 use Rattle.sg_graph.specs.Graph.{Entry, Ref, Int, Inner, Mutator, Graph, stored}
-use Rattle.sg_graph.specs.Statements.{Finds}
+use Rattle.sg_graph.specs.Statements.{Finds, name_in}
 use Rattle.sg_program.specs.Tests.{Test, test_of}
 use Rattle.sg_graph.specs.Book.{Book, word_of}
 use Rattle.sg_words.specs.Sections.{globals_base}
 use Rattle.sg_graph.specs.Heap.{Owner, IsKnown, IsKnownEntry, IsOfSort, layout_of}
-use Rattle.sg_rules.specs.Rules.{Layout, Access, Actor, within, over, reference_answer, object_in}
+use Rattle.sg_rules.specs.Rules.{Constants, Access, Actor, within, over, reference_answer, object_in}
 use Rattle.sg_order.specs.Rest.{kind_of_entry}
-use Rattle.sg_order.specs.Rest.{Stands as StandsAt}
+use Rattle.sg_order.specs.Rest.{StandsAt}
 use Rattle.sg_words.proofs.Puts.{put-at, put-other, put-all, put-along}
 use Rattle.sg_order.proofs.Frame.{entry_later}
 use Rattle.sg_order.proofs.Relation.{Ground, Tested, Stands, Later, Kept}
-use Rattle.sg_order.proofs.Moves.{Change, offsets_put, unchanged, decided, fits_as}
+use Rattle.sg_order.proofs.Moves.{Change, handed, offsets_put, unchanged, decided, fits_as}
 use Rattle.sg_order.proofs.Loads.{is_ref, is_int, same_object, name_nil, object_at, known_at, known_put}
 
 both : (x y : Bool) → x && y ≡ true → (x ≡ true) × (y ≡ true)
@@ -69,10 +69,10 @@ pub tested_as : (p : Program) (g : Graph) (entry : ℕ → Entry) (s : Statement
 unfolding the_test
 tested_as p g entry s test own e t = subst (λ x. Tested p g entry s x) (ap (the_test own) (sym t.tests ∙ e)) t
 
-pub finds_as : (p : Program) (g : Graph) (m : Mutator) (entry : ℕ → Entry) (script : List Statement) (s : Statement) (test : Test) → (t : Tested p g entry s test) → Finds p g (record m { register = entry; script = script; ended = false }) s t.name
+pub finds_as : (p : Program) (g : Graph) (m : Mutator) (entry : ℕ → Entry) (script : List Statement) (s : Statement) (test : Test) → (t : Tested p g entry s test) → Finds p g (record m { register = entry; script = script }) s t.name
 finds_as p g m entry script s test t = record { test = test; tests = t.tests; holds = t.holds; some = t.some; finds = t.finds }
 
-module _ (p : Program) (lay : Layout) (w : Words) (g : Graph) (b : Book) (said : ℕ → List Answer) (k : ℕ) (owner : ℕ → Owner) (t : Ground p lay w g b owner) where
+module _ (p : Program) (lay : Constants) (w : Words) (g : Graph) (b : Book) (said : ℕ → List Answer) (k : ℕ) (owner : ℕ → Owner) (t : Ground p lay w g b owner) where
   -- a store of a word of a standing object
   module _ (n y val : ℕ) (sn : b.stands n ≡ true) (from : b.address n ≤ y) (to : y < b.address n + (g.size n + 2)) where
     pub same_there : (m x : ℕ) → b.stands m ≡ true → b.address m ≤ x → x < b.address m + (g.size m + 2) → x ≡ y → m ≡ n
@@ -211,8 +211,10 @@ module _ (p : Program) (lay : Layout) (w : Words) (g : Graph) (b : Book) (said :
         let known = entry_stored n i (Ref target.0) sn f.0 kt (subst (λ q. IsOfSort q (Ref target.0)) (sym f.1) tt) in
         subst (λ z. Kept p lay w g b said k (Access (Put r i s)) true (write w (Word (z + 2 + i)) (a.reg s)) (over a rest a.reg Fine)) (sym ea)
         (subst (λ z. Kept p lay w g b said k (Access (Put r i s)) true (write w (Word (b.address n + 2 + i)) z) (over a rest a.reg Fine)) (sym (es ∙ ap (word_of b.address) target.1))
-        (decided p lay w g b said k _ (λ x e. e) (write w (Word (b.address n + 2 + i)) (word_of b.address (Ref target.0))) (stored g n i (Ref target.0)) ch _ (Put r i s) rest st st.entry Fine a.reg Fine st.at.2
-        (n, target.0, finds_as p g (g.mutator k) st.entry (Put r i s ∷ rest) (Put r i s) test x, target.1, refl) refl st.regs
+        (decided p lay w g b said k _ (λ x e. e) (write w (Word (b.address n + 2 + i)) (word_of b.address (Ref target.0))) (stored g n i (Ref target.0)) ch _ (Put r i s) rest st st.entry Fine a.reg Fine st.at.2 (
+          (n, target.0, finds_as p g (g.mutator k) st.entry (Put r i s ∷ rest) (Put r i s) test x, target.1),
+          ap₂ (λ o e. handed (stored g (name_in o) i e) k rest st.entry) (sym x.holds) (sym target.1),
+        ) refl st.regs
         (λ q. known (st.entry q) (st.known q)) st.offsets refl tt (λ q. refl) refl))
 
     -- the deciding store of a number
@@ -230,8 +232,10 @@ module _ (p : Program) (lay : Layout) (w : Words) (g : Graph) (b : Book) (said :
         let known = entry_stored n i (Int number.0) sn f.0 tt (subst (λ q. IsOfSort q (Int number.0)) (sym f.1) tt) in
         subst (λ z. Kept p lay w g b said k (Access (PutD r i s)) true (write w (Word (z + 2 + i)) (a.reg s)) (over a rest a.reg Fine)) (sym ea)
         (subst (λ z. Kept p lay w g b said k (Access (PutD r i s)) true (write w (Word (b.address n + 2 + i)) z) (over a rest a.reg Fine)) (sym (es ∙ ap (word_of b.address) number.1))
-        (decided p lay w g b said k _ (λ x e. e) (write w (Word (b.address n + 2 + i)) (word_of b.address (Int number.0))) (stored g n i (Int number.0)) ch _ (PutD r i s) rest st st.entry Fine a.reg Fine st.at.2
-        (n, number.0, finds_as p g (g.mutator k) st.entry (PutD r i s ∷ rest) (PutD r i s) test x, number.1, refl) refl st.regs
+        (decided p lay w g b said k _ (λ x e. e) (write w (Word (b.address n + 2 + i)) (word_of b.address (Int number.0))) (stored g n i (Int number.0)) ch _ (PutD r i s) rest st st.entry Fine a.reg Fine st.at.2 (
+          (n, number.0, finds_as p g (g.mutator k) st.entry (PutD r i s ∷ rest) (PutD r i s) test x, number.1),
+          ap₂ (λ o e. handed (stored g (name_in o) i e) k rest st.entry) (sym x.holds) (sym number.1),
+        ) refl st.regs
         (λ q. known (st.entry q) (st.known q)) st.offsets refl tt (λ q. refl) refl))
 
     -- the deciding load of a reference
@@ -252,14 +256,14 @@ module _ (p : Program) (lay : Layout) (w : Words) (g : Graph) (b : Book) (said :
         let found = finds_as p g (g.mutator k) st.entry (Get d r i ∷ rest) (Get d r i) test x in
         elim (cases_eq target.0 0) [
           | inl z ↦ decided p lay w g b said k _ (λ x e. e) w g (unchanged p lay w g b said k owner t) _ (Get d r i) rest st (put st.entry d (Ref 0)) Nil (put a.reg d v) (reference_answer v) st.at.2
-              (n, found, target.1 ∙ ap Ref z, refl) refl
+              ((n, found, target.1 ∙ ap Ref z), refl) refl
               (subst (λ m. (q : ℕ) → put a.reg d v q ≡ word_of b.address (put st.entry d (Ref m) q)) z regs)
               (subst (λ m. (q : ℕ) → IsKnownEntry w.word g b (put st.entry d (Ref m) q)) z known)
               (subst (λ m. (q : ℕ) → StandsAt g b (a.offset q) (put st.entry d (Ref m) q)) z offsets)
               (cond-true _ _ _ (eq-eqb v 0 (ev ∙ ap (λ m. byte_at (b.address m)) z ∙ (let u = t.laid.nothing.at_nil in omega arith)))) tt
               (subst (λ m. (q : ℕ) → put (λ r. kind_of_entry (st.entry r)) d IsRef q ≡ kind_of_entry (put st.entry d (Ref m) q)) z kinds) refl
           | inr z ↦ decided p lay w g b said k _ (λ x e. e) w g (unchanged p lay w g b said k owner t) _ (Get d r i) rest st (put st.entry d (Ref target.0)) (At target.0) (put a.reg d v) (reference_answer v) st.at.2
-              (n, found, target.1, z, refl) refl regs known offsets
+              ((n, found, target.1, z), refl) refl regs known offsets
               (cond-false _ _ _ (ne_eqb v 0 (λ q. z (name_nil p lay w g b said k owner t target.0 kt.0 (omega arith)))) ∙ ap At ev) kt.0 kinds refl
         ]
 
@@ -274,7 +278,7 @@ module _ (p : Program) (lay : Layout) (w : Words) (g : Graph) (b : Book) (said :
         let number = of_number _ (g.field n i) f.1 (t.laid.fields.sorted n i sn f.0) in
         let ev : v ≡ number.0 = sym e ∙ ap (λ z. w.word (z + 2 + i)) (object_at p lay w g b said k owner t _ st r n x.holds) ∙ t.laid.fields.holds n i sn f.0 ∙ ap (word_of b.address) number.1 in
         decided p lay w g b said k _ (λ x e. e) w g (unchanged p lay w g b said k owner t) _ (GetD d r i) rest st (put st.entry d (Int number.0)) (Number number.0) (put a.reg d v) (Number v) st.at.2
-        (n, finds_as p g (g.mutator k) st.entry (GetD d r i ∷ rest) (GetD d r i) test x, number.1, refl) refl
+        ((n, finds_as p g (g.mutator k) st.entry (GetD d r i ∷ rest) (GetD d r i) test x, number.1), refl) refl
         (put-along (word_of b.address) a.reg st.entry d v (Int number.0) st.regs ev)
         (known_put p lay w g b said k owner t _ st d (Int number.0) tt) (offsets_put g b a.offset st.entry d (Int number.0) (λ o. tt) st.offsets) (ap Number ev) tt
         (put-along kind_of_entry (λ r. kind_of_entry (st.entry r)) st.entry d IsInt (Int number.0) (λ r. refl) refl) refl

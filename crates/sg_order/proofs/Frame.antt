@@ -15,11 +15,11 @@ use Rattle.sg_graph.specs.Graph.{Entry, Ref, Int, Inner, Mutator, Graph}
 use Rattle.sg_program.specs.Tests.{Test}
 use Rattle.sg_graph.specs.Book.{Book, word_of}
 use Rattle.sg_graph.specs.Epoch.{by_address}
-use Rattle.sg_rules.specs.Rules.{Layout, Slot, Mid, Idle, TestTag, TestLength, FailTag, FailLength, Access, Look, Claim, StoreLength, StoreTag, HideFits, HideMisses, Ask, Left, Actor}
+use Rattle.sg_rules.specs.Rules.{Constants, StackWord, Mid, Idle, TestTag, TestLength, Access, Look, Claim, StoreLength, StoreTag, HideLength, Ask, Left, Actor}
 use Rattle.sg_order.specs.Rest.{kinds_in, IsRunnable}
-use Rattle.sg_order.specs.Rest.{Stands as StandsAt}
+use Rattle.sg_order.specs.Rest.{StandsAt}
 use Rattle.sg_graph.specs.Heap.{IsKnown, IsKnownEntry}
-use Rattle.sg_order.proofs.Relation.{IsGiven, AreGiven, IsMutator, Tight, IsAsked, Tested, Placed, Hidden, AtMid, Keeps, Stacked, Stands, Later}
+use Rattle.sg_order.proofs.Relation.{IsGiven, AreGiven, IsMutator, Tight, AsksForRoom, Tested, Placed, AtMid, Keeps, Stacked, Stands, Later}
 
 address_later : (b c : Book) (answer : Answer) → IsGiven b.stands answer → ((n : ℕ) → b.stands n ≡ true → c.address n ≡ b.address n) → by_address c answer ≡ by_address b answer
 address_later b c (At n) g e = ap (λ x. At (byte_at x)) (e n g)
@@ -98,7 +98,7 @@ keeps_later w g b v h c known stands address size word offset entry q = record {
 
 pub stack_later : (w : Words) (g : Graph) (b : Book) (v : Words) (h : Graph) (c : Book) → ((n : ℕ) → IsKnown w.word g b n → IsKnown v.word h c n) → ((n : ℕ) → b.stands n ≡ true → c.stands n ≡ true) →
     ((n : ℕ) → b.stands n ≡ true → c.address n ≡ b.address n) → ((n : ℕ) → b.stands n ≡ true → h.size n ≡ g.size n) →
-    (slots : List Slot) (entries : List Entry) → Stacked w.word g b slots entries → Stacked v.word h c slots entries
+    (slots : List StackWord) (entries : List Entry) → Stacked w.word g b slots entries → Stacked v.word h c slots entries
 stack_later w g b v h c known stands address size [] [] q = tt
 stack_later w g b v h c known stands address size [] (y ∷ ys) q = absurd q
 stack_later w g b v h c known stands address size (x ∷ xs) [] q = absurd q
@@ -107,7 +107,7 @@ stack_later w g b v h c known stands address size (x ∷ xs) (y ∷ ys) q = (
   stack_later w g b v h c known stands address size xs ys q.1,
 )
 
-module _ (p : Program) (lay : Layout) (w : Words) (g : Graph) (b : Book) (said : ℕ → List Answer) (v : Words) (h : Graph) (c : Book) (said' : ℕ → List Answer) (k j : ℕ) (l : Later w g b said v h c said' k) (n : j ≢ k) where
+module _ (p : Program) (lay : Constants) (w : Words) (g : Graph) (b : Book) (said : ℕ → List Answer) (v : Words) (h : Graph) (c : Book) (said' : ℕ → List Answer) (k j : ℕ) (l : Later w g b said v h c said' k) (n : j ≢ k) where
   -- the same, at another graph
   moved : (register : ℕ → Entry) (script : List Statement) (answers : List Answer) → IsMutator g said j register script answers → IsMutator h said' j register script answers
   moved register script answers m =
@@ -115,9 +115,18 @@ module _ (p : Program) (lay : Layout) (w : Words) (g : Graph) (b : Book) (said :
       record {
         register_is = ap (λ (m : Mutator). m.register) e ∙ m.register_is;
         script_is = ap (λ (m : Mutator). m.script) e ∙ m.script_is;
-        awake = ap (λ (m : Mutator). m.ended) e ∙ m.awake;
+        asleep = λ q. m.asleep (sym (ap (λ (m : Mutator). m.ended) e) ∙ q);
         says = l.says j n ∙ m.says;
       }
+
+  -- what holds a known name holds one that stands
+  stands_of : (e : Entry) (name : ℕ) → e ≡ Ref name → IsKnownEntry w.word g b e → b.stands name ≡ true
+  stands_of (Ref m) name eq q = ap b.stands (sym (the_name eq)) ∙ q.0
+    where
+      the_name : Ref m ≡ Ref name → m ≡ name
+      the_name eq = cc
+  stands_of (Int x) name eq q = cc
+  stands_of (Inner m o) name eq q = cc
 
   tested : (entry : ℕ → Entry) (s : Statement) (test : Test) → ((r : ℕ) → IsKnownEntry w.word g b (entry r)) → Tested p g entry s test → Tested p h entry s test
   tested entry s test q t = record {
@@ -128,14 +137,6 @@ module _ (p : Program) (lay : Layout) (w : Words) (g : Graph) (b : Book) (said :
     finds = let stood : b.stands t.name ≡ true = stands_of (entry test.register) t.name t.holds (q test.register) in
         ap (λ class. has_field test.sort (kind_of p class) (h.size t.name) test.field) (l.class t.name stood) ∙ ap (λ size. has_field test.sort (kind_of p (g.class t.name)) size test.field) (l.size t.name stood) ∙ t.finds;
   }
-    where
-      stands_of : (e : Entry) (name : ℕ) → e ≡ Ref name → IsKnownEntry w.word g b e → b.stands name ≡ true
-      stands_of (Ref m) name eq q = ap b.stands (sym (the_name eq)) ∙ q.0
-        where
-          the_name : Ref m ≡ Ref name → m ≡ name
-          the_name eq = cc
-      stands_of (Int x) name eq q = cc
-      stands_of (Inner m o) name eq q = cc
 
   tight : (m f : ℕ) → Tight b j m f → Tight c j m f
   tight m f t = record {
@@ -154,14 +155,7 @@ module _ (p : Program) (lay : Layout) (w : Words) (g : Graph) (b : Book) (said :
     ahead = moved _ _ _ m.ahead;
   }
 
-  hidden : (entry : ℕ → Entry) (answers : List Answer) (rest : List Statement) (d s offset : ℕ) → ((r : ℕ) → IsKnownEntry w.word g b (entry r)) → Hidden g said j entry answers rest d s offset → Hidden h said' j entry answers rest d s offset
-  hidden entry answers rest d s offset q m =
-      let known : IsKnownEntry w.word g b (Ref m.name) = subst (IsKnownEntry w.word g b) m.holds (q s) in
-      let u = l.size m.name known.0 in
-      let under = m.below in
-      record { name = m.name; holds = m.holds; some = m.some; below = omega arith; ahead = moved _ _ _ m.ahead }
-
-  asked : (s : Statement) → IsAsked p lay b j s → IsAsked p lay c j s
+  asked : (s : Statement) → AsksForRoom p lay b j s → AsksForRoom p lay c j s
   asked (New r class) t = tight (made_words p (New r class)) lay.fragments t
   asked (NewV r class count) t = tight (made_words p (NewV r class count)) lay.fragments t
   asked (Mature r class) t = absurd t
@@ -189,11 +183,9 @@ module _ (p : Program) (lay : Layout) (w : Words) (g : Graph) (b : Book) (said :
 
   pub mid_later : (entry : ℕ → Entry) (answers : List Answer) (rest : List Statement) (mid : Mid) → ((r : ℕ) → IsKnownEntry w.word g b (entry r)) → AtMid p lay w g b said j entry answers rest mid → AtMid p lay v h c said' j entry answers rest mid
   mid_later entry answers rest Idle q m = moved _ _ _ m
-  mid_later entry answers rest (TestTag s test) q m = (tested entry s test q m.0, moved _ _ _ m.1)
-  mid_later entry answers rest (TestLength s test class) q m = (tested entry s test q m.0, moved _ _ _ m.1)
+  mid_later entry answers rest (TestTag s test) q m = (m.0, moved _ _ _ m.1)
+  mid_later entry answers rest (TestLength s test class) q m = (m.0, m.1 ∙ sym (l.class m.0.name (stands_of (entry test.register) m.0.name m.0.holds (q test.register))), moved _ _ _ m.2)
   mid_later entry answers rest (Access s) q m = (m.0, tested entry s m.0 q m.1, moved _ _ _ m.2)
-  mid_later entry answers rest (FailTag s test) q m = (m.0, moved _ _ _ m.1)
-  mid_later entry answers rest (FailLength s test class) q m = (m.0, moved _ _ _ m.1)
   mid_later entry answers rest (Look s f) q m = (m.0, m.1, tight _ f m.2, moved _ _ _ m.3)
   mid_later entry answers rest (Claim s f next) q m = (m.0, m.1, tight _ f m.2, m.3, moved _ _ _ m.4)
   mid_later entry answers rest (StoreLength s x) q m = placed entry answers rest s x m
@@ -202,8 +194,7 @@ module _ (p : Program) (lay : Layout) (w : Words) (g : Graph) (b : Book) (said :
     (let at = m.0.address in let size = m.0.size in
         ap (λ y. v.word (y + 1)) (sym at) ∙ l.length_word m.0.name m.0.stands m.0.some (ap (λ y. w.word (y + 1)) at ∙ m.1 ∙ sym size) ∙ size),
   )
-  mid_later entry answers rest (HideFits d s offset) q m = hidden entry answers rest d s offset q m
-  mid_later entry answers rest (HideMisses d s offset) q m = moved _ _ _ m
+  mid_later entry answers rest (HideLength d s offset) q m = (m.0, m.1, m.2, moved _ _ _ m.3)
   mid_later entry answers rest (Ask s) q m = (asked s m.0, moved _ _ _ m.1)
   mid_later entry answers rest (Left s) q m = (asked s m.0, moved _ _ _ m.1)
 

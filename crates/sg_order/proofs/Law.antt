@@ -1,5 +1,5 @@
 -- From the atomic steps of the mutators to one order of whole statements, from an epoch's opening on.
-use Rattle.std.proofs.Common.{◌≡◌, ℕ, ◌+◌, ◌<◌, ◌≤◌, ◌==◌, true, List, [], ◌∷◌, map, inl, inr, sym, refl, ap, ◌∙◌, subst, le_refl, zero-le, arith}
+use Rattle.std.proofs.Common.{false, ◌≡◌, ℕ, ◌+◌, ◌<◌, ◌≤◌, ◌==◌, true, List, [], ◌∷◌, map, inl, inr, sym, refl, ap, ◌∙◌, subst, le_refl, zero-le, arith}
 use Rattle.std.proofs.Math.Path.{fun_ext}
 use Rattle.std.proofs.lemmas.Bool.{cases_eq, eqb-true}
 use Rattle.std.specs.List.{AllByRecursion}
@@ -17,20 +17,20 @@ use Rattle.sg_words.specs.Sections.{nursery_base}
 use Rattle.sg_graph.specs.Epoch.{Said, Explains, answers_of, by_address}
 use Rattle.sg_words.specs.Lists.{Pairwise}
 use Rattle.sg_graph.specs.Heap.{Owner, Of, Frag, Nobody, IsKnownEntry, IsHeap}
-use Rattle.sg_rules.specs.Rules.{Layout, Slot, Mid, Left, Actor, fresh, Went}
+use Rattle.sg_rules.specs.Rules.{Constants, StackWord, Mid, Left, Actor, fresh, Went}
 use Rattle.sg_order.specs.Rest.{Holds, IsReady, IsHeld, IsEpochOpening, IsRunnable, before_it, IsOver, kinds_in}
-use Rattle.sg_order.specs.Rest.{Stands as StandsAt}
-use Rattle.sg_order.specs.Opening.{IsFirstLayout, IsOpening}
+use Rattle.sg_order.specs.Rest.{StandsAt}
+use Rattle.sg_order.specs.Opening.{AreFirstConstants, AreFirstWords}
 use Rattle.sg_order.specs.OneOrder.{OneOrder}
 use Rattle.sg_words.proofs.Puts.{put-same, within_range, range-in, range-below}
 use Rattle.sg_order.proofs.Events.{range-was, ticks-own}
 use Rattle.sg_order.proofs.Cases.{by_making}
-use Rattle.sg_order.proofs.Relation.{Ground, IsMutator, Tight, IsAsked, AtMid, Stacked, Stands, IsHeading, World}
+use Rattle.sg_order.proofs.Relation.{Ground, IsMutator, Tight, AsksForRoom, AtMid, Stacked, Stands, IsHeading, World}
 use Rattle.sg_order.proofs.Loads.{same_object}
 use Rattle.sg_order.proofs.Whole.{one_by_one, by_one_mutator}
 
 -- What one order of whole statements says of the words w in the midst of an epoch that opened with g and b, and of the mutators.
-pub record SoFar (p : Program) (lay : Layout) (g : Graph) (b : Book) (w : Words) (actors : ℕ → Actor) : Type 0 where
+pub record SoFar (p : Program) (lay : Constants) (g : Graph) (b : Book) (w : Words) (actors : ℕ → Actor) : Type 0 where
   pub order : List Said
   pub graph : Graph
   pub book : Book
@@ -38,7 +38,7 @@ pub record SoFar (p : Program) (lay : Layout) (g : Graph) (b : Book) (w : Words)
   pub world : World p lay w graph book (λ k. answers_of k order) actors
 
 -- an epoch opens with every object headed and every mutator between two statements
-pub at_opening : (p : Program) (lay : Layout) (w : Words) (g : Graph) (b : Book) (actors : ℕ → Actor) → IsEpochOpening p lay w g b actors → World p lay w g b (λ _. []) actors
+pub at_opening : (p : Program) (lay : Constants) (w : Words) (g : Graph) (b : Book) (actors : ℕ → Actor) → IsEpochOpening p lay w g b actors → World p lay w g b (λ _. []) actors
 at_opening p lay w g b actors o = record {
   owner = o.held.owner;
   ground = record { laid = o.held.heap.laid; plain = o.held.plain; number = o.held.number; limits = o.held.limits; words = o.held.nexts };
@@ -54,7 +54,7 @@ at_opening p lay w g b actors o = record {
     from_is = ready.from_is;
     to_is = ready.to_is;
     at = subst (λ (mid : Mid). AtMid p lay w g b (λ _. []) k (g.mutator k).register [] (actors k).script mid) (sym (o.idle k))
-        (record { register_is = refl; script_is = ready.script_is; awake = ready.awake; says = refl });
+        (record { register_is = refl; script_is = ready.script_is; asleep = ready.asleep; says = refl });
     fits = subst (λ script. FindKinds (kinds_in (g.mutator k)) script) (sym ready.script_is) ready.kinds;
     runnable = subst (λ script. AllByRecursion (IsRunnable p) script) (sym ready.script_is) ready.runnable;
   };
@@ -75,14 +75,14 @@ at_opening p lay w g b actors o = record {
       elim (cases_eq n 0) [ inl z ↦ inl z | inr some ↦ inr (o.held.heap.headed n (omega arith) q.0) ],
     )
 
-    stacked : (slots : List Slot) (entries : List Entry) → Pairwise (λ (slot : Slot) (entry : Entry). Holds g b slot.word slot.offset entry) slots entries → Stacked w.word g b slots entries
+    stacked : (slots : List StackWord) (entries : List Entry) → Pairwise (λ (slot : StackWord) (entry : Entry). Holds g b slot.word slot.offset entry) slots entries → Stacked w.word g b slots entries
     stacked [] [] q = tt
     stacked [] (y ∷ ys) q = absurd q
     stacked (x ∷ xs) [] q = absurd q
     stacked (x ∷ xs) (y ∷ ys) q = (record { holds = q.0; known = known x.offset y q.0.stands }, stacked xs ys q.1)
 
 -- mutator k has taken next steps of its program from an epoch's opening on
-pub so_far : (p : Program) (lay : Layout) (w0 : Words) (g : Graph) (b : Book) (actors : ℕ → Actor) (k : ℕ) (a : Actor) (w : Words) → IsEpochOpening p lay w0 g b actors → Went p lay (actors k) w0 a w →
+pub so_far : (p : Program) (lay : Constants) (w0 : Words) (g : Graph) (b : Book) (actors : ℕ → Actor) (k : ℕ) (a : Actor) (w : Words) → IsEpochOpening p lay w0 g b actors → Went p lay (actors k) w0 a w →
     SoFar p lay g b w (put actors k a)
 so_far p lay w0 g b actors k a w opening went =
     let x = by_one_mutator p lay k went.ticks w0 g b (λ _. []) actors a (at_opening p lay w0 g b actors opening) went.legal went.follows in
@@ -98,14 +98,14 @@ so_far p lay w0 g b actors k a w opening went =
     }
 
 -- the words and mutator k itself, in the midst of an epoch
-pub ground_so_far : (p : Program) (lay : Layout) (g : Graph) (b : Book) (w : Words) (actors : ℕ → Actor) (so : SoFar p lay g b w actors) → Ground p lay w so.graph so.book so.world.owner
+pub ground_so_far : (p : Program) (lay : Constants) (g : Graph) (b : Book) (w : Words) (actors : ℕ → Actor) (so : SoFar p lay g b w actors) → Ground p lay w so.graph so.book so.world.owner
 ground_so_far p lay g b w actors so = so.world.ground
 
-pub stands_so_far : (p : Program) (lay : Layout) (g : Graph) (b : Book) (w : Words) (actors : ℕ → Actor) (k : ℕ) (a : Actor) (so : SoFar p lay g b w (put actors k a)) → Stands p lay w so.graph so.book (λ j. answers_of j so.order) k a
+pub stands_so_far : (p : Program) (lay : Constants) (g : Graph) (b : Book) (w : Words) (actors : ℕ → Actor) (k : ℕ) (a : Actor) (so : SoFar p lay g b w (put actors k a)) → Stands p lay w so.graph so.book (λ j. answers_of j so.order) k a
 stands_so_far p lay g b w actors k a so = subst (λ x. Stands p lay w so.graph so.book (λ j. answers_of j so.order) k x) (put-same actors k a) (so.world.stands k)
 
 -- a mutator that is over is where the graph's mutator is
-pub at_rest : (p : Program) (lay : Layout) (w : Words) (g : Graph) (b : Book) (said : ℕ → List Answer) (k : ℕ) (a : Actor) (s : Stands p lay w g b said k a) → IsOver a.mid → IsMutator g said k s.entry (before_it a.mid a.script) s.answers
+pub at_rest : (p : Program) (lay : Constants) (w : Words) (g : Graph) (b : Book) (said : ℕ → List Answer) (k : ℕ) (a : Actor) (s : Stands p lay w g b said k a) → IsOver a.mid → IsMutator g said k s.entry (before_it a.mid a.script) s.answers
 at_rest p lay w g b said k a s over = go a.mid over s.at
   where
     go : (mid : Mid) → IsOver mid → AtMid p lay w g b said k s.entry s.answers a.script mid → IsMutator g said k s.entry (before_it mid a.script) s.answers
@@ -115,13 +115,13 @@ at_rest p lay w g b said k a s over = go a.mid over s.at
     ]
 
 -- the places of a stack hold what they keep
-held_stack : (w : ℕ → ℕ) (g : Graph) (b : Book) (slots : List Slot) (entries : List Entry) → Stacked w g b slots entries → Pairwise (λ (slot : Slot) (entry : Entry). Holds g b slot.word slot.offset entry) slots entries
+held_stack : (w : ℕ → ℕ) (g : Graph) (b : Book) (slots : List StackWord) (entries : List Entry) → Stacked w g b slots entries → Pairwise (λ (slot : StackWord) (entry : Entry). Holds g b slot.word slot.offset entry) slots entries
 held_stack w g b [] [] q = tt
 held_stack w g b [] (y ∷ ys) q = absurd q
 held_stack w g b (x ∷ xs) [] q = absurd q
 held_stack w g b (x ∷ xs) (y ∷ ys) q = (q.0.holds, held_stack w g b xs ys q.1)
 
-pub ready_at_rest : (p : Program) (lay : Layout) (w : Words) (g : Graph) (b : Book) (said : ℕ → List Answer) (k : ℕ) (a : Actor) (s : Stands p lay w g b said k a) → IsOver a.mid → IsReady p g b k a (before_it a.mid a.script)
+pub ready_at_rest : (p : Program) (lay : Constants) (w : Words) (g : Graph) (b : Book) (said : ℕ → List Answer) (k : ℕ) (a : Actor) (s : Stands p lay w g b said k a) → IsOver a.mid → IsReady p g b k a (before_it a.mid a.script)
 ready_at_rest p lay w g b said k a s over =
     let m = at_rest p lay w g b said k a s over in
     let entry : (r : ℕ) → (g.mutator k).register r ≡ s.entry r = λ r. ap (λ (register : ℕ → Entry). register r) m.register_is in
@@ -132,7 +132,7 @@ ready_at_rest p lay w g b said k a s over =
       };
       stack = held_stack w.word g b a.stack (g.mutator k).stack s.stack;
       script_is = m.script_is;
-      awake = m.awake;
+      asleep = m.asleep;
       from_is = s.from_is;
       to_is = s.to_is;
       kinds = subst (λ script. FindKinds (kinds_in (g.mutator k)) script) m.script_is s.fits;
@@ -140,11 +140,11 @@ ready_at_rest p lay w g b said k a s over =
     }
 
 -- who asks for a new object is short of room
-asked_tight : (p : Program) (lay : Layout) (b : Book) (k : ℕ) (s : Statement) → IsMaking s → IsAsked p lay b k s → Tight b k (made_words p s) lay.fragments
-asked_tight p lay b k s making = by_making (λ s. IsAsked p lay b k s → Tight b k (made_words p s) lay.fragments) (λ r class t. t) (λ r class count t. t) s making
+asked_tight : (p : Program) (lay : Constants) (b : Book) (k : ℕ) (s : Statement) → IsMaking s → AsksForRoom p lay b k s → Tight b k (made_words p s) lay.fragments
+asked_tight p lay b k s making = by_making (λ s. AsksForRoom p lay b k s → Tight b k (made_words p s) lay.fragments) (λ r class t. t) (λ r class count t. t) s making
 
 -- who left with a new object has no place for it
-pub no_place : (p : Program) (lay : Layout) (w : Words) (g : Graph) (b : Book) (said : ℕ → List Answer) (owner : ℕ → Owner) → Ground p lay w g b owner → (k : ℕ) (a : Actor) (st : Stands p lay w g b said k a) (s : Statement) →
+pub no_place : (p : Program) (lay : Constants) (w : Words) (g : Graph) (b : Book) (said : ℕ → List Answer) (owner : ℕ → Owner) → Ground p lay w g b owner → (k : ℕ) (a : Actor) (st : Stands p lay w g b said k a) (s : Statement) →
     IsMaking s → a.mid ≡ Left s → HasNoPlace b k (made_words p s)
 no_place p lay w g b said owner t k a st s making e =
     let m = subst (λ (mid : Mid). AtMid p lay w g b said k st.entry st.answers a.script mid) e st.at in
@@ -159,7 +159,7 @@ over_makes_none x mid over = elim over [
 ]
 
 -- where all are over, the words hold the graph
-pub held_at_rest : (p : Program) (lay : Layout) (w : Words) (g : Graph) (b : Book) (said : ℕ → List Answer) (actors : ℕ → Actor) → World p lay w g b said actors → ((k : ℕ) → IsOver (actors k).mid) → IsHeld p lay w g b
+pub held_at_rest : (p : Program) (lay : Constants) (w : Words) (g : Graph) (b : Book) (said : ℕ → List Answer) (actors : ℕ → Actor) → World p lay w g b said actors → ((k : ℕ) → IsOver (actors k).mid) → IsHeld p lay w g b
 held_at_rest p lay w g b said actors wo over = record {
   owner = wo.owner;
   heap = record {
@@ -172,7 +172,7 @@ held_at_rest p lay w g b said actors wo over = record {
   nexts = wo.ground.words;
 }
 
-pub apart_by : (p : Program) (lay : Layout) (w : Words) (g : Graph) (b : Book) (owner : ℕ → Owner) → Ground p lay w g b owner → IsApart p g b
+pub apart_by : (p : Program) (lay : Constants) (w : Words) (g : Graph) (b : Book) (owner : ℕ → Owner) → Ground p lay w g b owner → IsApart p g b
 apart_by p lay w g b owner t = record {
   apart = λ m n x q r. same_object p lay w g b (λ _. []) 0 owner t m n x q.stands r.stands q.above q.below r.above r.below;
   inside = λ n x q y. let u = q.above in let v = q.below in elim (t.laid.objects.inside n q.some q.stands) [
@@ -202,7 +202,7 @@ is_one_order p lay w g b es actors last opening legal follows =
 first_owner : Program → ℕ → Owner
 first_owner p = within_range (within_range (λ _. Nobody) 0 2 (Of 0)) nursery_base (nursery_end p) (Frag 0)
 
-module _ (p : Program) (lay : Layout) (w : Words) (kinds : (k : ℕ) → FindKinds first_kinds (script_of p k)) (runnable : (k : ℕ) → AllByRecursion (IsRunnable p) (script_of p k)) (first : IsFirstLayout p lay) (opening : IsOpening w) where
+module _ (p : Program) (lay : Constants) (w : Words) (kinds : (k : ℕ) → FindKinds first_kinds (script_of p k)) (runnable : (k : ℕ) → AllByRecursion (IsRunnable p) (script_of p k)) (first : AreFirstConstants p lay) (opening : AreFirstWords w) where
   nil : (n : ℕ) → (n == 0) ≡ true → n ≡ 0
   nil n q = eqb-true n 0 q
 
@@ -281,7 +281,7 @@ module _ (p : Program) (lay : Layout) (w : Words) (kinds : (k : ℕ) → FindKin
       regs = λ r. record { word_is = refl; stands = refl };
       stack = tt;
       script_is = refl;
-      awake = refl;
+      asleep = λ e. let q : false ≡ true = e in cc;
       from_is = refl;
       to_is = refl;
       kinds = kinds k;

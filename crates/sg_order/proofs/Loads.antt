@@ -1,31 +1,30 @@
 -- Each rule by which a mutator goes on keeps the relation: the rules that change no word.
-use Rattle.std.proofs.Common.{◌≡◌, ◌≢◌, ℕ, ◌+◌, ◌<◌, ◌≤◌, true, false, Option, Some, None, List, [], ◌∷◌, ◌++◌, map, inl, inr, sym, refl, ap, ◌∙◌, subst, le_refl, arith}
-use Rattle.std.proofs.lemmas.Bool.{cases_eq}
+use Rattle.std.proofs.Common.{◌≡◌, ◌≢◌, ℕ, ◌+◌, ◌<◌, ◌≤◌, true, false, Option, Some, None, List, ◌∷◌, map, inl, inr, sym, refl, ap, ◌∙◌, subst, le_refl, zero-le, nat_lt, Bool, arith}
+use Rattle.std.proofs.lemmas.Bool.{cases_eq, cases_lt, cond-true, cond-false, lt-ltb, le-ltb}
 use Rattle.sg_words.specs.Address.{byte_at, word_at}
 use Rattle.sg_words.specs.Tags.{plain_word}
 use Rattle.sg_words.specs.Words.{put, Words, write}
 use Rattle.sg_program.specs.declared.program.Statement.{Statement}
-use Rattle.sg_program.specs.declared.program.Statement.TheVariants.{Num, Drop, Collect}
+use Rattle.sg_program.specs.declared.program.Statement.TheVariants.{Get, GetD, Num, Drop, Collect}
 use Rattle.sg_program.specs.declared.program.Program.{Program}
 use Rattle.sg_program.specs.declared.answers.Answer.{Answer}
 use Rattle.sg_program.specs.declared.answers.Answer.TheVariants.{Null, Fine, Field}
 use Rattle.sg_desc.specs.Shapes.{has_field}
 use Rattle.sg_program.specs.Scripts.{kind_of, IsMaking, made_words}
 use Rattle.sg_program.specs.Kinds.{Kinds, IsRef, IsInt, IsInner, Needs, kinds_after}
-use Rattle.sg_graph.specs.Graph.{Entry, Ref, Int, Inner, Mutator, Graph, goes_on}
-use Rattle.sg_graph.specs.Statements.{emptied, FindsNone, Misses, Does}
+use Rattle.sg_graph.specs.Graph.{Entry, Ref, Int, Inner, Mutator, Graph, advanced}
+use Rattle.sg_graph.specs.Statements.{FindsNone, Misses, Does}
 use Rattle.sg_program.specs.Tests.{Test, test_of}
 use Rattle.sg_graph.specs.Book.{Book, Books, word_of}
 use Rattle.sg_graph.specs.Heap.{Owner, IsKnown, IsKnownEntry}
 use Rattle.sg_words.specs.declared.steps.Place.TheVariants.{Stop}
-use Rattle.sg_rules.specs.Rules.{Layout, Mid, Idle, TestTag, TestLength, FailTag, FailLength, Access, Look, Claim, Ask, Left, Actor, before, within, over, cleared, object_in}
+use Rattle.sg_rules.specs.Rules.{Constants, Mid, Idle, TestTag, TestLength, Access, Look, Claim, Ask, Left, Actor, before, within, over, cleared, object_in, looking}
 use Rattle.sg_order.specs.Rest.{kind_of_entry}
-use Rattle.sg_order.specs.Rest.{Stands as StandsAt}
+use Rattle.sg_order.specs.Rest.{StandsAt}
 use Rattle.sg_words.proofs.Puts.{put-all, put-along}
-use Rattle.sg_order.proofs.Frame.{answers_push, given_push}
-use Rattle.sg_order.proofs.Relation.{Ground, IsMutator, Tight, IsAsked, AtMid, Stands, Later, Kept}
+use Rattle.sg_order.proofs.Relation.{Ground, IsMutator, Tight, AsksForRoom, AtMid, Stands, Later, Kept}
 use Rattle.sg_order.proofs.Cases.{by_test, by_making}
-use Rattle.sg_order.proofs.Moves.{kinds_of, kinds_along, offsets_put, unchanged, still, no_heads, again, fits_as, fits_after, runnable_as, runnable_after, is_after, stack_after, turned, decided}
+use Rattle.sg_order.proofs.Moves.{kinds_of, offsets_put, unchanged, still, no_heads, again, fits_as, decided}
 
 -- the word at the byte address of a word
 pub word_at-byte_at : (x : ℕ) → word_at (byte_at x) ≡ x
@@ -46,6 +45,12 @@ pub is_inner : (e : Entry) → kind_of_entry e ≡ IsInner → (n o : ℕ) × (e
 is_inner (Ref n) q = cc
 is_inner (Int v) q = cc
 is_inner (Inner n o) q = (n, o, refl)
+
+-- the registers after a statement that found no object or no such field
+abbrev pub emptied : Statement → (ℕ → Entry) → ℕ → Entry
+emptied (Get d r i) register = put register d (Ref 0)
+emptied (GetD d r i) register = put register d (Int 0)
+emptied s register = register
 
 tested_register : Option Test → ℕ
 tested_register None = 0
@@ -74,11 +79,11 @@ kinds_emptied s test e entry stack = by_test (λ s. (r : ℕ) → (kinds_after (
 pub kinds_piled : (s : Statement) (test : Test) → test_of s ≡ Some test → (entry : ℕ → Entry) (stack : List Entry) → (kinds_after (kinds_of entry stack) s).stack ≡ map kind_of_entry stack
 kinds_piled s test e entry stack = by_test (λ s. (kinds_after (kinds_of entry stack) s).stack ≡ map kind_of_entry stack) (λ r i s. refl) (λ d r i. refl) (λ r i s. refl) (λ d r i. refl) s test e
 
-does_null : (p : Program) (g : Graph) (k : ℕ) (m : Mutator) (s : Statement) (rest : List Statement) (test : Test) → test_of s ≡ Some test → FindsNone m s → Does p g k m s rest Null (goes_on g k rest (emptied s m.register))
-does_null p g k m s rest test e = by_test (λ s. FindsNone m s → Does p g k m s rest Null (goes_on g k rest (emptied s m.register))) (λ r i s f. (f, refl)) (λ d r i f. (f, refl)) (λ r i s f. (f, refl)) (λ d r i f. (f, refl)) s test e
+does_null : (p : Program) (g : Graph) (k : ℕ) (m : Mutator) (s : Statement) (rest : List Statement) (test : Test) → test_of s ≡ Some test → FindsNone m s → Does p g k m s rest Null (advanced g k (record m { register = emptied s m.register }) rest)
+does_null p g k m s rest test e = by_test (λ s. FindsNone m s → Does p g k m s rest Null (advanced g k (record m { register = emptied s m.register }) rest)) (λ r i s f. (f, refl)) (λ d r i f. (f, refl)) (λ r i s f. (f, refl)) (λ d r i f. (f, refl)) s test e
 
-does_field : (p : Program) (g : Graph) (k : ℕ) (m : Mutator) (s : Statement) (rest : List Statement) (test : Test) → test_of s ≡ Some test → Misses p g m s → Does p g k m s rest Field (goes_on g k rest (emptied s m.register))
-does_field p g k m s rest test e = by_test (λ s. Misses p g m s → Does p g k m s rest Field (goes_on g k rest (emptied s m.register))) (λ r i s f. (f, refl)) (λ d r i f. (f, refl)) (λ r i s f. (f, refl)) (λ d r i f. (f, refl)) s test e
+does_field : (p : Program) (g : Graph) (k : ℕ) (m : Mutator) (s : Statement) (rest : List Statement) (test : Test) → test_of s ≡ Some test → Misses p g m s → Does p g k m s rest Field (advanced g k (record m { register = emptied s m.register }) rest)
+does_field p g k m s rest test e = by_test (λ s. Misses p g m s → Does p g k m s rest Field (advanced g k (record m { register = emptied s m.register }) rest)) (λ r i s f. (f, refl)) (λ d r i f. (f, refl)) (λ r i s f. (f, refl)) (λ d r i f. (f, refl)) s test e
 
 books_null : (p : Program) (b : Book) (k : ℕ) (s : Statement) (test : Test) → test_of s ≡ Some test → Books p b k s Null b
 books_null p b k s test e = by_test (λ s. Books p b k s Null b) (λ r i s. refl) (λ d r i. refl) (λ r i s. refl) (λ d r i. refl) s test e
@@ -87,10 +92,10 @@ books_field : (p : Program) (b : Book) (k : ℕ) (s : Statement) (test : Test) �
 books_field p b k s test e = by_test (λ s. Books p b k s Field b) (λ r i s. refl) (λ d r i. refl) (λ r i s. refl) (λ d r i. refl) s test e
 
 -- who finds no room asks
-to_ask : (p : Program) (lay : Layout) (b : Book) (k : ℕ) (s : Statement) → IsMaking s → Tight b k (made_words p s) lay.fragments → IsAsked p lay b k s
-to_ask p lay b k s e = by_making (λ s. Tight b k (made_words p s) lay.fragments → IsAsked p lay b k s) (λ r class t. t) (λ r class count t. t) s e
+to_ask : (p : Program) (lay : Constants) (b : Book) (k : ℕ) (s : Statement) → IsMaking s → Tight b k (made_words p s) lay.fragments → AsksForRoom p lay b k s
+to_ask p lay b k s e = by_making (λ s. Tight b k (made_words p s) lay.fragments → AsksForRoom p lay b k s) (λ r class t. t) (λ r class count t. t) s e
 
-module _ (p : Program) (lay : Layout) (w : Words) (g : Graph) (b : Book) (said : ℕ → List Answer) (k : ℕ) (owner : ℕ → Owner) (t : Ground p lay w g b owner) where
+module _ (p : Program) (lay : Constants) (w : Words) (g : Graph) (b : Book) (said : ℕ → List Answer) (k : ℕ) (owner : ℕ → Owner) (t : Ground p lay w g b owner) where
   -- two standing objects that share a word are one
   pub same_object : (m n x : ℕ) → b.stands m ≡ true → b.stands n ≡ true → b.address m ≤ x → x < b.address m + (g.size m + 2) → b.address n ≤ x → x < b.address n + (g.size n + 2) → m ≡ n
   same_object m n x p q e f i j = let u = t.laid.objects.owns m x p e f in let v = t.laid.objects.owns n x q i j in cc
@@ -108,9 +113,12 @@ module _ (p : Program) (lay : Layout) (w : Words) (g : Graph) (b : Book) (said :
   pub headed : (n : ℕ) → n ≢ 0 → IsKnown w.word g b n → (w.word (b.address n) ≡ plain_word (g.class n)) × (w.word (b.address n + 1) ≡ g.size n)
   headed n z q = elim q.1 [ inl e ↦ absurd (z e) | inr h ↦ h ]
 
-  -- which class and length the header words say
-  pub header_says : (n class len : ℕ) → n ≢ 0 → IsKnown w.word g b n → w.word (b.address n) ≡ plain_word class → w.word (b.address n + 1) ≡ len → (class ≡ g.class n) × (len ≡ g.size n)
-  header_says n class len z q c l = let h = headed n z q in let h0 = h.0 in let h1 = h.1 in (omega arith, omega arith)
+  -- which class the tag says, and which number of fields the length
+  pub tag_says : (n class : ℕ) → n ≢ 0 → IsKnown w.word g b n → w.word (b.address n) ≡ plain_word class → class ≡ g.class n
+  tag_says n class z q c = let h = (headed n z q).0 in omega arith
+
+  pub length_says : (n len : ℕ) → n ≢ 0 → IsKnown w.word g b n → w.word (b.address n + 1) ≡ len → len ≡ g.size n
+  length_says n len z q l = sym l ∙ (headed n z q).1
 
   module _ (a : Actor) (st : Stands p lay w g b said k a) where
     pub reg_at : (r n : ℕ) → st.entry r ≡ Ref n → a.reg r ≡ byte_at (b.address n)
@@ -158,119 +166,78 @@ module _ (p : Program) (lay : Layout) (w : Words) (g : Graph) (b : Book) (said :
     tested_name : (s : Statement) (test : Test) (st : Stands p lay w g b said k (before a s rest)) → test_of s ≡ Some test → (n : ℕ) × (st.entry test.register ≡ Ref n)
     tested_name s test st e = is_ref (st.entry test.register) (needs_ref (kinds_of st.entry (g.mutator k).stack) s test (needs_now s st) e)
 
-    -- the statement is decided as it begins, and its mutator has a step of it to take yet
-    pub goes_ahead : (s : Statement) (st : Stands p lay w g b said k (before a s rest)) (register : ℕ → Entry) (answer : Answer) (mid : Mid) →
-        Does p g k (record (g.mutator k) { register = st.entry; script = s ∷ rest; ended = false }) s rest answer (goes_on g k rest register) → Books p b k s answer b →
-        ((r : ℕ) → (kinds_after (kinds_of st.entry (g.mutator k).stack) s).register r ≡ kind_of_entry (register r)) → (kinds_after (kinds_of st.entry (g.mutator k).stack) s).stack ≡ map kind_of_entry (g.mutator k).stack →
-        (IsMutator (goes_on g k rest register) (put said k (said k ++ answer ∷ [])) k register rest (st.answers ++ answer ∷ []) →
-        AtMid p lay w (goes_on g k rest register) b (put said k (said k ++ answer ∷ [])) k st.entry st.answers rest mid) →
-        Kept p lay w g b said k Idle true w (within a rest mid)
-    goes_ahead s st register answer mid does books kinds piled at =
-        turned p lay w g b said k Idle w g b (unchanged p lay w g b said k owner t) (within a rest mid) (no_heads w g b Idle w g b mid (λ n q. q) (λ x e. e)) s rest st.entry st.answers register (g.mutator k).stack answer st.at does books
-        (record {
-          entry = st.entry;
-          answers = st.answers;
-          regs = st.regs;
-          known = st.known;
-          offsets = st.offsets;
-          stack = stack_after p lay w g b said k w g b rest register a.stack (g.mutator k).stack st.stack;
-          told = st.told;
-          given = st.given;
-          from_is = st.from_is;
-          to_is = st.to_is;
-          at = at (is_after p lay w g b said k g rest register (g.mutator k).stack st.answers answer st.at.says);
-          fits = fits_after p lay w g b said k g rest register (g.mutator k).stack
-              (kinds_along (kinds_after (kinds_of st.entry (g.mutator k).stack) s) (kinds_of register (g.mutator k).stack) rest kinds piled (fits_as p lay w g b said k st.entry (s ∷ rest) st.answers st.at st.fits).1);
-          runnable = runnable_after p lay w g b said k g rest register (g.mutator k).stack (runnable_as p lay w g b said k st.entry (s ∷ rest) st.answers st.at st.runnable).1;
-        })
-
     pub nulls : (s : Statement) (test : Test) → test_of s ≡ Some test → a.reg test.register ≡ 0 → Stands p lay w g b said k (before a s rest) → Kept p lay w g b said k Idle true w (over a rest (cleared s a.reg) Null)
     nulls s test e z st =
         let n = tested_name s test st e in
         decided p lay w g b said k _ (λ x e. e) w g (unchanged p lay w g b said k owner t) _ s rest st (emptied s st.entry) Null (cleared s a.reg) Null st.at
-        (does_null p g k (record (g.mutator k) { register = st.entry; script = s ∷ rest; ended = false }) s rest test e (record { test = test; tests = e; holds = n.1 ∙ ap Ref (is_nil _ st test.register n.0 n.1 z) }))
+        (does_null p g k (record (g.mutator k) { register = st.entry; script = s ∷ rest }) s rest test e (record { test = test; tests = e; holds = n.1 ∙ ap Ref (is_nil _ st test.register n.0 n.1 z) }))
         (books_null p b k s test e) (regs_emptied _ st s test e) (known_emptied _ st s test e) (offsets_emptied _ st s test e) refl tt (kinds_emptied s test e st.entry (g.mutator k).stack) (kinds_piled s test e st.entry (g.mutator k).stack)
 
-    pub begins : (s : Statement) (test : Test) (class len : ℕ) → test_of s ≡ Some test → a.reg test.register ≢ 0 → has_field test.sort (kind_of p class) len test.field ≡ true →
-        w.word (object_in a test.register) ≡ plain_word class → w.word (object_in a test.register + 1) ≡ len →
-        Stands p lay w g b said k (before a s rest) → Kept p lay w g b said k Idle false w (within a rest (TestTag s test))
-    begins s test class len e z f wc wl st =
+    -- the load of the stop word of a statement with a test
+    pub begins : (s : Statement) (test : Test) → test_of s ≡ Some test → a.reg test.register ≢ 0 → Stands p lay w g b said k (before a s rest) → Kept p lay w g b said k Idle false w (within a rest (TestTag s test))
+    begins s test e z st =
         let n = tested_name s test st e in
-        let name = n.0 in
-        let at = object_at _ st test.register name n.1 in
-        let nn = not_nil _ st test.register name n.1 z in
-        let says = header_says name class len nn (known_at _ st test.register name n.1) (ap w.word (sym at) ∙ wc) (ap (λ x. w.word (x + 1)) (sym at) ∙ wl) in
-        still p lay w g b said k _ (λ x e. e) owner t _ (again p lay w g b said k _ st rest (TestTag s test) (
-          record {
-            tests = e;
-            name = name;
-            holds = n.1;
-            some = nn;
-            finds = ap (λ c. has_field test.sort (kind_of p c) (g.size name) test.field) (sym says.0) ∙ ap (λ l. has_field test.sort (kind_of p class) l test.field) (sym says.1) ∙ f;
-          },
-          st.at,
-        ))
+        still p lay w g b said k _ (λ x e. e) owner t _ (again p lay w g b said k _ st rest (TestTag s test)
+        (record { tests = e; name = n.0; holds = n.1; some = not_nil _ st test.register n.0 n.1 z }, st.at))
 
-    pub fails : (s : Statement) (test : Test) (class len : ℕ) → test_of s ≡ Some test → a.reg test.register ≢ 0 → has_field test.sort (kind_of p class) len test.field ≡ false →
-        w.word (object_in a test.register) ≡ plain_word class → w.word (object_in a test.register + 1) ≡ len →
-        Stands p lay w g b said k (before a s rest) → Kept p lay w g b said k Idle true w (within a rest (FailTag s test))
-    fails s test class len e z f wc wl st =
-        let n = tested_name s test st e in
-        let name = n.0 in
-        let at = object_at _ st test.register name n.1 in
-        let nn = not_nil _ st test.register name n.1 z in
-        let says = header_says name class len nn (known_at _ st test.register name n.1) (ap w.word (sym at) ∙ wc) (ap (λ x. w.word (x + 1)) (sym at) ∙ wl) in
-        goes_ahead s st (emptied s st.entry) Field (FailTag s test)
-        (does_field p g k (record (g.mutator k) { register = st.entry; script = s ∷ rest; ended = false }) s rest test e (record {
-          test = test;
-          tests = e;
-          name = name;
-          holds = n.1;
-          some = nn;
-          misses = ap (λ c. has_field test.sort (kind_of p c) (g.size name) test.field) (sym says.0) ∙ ap (λ l. has_field test.sort (kind_of p class) l test.field) (sym says.1) ∙ f;
-        }))
-        (books_field p b k s test e) (kinds_emptied s test e st.entry (g.mutator k).stack) (kinds_piled s test e st.entry (g.mutator k).stack) (λ m. (e, m))
+    -- the load of the tag
+    pub sees_tag : (s : Statement) (test : Test) (class : ℕ) → w.word (object_in a test.register) ≡ plain_word class → Stands p lay w g b said k (within a rest (TestTag s test)) →
+        Kept p lay w g b said k (TestTag s test) false w (within a rest (TestLength s test class))
+    sees_tag s test class c st =
+        let n = st.at.0 in
+        let is = tag_says n.name class n.some (known_at _ st test.register n.name n.holds) (ap w.word (sym (object_at _ st test.register n.name n.holds)) ∙ c) in
+        still p lay w g b said k _ (λ x e. e) owner t _ (again p lay w g b said k _ st rest (TestLength s test class) (n, is, st.at.1))
 
-    pub sees_tag : (s : Statement) (test : Test) (class : ℕ) → Stands p lay w g b said k (within a rest (TestTag s test)) → Kept p lay w g b said k (TestTag s test) false w (within a rest (TestLength s test class))
-    sees_tag s test class st = still p lay w g b said k _ (λ x e. e) owner t _ (again p lay w g b said k _ st rest (TestLength s test class) st.at)
+    -- what the header says of the field
+    field_says : (s : Statement) (test : Test) (class len : ℕ) (has : Bool) → has_field test.sort (kind_of p class) len test.field ≡ has → w.word (object_in a test.register + 1) ≡ len →
+        (st : Stands p lay w g b said k (within a rest (TestLength s test class))) → has_field test.sort (kind_of p (g.class st.at.0.name)) (g.size st.at.0.name) test.field ≡ has
+    field_says s test class len has f l st =
+        let n = st.at.0 in
+        let is = length_says n.name len n.some (known_at _ st test.register n.name n.holds) (ap (λ x. w.word (x + 1)) (sym (object_at _ st test.register n.name n.holds)) ∙ l) in
+        ap (λ c. has_field test.sort (kind_of p c) (g.size n.name) test.field) (sym st.at.1) ∙ ap (λ m. has_field test.sort (kind_of p class) m test.field) (sym is) ∙ f
 
-    pub sees_length : (s : Statement) (test : Test) (class : ℕ) → Stands p lay w g b said k (within a rest (TestLength s test class)) → Kept p lay w g b said k (TestLength s test class) false w (within a rest (Access s))
-    sees_length s test class st = still p lay w g b said k _ (λ x e. e) owner t _ (again p lay w g b said k _ st rest (Access s) (test, st.at.0, st.at.1))
+    -- the load of the length: there is such a field
+    pub sees_length : (s : Statement) (test : Test) (class len : ℕ) → has_field test.sort (kind_of p class) len test.field ≡ true → w.word (object_in a test.register + 1) ≡ len →
+        Stands p lay w g b said k (within a rest (TestLength s test class)) → Kept p lay w g b said k (TestLength s test class) false w (within a rest (Access s))
+    sees_length s test class len f l st =
+        let n = st.at.0 in
+        still p lay w g b said k _ (λ x e. e) owner t _ (again p lay w g b said k _ st rest (Access s)
+        (test, record { tests = n.tests; name = n.name; holds = n.holds; some = n.some; finds = field_says s test class len true f l st }, st.at.2))
 
-    pub sees_failing_tag : (s : Statement) (test : Test) (class : ℕ) → Stands p lay w g b said k (within a rest (FailTag s test)) → Kept p lay w g b said k (FailTag s test) false w (within a rest (FailLength s test class))
-    sees_failing_tag s test class st = still p lay w g b said k _ (λ x e. e) owner t _ (again p lay w g b said k _ st rest (FailLength s test class) st.at)
-
-    pub tells_field : (s : Statement) (test : Test) (class : ℕ) → Stands p lay w g b said k (within a rest (FailLength s test class)) → Kept p lay w g b said k (FailLength s test class) false w (over a rest (cleared s a.reg) Field)
-    tells_field s test class st = still p lay w g b said k _ (λ x e. e) owner t _ (record {
-      entry = emptied s st.entry;
-      answers = st.answers ++ Field ∷ [];
-      regs = regs_emptied _ st s test st.at.0;
-      known = known_emptied _ st s test st.at.0;
-      offsets = offsets_emptied _ st s test st.at.0;
-      stack = st.stack;
-      told = ap (λ xs. xs ++ Field ∷ []) st.told ∙ sym (answers_push b st.answers Field);
-      given = given_push b.stands st.answers Field st.given tt;
-      from_is = st.from_is;
-      to_is = st.to_is;
-      at = st.at.1;
-      fits = st.fits;
-      runnable = st.runnable;
-    })
+    -- or there is none, which decides the statement
+    pub fails : (s : Statement) (test : Test) (class len : ℕ) → has_field test.sort (kind_of p class) len test.field ≡ false → w.word (object_in a test.register + 1) ≡ len →
+        Stands p lay w g b said k (within a rest (TestLength s test class)) → Kept p lay w g b said k (TestLength s test class) true w (over a rest (cleared s a.reg) Field)
+    fails s test class len f l st =
+        let n = st.at.0 in
+        let e = n.tests in
+        decided p lay w g b said k _ (λ x e. e) w g (unchanged p lay w g b said k owner t) _ s rest st (emptied s st.entry) Field (cleared s a.reg) Field st.at.2
+        (does_field p g k (record (g.mutator k) { register = st.entry; script = s ∷ rest }) s rest test e
+        (record { test = test; tests = e; name = n.name; holds = n.holds; some = n.some; misses = field_says s test class len false f l st }))
+        (books_field p b k s test e) (regs_emptied _ st s test e) (known_emptied _ st s test e) (offsets_emptied _ st s test e) refl tt (kinds_emptied s test e st.entry (g.mutator k).stack) (kinds_piled s test e st.entry (g.mutator k).stack)
 
     pub sets_number : (d n : ℕ) → Stands p lay w g b said k (before a (Num d n) rest) → Kept p lay w g b said k Idle true w (over a rest (put a.reg d n) Fine)
     sets_number d n st = decided p lay w g b said k _ (λ x e. e) w g (unchanged p lay w g b said k owner t) _ (Num d n) rest st (put st.entry d (Int n)) Fine (put a.reg d n) Fine st.at
-        refl refl (put-along (word_of b.address) a.reg st.entry d n (Int n) st.regs refl) (known_put _ st d (Int n) tt) (offsets_put g b a.offset st.entry d (Int n) (λ o. tt) st.offsets) refl tt
+        (tt, refl) refl (put-along (word_of b.address) a.reg st.entry d n (Int n) st.regs refl) (known_put _ st d (Int n) tt) (offsets_put g b a.offset st.entry d (Int n) (λ o. tt) st.offsets) refl tt
         (put-along kind_of_entry (λ r. kind_of_entry (st.entry r)) st.entry d IsInt (Int n) (λ r. refl) refl) refl
 
     pub clears : (r : ℕ) → Stands p lay w g b said k (before a (Drop r) rest) → Kept p lay w g b said k Idle true w (over a rest (put a.reg r 0) Fine)
     clears r st = decided p lay w g b said k _ (λ x e. e) w g (unchanged p lay w g b said k owner t) _ (Drop r) rest st (put st.entry r (Ref 0)) Fine (put a.reg r 0) Fine st.at
-        refl refl (put-along (word_of b.address) a.reg st.entry r 0 (Ref 0) st.regs word_nil) (known_put _ st r (Ref 0) known_nil) (offsets_put g b a.offset st.entry r (Ref 0) (λ o. t.laid.nothing.stands_nil) st.offsets) refl tt
+        (tt, refl) refl (put-along (word_of b.address) a.reg st.entry r 0 (Ref 0) st.regs word_nil) (known_put _ st r (Ref 0) known_nil) (offsets_put g b a.offset st.entry r (Ref 0) (λ o. t.laid.nothing.stands_nil) st.offsets) refl tt
         (put-along kind_of_entry (λ r. kind_of_entry (st.entry r)) st.entry r IsRef (Ref 0) (λ r. refl) refl) refl
 
+    -- the search goes on from fragment f, or there is none, and the mutator asks
+    looks_on : (s : Statement) (f : ℕ) → IsMaking s → f ≤ lay.fragments → Tight b k (made_words p s) f → (entry : ℕ → Entry) (answers : List Answer) → IsMutator g said k entry (s ∷ rest) answers →
+        AtMid p lay w g b said k entry answers rest (looking lay s f)
+    looks_on s f making most h entry answers is = elim (cases_lt f lay.fragments) [
+      | inl l ↦ subst (λ (mid : Mid). AtMid p lay w g b said k entry answers rest mid) (sym (cond-true (nat_lt f lay.fragments) (Look s f) (Ask s) (lt-ltb f lay.fragments l))) (making, l, h, is)
+      | inr l ↦ subst (λ (mid : Mid). AtMid p lay w g b said k entry answers rest mid) (sym (cond-false (nat_lt f lay.fragments) (Look s f) (Ask s) (le-ltb f lay.fragments l)))
+          (to_ask p lay b k s making (record { short = h.short; below = λ j q. h.below j (omega arith) }), is)
+    ]
+
     -- the search for a fragment
-    pub searches : (s : Statement) → IsMaking s → a.to < a.from + made_words p s → 0 < lay.fragments → Stands p lay w g b said k (before a s rest) → Kept p lay w g b said k Idle false w (within a rest (Look s 0))
-    searches s making l f st = still p lay w g b said k _ (λ x e. e) owner t _ (again p lay w g b said k _ st rest (Look s 0)
-        (making, f, record { short = (let x = st.from_is in let y = st.to_is in omega arith); below = λ j h. absurd (omega arith) }, st.at))
+    pub searches : (s : Statement) → IsMaking s → a.to < a.from + made_words p s → Stands p lay w g b said k (before a s rest) → Kept p lay w g b said k Idle false w (within a rest (looking lay s 0))
+    searches s making l st = still p lay w g b said k _ (λ x e. e) owner t _ (again p lay w g b said k _ st rest (looking lay s 0)
+        (looks_on s 0 making zero-le (record { short = (let x = st.from_is in let y = st.to_is in omega arith); below = λ j h. absurd (omega arith) }) st.entry st.answers st.at))
 
     pub finds_room : (s : Statement) (f next : ℕ) → next + made_words p s ≤ lay.limit f → Stands p lay w g b said k (within a rest (Look s f)) → Kept p lay w g b said k (Look s f) false w (within a rest (Claim s f next))
     finds_room s f next l st = still p lay w g b said k _ (λ x e. e) owner t _ (again p lay w g b said k _ st rest (Claim s f next) (st.at.0, st.at.1, st.at.2, l, st.at.3))
@@ -289,23 +256,10 @@ module _ (p : Program) (lay : Layout) (w : Words) (g : Graph) (b : Book) (said :
           ];
         }
 
-    pub finds_small : (s : Statement) (f next : ℕ) → lay.limit f < next + made_words p s → f + 1 < lay.fragments → w.next f ≡ byte_at next → Stands p lay w g b said k (within a rest (Look s f)) →
-        Kept p lay w g b said k (Look s f) false w (within a rest (Look s (f + 1)))
-    finds_small s f next l more e st = still p lay w g b said k _ (λ x e. e) owner t _ (again p lay w g b said k _ st rest (Look s (f + 1))
-        (st.at.0, more, tighter (made_words p s) f next st.at.1 e l st.at.2, st.at.3))
-
-    -- the last look: there is no room, and the mutator will ask for it
-    pub finds_none : (s : Statement) (f next : ℕ) → lay.limit f < next + made_words p s → lay.fragments ≤ f + 1 → w.next f ≡ byte_at next → Stands p lay w g b said k (within a rest (Look s f)) →
-        Kept p lay w g b said k (Look s f) false w (within a rest (Ask s))
-    finds_none s f next l last e st =
-        let h = tighter (made_words p s) f next st.at.1 e l st.at.2 in
-        still p lay w g b said k _ (λ x e. e) owner t _ (again p lay w g b said k _ st rest (Ask s)
-        (to_ask p lay b k s st.at.0 (record { short = h.short; below = λ j q. h.below j (omega arith) }), st.at.3))
-
-    -- there is no fragment
-    pub has_none : (s : Statement) → IsMaking s → a.to < a.from + made_words p s → lay.fragments ≡ 0 → Stands p lay w g b said k (before a s rest) → Kept p lay w g b said k Idle false w (within a rest (Ask s))
-    has_none s making l f st = still p lay w g b said k _ (λ x e. e) owner t _ (again p lay w g b said k _ st rest (Ask s)
-        (to_ask p lay b k s making (record { short = (let x = st.from_is in let y = st.to_is in omega arith); below = λ j h. absurd (omega arith) }), st.at))
+    pub finds_small : (s : Statement) (f next : ℕ) → lay.limit f < next + made_words p s → w.next f ≡ byte_at next → Stands p lay w g b said k (within a rest (Look s f)) →
+        Kept p lay w g b said k (Look s f) false w (within a rest (looking lay s (f + 1)))
+    finds_small s f next l e st = still p lay w g b said k _ (λ x e. e) owner t _ (again p lay w g b said k _ st rest (looking lay s (f + 1))
+        (looks_on s (f + 1) st.at.0 (let u = st.at.1 in omega arith) (tighter (made_words p s) f next st.at.1 e l st.at.2) st.entry st.answers st.at.3))
 
     -- a collection
     pub wants : Stands p lay w g b said k (before a (Collect false) rest) → Kept p lay w g b said k Idle false w (within a rest (Ask (Collect false)))

@@ -9,7 +9,7 @@ use Rattle.sg_program.specs.declared.program.Program.{Program}
 use Rattle.sg_program.specs.declared.answers.Answer.TheVariants.{At}
 use Rattle.sg_program.specs.Scripts.{kind_of, IsSizeOf, IsMaking, made_in, made_class, made_fields, made_words}
 use Rattle.sg_program.specs.Kinds.{IsRef, kinds_after}
-use Rattle.sg_graph.specs.Graph.{Entry, Ref, Mutator, Graph, grown, goes_on}
+use Rattle.sg_graph.specs.Graph.{Entry, Ref, Mutator, Graph, grown, advanced}
 use Rattle.sg_graph.specs.Statements.{Does}
 use Rattle.sg_graph.specs.Book.{Book, IsPlaced, Books}
 use Rattle.sg_graph.specs.Pause.{is_pair}
@@ -52,9 +52,9 @@ made_sized p s making = by_making (λ s. IsRunnable p s → IsSizeOf p (made_cla
 
 -- what the statement does, and what it does to the book
 pub does_making : (p : Program) (g : Graph) (k : ℕ) (m : Mutator) (s : Statement) (rest : List Statement) → IsMaking s →
-    Does p g k m s rest (At (suc g.count)) (goes_on (grown p g k (made_class s) (made_fields p s)) k rest (put m.register (made_in s) (Ref (suc g.count))))
+    Does p g k m s rest (At (suc g.count)) (advanced (grown p g k (made_class s) (made_fields p s)) k (record m { register = put m.register (made_in s) (Ref (suc g.count)) }) rest)
 does_making p g k m s rest making =
-    by_making (λ s. Does p g k m s rest (At (suc g.count)) (goes_on (grown p g k (made_class s) (made_fields p s)) k rest (put m.register (made_in s) (Ref (suc g.count)))))
+    by_making (λ s. Does p g k m s rest (At (suc g.count)) (advanced (grown p g k (made_class s) (made_fields p s)) k (record m { register = put m.register (made_in s) (Ref (suc g.count)) }) rest))
     (λ r class. (refl, refl)) (λ r class count. (refl, refl)) s making
 
 pub books_making : (p : Program) (b : Book) (k : ℕ) (s : Statement) (name : ℕ) (c : Book) → IsMaking s → IsPlaced p b k (made_words p s) name c → Books p b k s (At name) c

@@ -8,18 +8,26 @@ use Rattle.sg_program.specs.declared.program.Program.{Program}
 use Rattle.sg_program.specs.declared.answers.Answer.{Answer}
 use Rattle.sg_program.specs.Kinds.{Kinds, kinds_after}
 use Rattle.sg_program.specs.Invariants.{FindKinds}
-use Rattle.sg_graph.specs.Graph.{Entry, Mutator, Graph, goes_on, goes_on_with}
+use Rattle.sg_graph.specs.Graph.{Entry, Mutator, Graph, advanced}
 use Rattle.sg_graph.specs.Statements.{Does}
 use Rattle.sg_graph.specs.Book.{Book, Books, word_of}
 use Rattle.sg_graph.specs.Epoch.{by_address}
 use Rattle.sg_graph.specs.Invariants.{IsPlain}
 use Rattle.sg_graph.specs.Heap.{Owner, IsKnownEntry, IsLaid}
-use Rattle.sg_rules.specs.Rules.{Layout, Slot, Mid, Idle, Actor, within, over, over_with}
+use Rattle.sg_rules.specs.Rules.{Constants, StackWord, Mid, Idle, Actor, within, over, over_with}
 use Rattle.sg_order.specs.Rest.{kind_of_entry, kinds_in, IsRunnable}
-use Rattle.sg_order.specs.Rest.{Stands as StandsAt}
+use Rattle.sg_order.specs.Rest.{StandsAt}
 use Rattle.sg_words.proofs.Puts.{put-same, put-other, put-all}
 use Rattle.sg_order.proofs.Frame.{answers_push, given_push, stack_later}
 use Rattle.sg_order.proofs.Relation.{Ground, IsGiven, IsMutator, AtMid, Stacked, Stands, Later, IsHeading, Heads, Kept}
+
+-- h, where mutator k has this in its registers and on its stack, and these statements before it
+abbrev pub handed_with : Graph → ℕ → List Statement → (ℕ → Entry) → List Entry → Graph
+handed_with h k rest register stack = advanced h k (record (h.mutator k) { register = register; stack = stack }) rest
+
+-- the same, with the stack that it had
+abbrev pub handed : Graph → ℕ → List Statement → (ℕ → Entry) → Graph
+handed h k rest register = handed_with h k rest register (h.mutator k).stack
 
 pub later_refl : (w : Words) (g : Graph) (b : Book) (said : ℕ → List Answer) (k : ℕ) → Later w g b said w g b said k
 later_refl w g b said k = record {
@@ -52,7 +60,7 @@ laid_mutators p w g b owner m t = record {
 pub plain_mutators : (p : Program) (g : Graph) (m : ℕ → Mutator) → IsPlain p g → IsPlain p (record g { mutator = m })
 plain_mutators p g m t = record { links = t.links; registered = t.registered; ready = t.ready; pairs = t.pairs }
 
-pub ground_mutators : (p : Program) (lay : Layout) (w : Words) (g : Graph) (b : Book) (owner : ℕ → Owner) (m : ℕ → Mutator) → Ground p lay w g b owner → Ground p lay w (record g { mutator = m }) b owner
+pub ground_mutators : (p : Program) (lay : Constants) (w : Words) (g : Graph) (b : Book) (owner : ℕ → Owner) (m : ℕ → Mutator) → Ground p lay w g b owner → Ground p lay w (record g { mutator = m }) b owner
 ground_mutators p lay w g b owner m t = record { laid = laid_mutators p w.word g b owner m t.laid; plain = plain_mutators p g m t.plain; number = t.number; limits = t.limits; words = t.words }
 
 later_mutators : (w : Words) (g : Graph) (b : Book) (said : ℕ → List Answer) (v : Words) (h : Graph) (c : Book) (k : ℕ) (m : Mutator) (answers : List Answer) →
@@ -98,16 +106,23 @@ offsets_both g b offset register d o entry here there = put-all (λ r e. StandsA
 pub no_heads : (w : Words) (g : Graph) (b : Book) (mid : Mid) (v : Words) (h : Graph) (c : Book) (next_mid : Mid) → ((n : ℕ) → c.stands n ≡ true → b.stands n ≡ true) → ((x : ℕ) → IsHeading x mid → ⊥) → Heads w g b mid v h c next_mid
 no_heads w g b mid v h c next_mid back none = record { begun = λ n q. inl (back n q); done = λ n q m. absurd (none (b.address n) m) }
 
+-- who has a statement before it hasn't ended
+pub goes : (g : Graph) (said : ℕ → List Answer) (k : ℕ) (entry : ℕ → Entry) (s : Statement) (rest : List Statement) (answers : List Answer) → IsMutator g said k entry (s ∷ rest) answers → (g.mutator k).ended ≡ true → ⊥
+goes g said k entry s rest answers m e = let q : s ∷ rest ≡ [] = m.asleep e in cc
+
 -- a step of mutator k leaves these words, objects and places
-pub record Change (p : Program) (lay : Layout) (w : Words) (g : Graph) (b : Book) (said : ℕ → List Answer) (k : ℕ) (v : Words) (h : Graph) (c : Book) : Type 0 where
+pub record Change (p : Program) (lay : Constants) (w : Words) (g : Graph) (b : Book) (said : ℕ → List Answer) (k : ℕ) (v : Words) (h : Graph) (c : Book) : Type 0 where
   pub owner : ℕ → Owner
   pub later : Later w g b said v h c said k
   pub ground : Ground p lay v h c owner
   pub mutators : h.mutator ≡ g.mutator
 
-module _ (p : Program) (lay : Layout) (w : Words) (g : Graph) (b : Book) (said : ℕ → List Answer) (k : ℕ) where
+module _ (p : Program) (lay : Constants) (w : Words) (g : Graph) (b : Book) (said : ℕ → List Answer) (k : ℕ) where
   pub unchanged : (owner : ℕ → Owner) → Ground p lay w g b owner → Change p lay w g b said k w g b
   unchanged owner t = record { owner = owner; later = later_refl w g b said k; ground = t; mutators = refl }
+
+  pub goes_in : (v : Words) (h : Graph) (c : Book) → Change p lay w g b said k v h c → (entry : ℕ → Entry) (s : Statement) (rest : List Statement) (answers : List Answer) → IsMutator g said k entry (s ∷ rest) answers → (h.mutator k).ended ≡ true → ⊥
+  goes_in v h c ch entry s rest answers m e = goes g said k entry s rest answers m (sym (ap (λ (f : ℕ → Mutator). (f k).ended) ch.mutators) ∙ e)
 
   -- a step that doesn't decide
   pub silent : (mid : Mid) (v : Words) (h : Graph) (c : Book) → Change p lay w g b said k v h c → h ≡ g → c ≡ b → (a : Actor) → Heads w g b mid v h c a.mid → Stands p lay v h c said k a → Kept p lay w g b said k mid false v a
@@ -141,37 +156,37 @@ module _ (p : Program) (lay : Layout) (w : Words) (g : Graph) (b : Book) (said :
       subst (λ register. FindKinds (kinds_of register (g.mutator k).stack) script) m.register_is (subst (λ statements. FindKinds (kinds_in (g.mutator k)) statements) m.script_is f)
 
   pub fits_after : (h : Graph) (rest : List Statement) (register : ℕ → Entry) (stack : List Entry) → FindKinds (kinds_of register stack) rest →
-      FindKinds (kinds_in ((goes_on_with h k rest register stack).mutator k)) ((goes_on_with h k rest register stack).mutator k).script
-  fits_after h rest register stack f = subst (λ (m : Mutator). FindKinds (kinds_in m) m.script) (sym (put-same h.mutator k (record (h.mutator k) { register = register; stack = stack; script = rest; ended = false }))) f
+      FindKinds (kinds_in ((handed_with h k rest register stack).mutator k)) ((handed_with h k rest register stack).mutator k).script
+  fits_after h rest register stack f = subst (λ (m : Mutator). FindKinds (kinds_in m) m.script) (sym (put-same h.mutator k (record (h.mutator k) { register = register; stack = stack; script = rest }))) f
 
   -- the statement is one that is run, and so are those after it
   pub runnable_as : (entry : ℕ → Entry) (script : List Statement) (answers : List Answer) → IsMutator g said k entry script answers → AllByRecursion (IsRunnable p) (g.mutator k).script → AllByRecursion (IsRunnable p) script
   runnable_as entry script answers m f = subst (λ statements. AllByRecursion (IsRunnable p) statements) m.script_is f
 
-  pub runnable_after : (h : Graph) (rest : List Statement) (register : ℕ → Entry) (stack : List Entry) → AllByRecursion (IsRunnable p) rest → AllByRecursion (IsRunnable p) ((goes_on_with h k rest register stack).mutator k).script
-  runnable_after h rest register stack f = subst (λ (m : Mutator). AllByRecursion (IsRunnable p) m.script) (sym (put-same h.mutator k (record (h.mutator k) { register = register; stack = stack; script = rest; ended = false }))) f
+  pub runnable_after : (h : Graph) (rest : List Statement) (register : ℕ → Entry) (stack : List Entry) → AllByRecursion (IsRunnable p) rest → AllByRecursion (IsRunnable p) ((handed_with h k rest register stack).mutator k).script
+  runnable_after h rest register stack f = subst (λ (m : Mutator). AllByRecursion (IsRunnable p) m.script) (sym (put-same h.mutator k (record (h.mutator k) { register = register; stack = stack; script = rest }))) f
 
   -- the graph's mutator after the statement
-  pub is_after : (h : Graph) (rest : List Statement) (register : ℕ → Entry) (stack : List Entry) (answers : List Answer) (answer : Answer) → said k ≡ answers →
-      IsMutator (goes_on_with h k rest register stack) (put said k (said k ++ answer ∷ [])) k register rest (answers ++ answer ∷ [])
-  is_after h rest register stack answers answer e =
-      let after = put-same h.mutator k (record (h.mutator k) { register = register; stack = stack; script = rest; ended = false }) in
+  pub is_after : (h : Graph) (rest : List Statement) (register : ℕ → Entry) (stack : List Entry) (answers : List Answer) (answer : Answer) → said k ≡ answers → ((h.mutator k).ended ≡ true → ⊥) →
+      IsMutator (handed_with h k rest register stack) (put said k (said k ++ answer ∷ [])) k register rest (answers ++ answer ∷ [])
+  is_after h rest register stack answers answer e awake =
+      let after = put-same h.mutator k (record (h.mutator k) { register = register; stack = stack; script = rest }) in
       record {
         register_is = ap (λ (m : Mutator). m.register) after;
         script_is = ap (λ (m : Mutator). m.script) after;
-        awake = ap (λ (m : Mutator). m.ended) after;
+        asleep = λ e. absurd (awake (sym (ap (λ (m : Mutator). m.ended) after) ∙ e));
         says = put-same said k _ ∙ ap (λ xs. xs ++ answer ∷ []) e;
       }
 
   -- the stack of the graph's mutator after the statement
-  pub stack_after : (v : Words) (h : Graph) (c : Book) (rest : List Statement) (register : ℕ → Entry) (slots : List Slot) (stack : List Entry) → Stacked v.word h c slots stack →
-      Stacked v.word (goes_on_with h k rest register stack) c slots ((goes_on_with h k rest register stack).mutator k).stack
+  pub stack_after : (v : Words) (h : Graph) (c : Book) (rest : List Statement) (register : ℕ → Entry) (slots : List StackWord) (stack : List Entry) → Stacked v.word h c slots stack →
+      Stacked v.word (handed_with h k rest register stack) c slots ((handed_with h k rest register stack).mutator k).stack
   stack_after v h c rest register slots stack q =
-      subst (λ (m : Mutator). Stacked v.word (goes_on_with h k rest register stack) c slots m.stack) (sym (put-same h.mutator k (record (h.mutator k) { register = register; stack = stack; script = rest; ended = false })))
-      (stack_later v h c v (goes_on_with h k rest register stack) c (λ n q. q) (λ n q. q) (λ n q. refl) (λ n q. refl) slots stack q)
+      subst (λ (m : Mutator). Stacked v.word (handed_with h k rest register stack) c slots m.stack) (sym (put-same h.mutator k (record (h.mutator k) { register = register; stack = stack; script = rest })))
+      (stack_later v h c v (handed_with h k rest register stack) c (λ n q. q) (λ n q. q) (λ n q. refl) (λ n q. refl) slots stack q)
 
   -- the stack that no statement touched
-  pub stack_kept : (v : Words) (h : Graph) (c : Book) → Change p lay w g b said k v h c → (slots : List Slot) → Stacked w.word g b slots (g.mutator k).stack → Stacked v.word h c slots (h.mutator k).stack
+  pub stack_kept : (v : Words) (h : Graph) (c : Book) → Change p lay w g b said k v h c → (slots : List StackWord) → Stacked w.word g b slots (g.mutator k).stack → Stacked v.word h c slots (h.mutator k).stack
   stack_kept v h c ch slots q =
       subst (λ (m : ℕ → Mutator). Stacked v.word h c slots (m k).stack) (sym ch.mutators)
       (stack_later w g b v h c ch.later.known ch.later.stands ch.later.address ch.later.size slots (g.mutator k).stack q)
@@ -180,15 +195,15 @@ module _ (p : Program) (lay : Layout) (w : Words) (g : Graph) (b : Book) (said :
   pub turned : (mid : Mid) (v : Words) (h : Graph) (c : Book) → Change p lay w g b said k v h c → (a : Actor) → Heads w g b mid v h c a.mid → (s : Statement) (rest : List Statement) (entry : ℕ → Entry) (answers : List Answer)
       (register : ℕ → Entry) (stack : List Entry) (answer : Answer) →
       IsMutator g said k entry (s ∷ rest) answers →
-      Does p g k (record (g.mutator k) { register = entry; script = s ∷ rest; ended = false }) s rest answer (goes_on_with h k rest register stack) →
+      Does p g k (record (g.mutator k) { register = entry; script = s ∷ rest }) s rest answer (handed_with h k rest register stack) →
       Books p b k s answer c →
-      Stands p lay v (goes_on_with h k rest register stack) c (put said k (said k ++ answer ∷ [])) k a →
+      Stands p lay v (handed_with h k rest register stack) c (put said k (said k ++ answer ∷ [])) k a →
       Kept p lay w g b said k mid true v a
   turned mid v h c ch a heads s rest entry answers register stack answer m does books stands =
-      let is : g.mutator k ≡ record (g.mutator k) { register = entry; script = s ∷ rest; ended = false } =
-      λ i. record { register = m.register_is i; stack = (g.mutator k).stack; registered = (g.mutator k).registered; script = m.script_is i; ended = m.awake i } in
+      let is : g.mutator k ≡ record (g.mutator k) { register = entry; script = s ∷ rest } =
+      λ i. record { register = m.register_is i; stack = (g.mutator k).stack; registered = (g.mutator k).registered; script = m.script_is i; ended = (g.mutator k).ended } in
       record {
-        h = goes_on_with h k rest register stack;
+        h = handed_with h k rest register stack;
         c = c;
         said' = put said k (said k ++ answer ∷ []);
         owner = ch.owner;
@@ -198,7 +213,7 @@ module _ (p : Program) (lay : Layout) (w : Words) (g : Graph) (b : Book) (said :
             statement = s;
             rest = rest;
             next = m.script_is;
-            does = subst (λ m. Does p g k m s rest answer (goes_on_with h k rest register stack)) (sym is) does;
+            does = subst (λ m. Does p g k m s rest answer (handed_with h k rest register stack)) (sym is) does;
             books = books;
           },
           refl,
@@ -211,9 +226,9 @@ module _ (p : Program) (lay : Layout) (w : Words) (g : Graph) (b : Book) (said :
 
   -- a deciding step with which the statement ends
   pub decided_with : (mid : Mid) → ((x : ℕ) → IsHeading x mid → ⊥) → (v : Words) (h : Graph) → Change p lay w g b said k v h b → (a : Actor) (s : Statement) (rest : List Statement) (st : Stands p lay w g b said k a)
-      (register : ℕ → Entry) (stack : List Entry) (answer : Answer) (areg aoffset : ℕ → ℕ) (slots : List Slot) (word : Answer) →
+      (register : ℕ → Entry) (stack : List Entry) (answer : Answer) (areg aoffset : ℕ → ℕ) (slots : List StackWord) (word : Answer) →
       IsMutator g said k st.entry (s ∷ rest) st.answers →
-      Does p g k (record (g.mutator k) { register = st.entry; script = s ∷ rest; ended = false }) s rest answer (goes_on_with h k rest register stack) →
+      Does p g k (record (g.mutator k) { register = st.entry; script = s ∷ rest }) s rest answer (handed_with h k rest register stack) →
       Books p b k s answer b →
       ((r : ℕ) → areg r ≡ word_of b.address (register r)) → ((r : ℕ) → IsKnownEntry v.word h b (register r)) → ((r : ℕ) → StandsAt h b (aoffset r) (register r)) → Stacked v.word h b slots stack →
       word ≡ by_address b answer → IsGiven b.stands answer →
@@ -231,7 +246,7 @@ module _ (p : Program) (lay : Layout) (w : Words) (g : Graph) (b : Book) (said :
         given = given_push b.stands st.answers answer st.given given;
         from_is = st.from_is;
         to_is = st.to_is;
-        at = is_after h rest register stack st.answers answer m.says;
+        at = is_after h rest register stack st.answers answer m.says (goes_in v h b ch st.entry s rest st.answers m);
         fits = fits_after h rest register stack (kinds_along (kinds_after (kinds_of st.entry (g.mutator k).stack) s) (kinds_of register stack) rest kinds piled (fits_as st.entry (s ∷ rest) st.answers m st.fits).1);
         runnable = runnable_after h rest register stack (runnable_as st.entry (s ∷ rest) st.answers m st.runnable).1;
       })
@@ -240,7 +255,7 @@ module _ (p : Program) (lay : Layout) (w : Words) (g : Graph) (b : Book) (said :
   pub decided : (mid : Mid) → ((x : ℕ) → IsHeading x mid → ⊥) → (v : Words) (h : Graph) → (ch : Change p lay w g b said k v h b) → (a : Actor) (s : Statement) (rest : List Statement) (st : Stands p lay w g b said k a)
       (register : ℕ → Entry) (answer : Answer) (areg : ℕ → ℕ) (word : Answer) →
       IsMutator g said k st.entry (s ∷ rest) st.answers →
-      Does p g k (record (g.mutator k) { register = st.entry; script = s ∷ rest; ended = false }) s rest answer (goes_on h k rest register) →
+      Does p g k (record (g.mutator k) { register = st.entry; script = s ∷ rest }) s rest answer (handed h k rest register) →
       Books p b k s answer b →
       ((r : ℕ) → areg r ≡ word_of b.address (register r)) → ((r : ℕ) → IsKnownEntry v.word h b (register r)) → ((r : ℕ) → StandsAt h b (a.offset r) (register r)) →
       word ≡ by_address b answer → IsGiven b.stands answer →

@@ -1,6 +1,7 @@
 -- Each rule by which a mutator goes on keeps the relation: a new object gets its place, its length and its tag.
 use Rattle.std.proofs.Common.{◌≡◌, ◌≢◌, ℕ, suc, ◌+◌, ◌-◌, ◌<◌, ◌≤◌, min, max, cond, Bool, true, false, List, [], ◌∷◌, ◌++◌, length, map, ◌⊎◌, inl, inr, sym, refl, ap, ◌∙◌, subst, ap₂, le_refl, arith}
 use Rattle.std.proofs.lemmas.Bool.{cases_eq}
+use Rattle.std.specs.List.{AllByRecursion}
 use Rattle.sg_words.specs.Address.{byte_at}
 use Rattle.sg_words.specs.Tags.{plain_word}
 use Rattle.sg_words.specs.declared.steps.Place.TheVariants.{Next, Word}
@@ -10,22 +11,22 @@ use Rattle.sg_program.specs.declared.program.Program.{Program}
 use Rattle.sg_program.specs.declared.answers.Answer.{Answer}
 use Rattle.sg_program.specs.declared.answers.Answer.TheVariants.{At}
 use Rattle.sg_desc.specs.Shapes.{holds_reference}
-use Rattle.sg_program.specs.Scripts.{kind_of, IsSizeOf, IsMaking, made_in, made_class, made_fields, made_words}
+use Rattle.sg_program.specs.Scripts.{kind_of, IsSizeOf, IsMaking, made_in, made_class, made_fields, made_words, IsSmall}
 use Rattle.sg_program.specs.Kinds.{kinds_after}
-use Rattle.sg_graph.specs.Graph.{Entry, Ref, Int, Inner, Graph, grown, goes_on, empty_field}
+use Rattle.sg_graph.specs.Graph.{Entry, Ref, Int, Inner, Graph, grown, empty_field}
 use Rattle.sg_graph.specs.Statements.{Does}
 use Rattle.sg_graph.specs.Book.{Book, Books, placed, share, word_of, Young, nursery_end}
 use Rattle.sg_words.specs.Sections.{nursery_base}
 use Rattle.sg_graph.specs.Pause.{is_pair}
 use Rattle.sg_graph.specs.Invariants.{IsPlain}
 use Rattle.sg_graph.specs.Heap.{Owner, Of, Frag, Buf, IsHeaded, IsKnown, IsKnownEntry, IsOfSort, Objects, Fields}
-use Rattle.sg_rules.specs.Rules.{Layout, Mid, Idle, Claim, StoreLength, StoreTag, Actor, before, within, over, owning, taken}
-use Rattle.sg_order.specs.Rest.{kind_of_entry}
+use Rattle.sg_rules.specs.Rules.{Constants, Mid, Idle, Claim, StoreLength, StoreTag, Actor, before, within, over, owning, taken}
+use Rattle.sg_order.specs.Rest.{kind_of_entry, IsRunnable}
 use Rattle.sg_words.proofs.Puts.{put-at, put-same, put-other, put-all, put-along, within_range, range-in, range-below, range-above, range-keeps}
 use Rattle.sg_order.proofs.Events.{range-was}
 use Rattle.sg_order.proofs.Frame.{answers_later, answers_push, given_later, given_push, entry_later, offset_later, stack_later}
 use Rattle.sg_order.proofs.Relation.{Ground, IsMutator, Stands, Later, IsHeading, Kept}
-use Rattle.sg_order.proofs.Moves.{Change, kinds_of, kinds_along, offsets_put, silent, turned, is_after, stack_after, stack_kept, fits_after, fits_as, runnable_after, runnable_as}
+use Rattle.sg_order.proofs.Moves.{Change, handed, goes, kinds_of, kinds_along, offsets_put, silent, turned, is_after, stack_after, stack_kept, fits_after, fits_as, runnable_after, runnable_as}
 use Rattle.sg_order.proofs.Accesses.{same_there, ground_stored, later_stored, length_off, tag_off, fields_off}
 use Rattle.sg_order.proofs.Makes.{made_known, made_no_pair, made_sized, does_making, books_making, kinds_making, piled_making}
 use Rattle.sg_order.proofs.Emptied.{of_sort_empty, empty_cond}
@@ -46,7 +47,7 @@ pub record Place (p : Program) (g : Graph) (b : Book) (k m x : ℕ) (next from t
   pub other_from : (j : ℕ) → j ≢ k → from j ≡ b.from j
   pub other_to : (j : ℕ) → j ≢ k → to j ≡ b.to j
 
-module _ (p : Program) (lay : Layout) (w : Words) (g : Graph) (b : Book) (said : ℕ → List Answer) (k : ℕ) (owner : ℕ → Owner) (t : Ground p lay w g b owner)
+module _ (p : Program) (lay : Constants) (w : Words) (g : Graph) (b : Book) (said : ℕ → List Answer) (k : ℕ) (owner : ℕ → Owner) (t : Ground p lay w g b owner)
     (class n x : ℕ) (next wnext from to : ℕ → ℕ) (owner' : ℕ → Owner) (pl : Place p g b k (n + 2) x next from to owner owner')
     (is_class : class < length p.classes) (sized : IsSizeOf p class n) (single : is_pair (kind_of p class) ≡ false) (nexts : (f : ℕ) → f < b.fragments → wnext f ≡ byte_at (next f)) where
   abbrev new : ℕ
@@ -229,7 +230,7 @@ module _ (p : Program) (lay : Layout) (w : Words) (g : Graph) (b : Book) (said :
   -- a deciding step that gives a new object its place
   pub places : (mid : Mid) → ((y : ℕ) → IsHeading y mid → ⊥) → (a : Actor) (rest : List Statement) (s : Statement) (st : Stands p lay w g b said k a) → class ≡ made_class s → n ≡ made_fields p s →
       IsMutator g said k st.entry (s ∷ rest) st.answers →
-      Does p g k (record (g.mutator k) { register = st.entry; script = s ∷ rest; ended = false }) s rest (At (suc g.count)) (goes_on (grown p g k class n) k rest (put st.entry (made_in s) (Ref (suc g.count)))) →
+      Does p g k (record (g.mutator k) { register = st.entry; script = s ∷ rest }) s rest (At (suc g.count)) (handed (grown p g k class n) k rest (put st.entry (made_in s) (Ref (suc g.count)))) →
       Books p b k s (At (suc g.count)) new_book →
       ((r : ℕ) → (kinds_after (kinds_of st.entry (g.mutator k).stack) s).register r ≡ kind_of_entry (put st.entry (made_in s) (Ref (suc g.count)) r)) →
       (kinds_after (kinds_of st.entry (g.mutator k).stack) s).stack ≡ map kind_of_entry (g.mutator k).stack →
@@ -260,7 +261,8 @@ module _ (p : Program) (lay : Layout) (w : Words) (g : Graph) (b : Book) (said :
           address = put-same b.address (suc g.count) x ∙ sym ex;
           size = put-same g.size (suc g.count) n ∙ en;
           class_is = put-same g.class (suc g.count) class ∙ ec;
-          ahead = is_after p lay w g b said k (grown p g k class n) rest (put st.entry (made_in s) (Ref (suc g.count))) (g.mutator k).stack st.answers (At (suc g.count)) m.says;
+          ahead = is_after p lay w g b said k (grown p g k class n) rest (put st.entry (made_in s) (Ref (suc g.count))) (g.mutator k).stack st.answers (At (suc g.count)) m.says
+              (goes g said k st.entry s rest st.answers m);
         };
         fits = fits_after p lay w g b said k (grown p g k class n) rest (put st.entry (made_in s) (Ref (suc g.count))) (g.mutator k).stack
             (kinds_along (kinds_after (kinds_of st.entry (g.mutator k).stack) s) (kinds_of (put st.entry (made_in s) (Ref (suc g.count))) (g.mutator k).stack) rest kinds piled
@@ -268,7 +270,7 @@ module _ (p : Program) (lay : Layout) (w : Words) (g : Graph) (b : Book) (said :
         runnable = runnable_after p lay w g b said k (grown p g k class n) rest (put st.entry (made_in s) (Ref (suc g.count))) (g.mutator k).stack (runnable_as p lay w g b said k st.entry (s ∷ rest) st.answers m st.runnable).1;
       })
 
-module _ (p : Program) (lay : Layout) (w : Words) (g : Graph) (b : Book) (said : ℕ → List Answer) (k : ℕ) (owner : ℕ → Owner) (t : Ground p lay w g b owner) where
+module _ (p : Program) (lay : Constants) (w : Words) (g : Graph) (b : Book) (said : ℕ → List Answer) (k : ℕ) (owner : ℕ → Owner) (t : Ground p lay w g b owner) where
   bump_place : (m : ℕ) → 0 < m → b.from k + m ≤ b.to k →
       Place p g b k m (b.from k) b.next (put b.from k (b.from k + m)) b.to owner (within_range owner (b.from k) (b.from k + m) (Of (suc g.count)))
   bump_place m some fits =
@@ -299,6 +301,10 @@ module _ (p : Program) (lay : Layout) (w : Words) (g : Graph) (b : Book) (said :
         other_to = λ j o. refl;
       }
 
+  -- the object of a statement is small
+  is_small : (s : Statement) (rest : List Statement) (entry : ℕ → Entry) (answers : List Answer) → IsMutator g said k entry (s ∷ rest) answers → AllByRecursion (IsRunnable p) (g.mutator k).script → IsSmall (made_words p s)
+  is_small s rest entry answers m run = let l = (runnable_as p lay w g b said k entry (s ∷ rest) answers m run).0.small in omega arith
+
   -- the object of a statement has its place
   makes : (s : Statement) → IsMaking s → (x : ℕ) (next wnext from to : ℕ → ℕ) (owner' : ℕ → Owner) → Place p g b k (made_words p s) x next from to owner owner' → ((f : ℕ) → f < b.fragments → wnext f ≡ byte_at (next f)) →
       (mid : Mid) → ((y : ℕ) → IsHeading y mid → ⊥) → (a : Actor) (rest : List Statement) (st : Stands p lay w g b said k a) → IsMutator g said k st.entry (s ∷ rest) st.answers →
@@ -307,7 +313,7 @@ module _ (p : Program) (lay : Layout) (w : Words) (g : Graph) (b : Book) (said :
   makes s making x next wnext from to owner' pl nexts mid none a rest st m books ax af at ex ef et =
       let run = (runnable_as p lay w g b said k st.entry (s ∷ rest) st.answers m st.runnable).0 in
       places p lay w g b said k owner t (made_class s) (made_fields p s) x next wnext from to owner' pl (made_known p s making run) (made_sized p s making run) (made_no_pair p s making run) nexts
-      mid none a rest s st refl refl m (does_making p g k (record (g.mutator k) { register = st.entry; script = s ∷ rest; ended = false }) s rest making) books
+      mid none a rest s st refl refl m (does_making p g k (record (g.mutator k) { register = st.entry; script = s ∷ rest }) s rest making) books
       (kinds_making s st.entry (g.mutator k).stack (suc g.count) making) (piled_making s st.entry (g.mutator k).stack making) ax af at ex ef et
 
   -- the deciding load of a statement whose object fits into the buffer
@@ -318,7 +324,7 @@ module _ (p : Program) (lay : Layout) (w : Words) (g : Graph) (b : Book) (said :
       let et : a.to ≡ b.to k = st.to_is in
       let fits : b.from k + made_words p s ≤ b.to k = omega arith in
       makes s making (b.from k) b.next w.next (put b.from k (b.from k + made_words p s)) b.to _ (bump_place (made_words p s) (omega arith) fits) t.words Idle (λ y e. e)
-      (before a s rest) rest st st.at (books_making p b k s (suc g.count) _ making (inl (record { room = fits; after = refl })))
+      (before a s rest) rest st st.at (books_making p b k s (suc g.count) _ making (is_small s rest st.entry st.answers st.at st.runnable, inl (record { room = fits; after = refl })))
       a.from (a.from + made_words p s) a.to ef (ap (λ x. x + made_words p s) ef ∙ sym (put-same b.from k _)) et
 
   claim_place : (f m s : ℕ) → f < b.fragments → 0 < m → m ≤ s → b.next f + s ≤ b.limit f →
@@ -385,16 +391,19 @@ module _ (p : Program) (lay : Layout) (w : Words) (g : Graph) (b : Book) (said :
       ])
       (Claim s f (b.next f)) (λ y e. e)
       (within a rest (Claim s f (b.next f))) rest st st.at.4
-      (books_making p b k s (suc g.count) _ st.at.0 (inr (
-        f,
-        record {
-          short = st.at.2.short;
-          there = lf;
-          room = room;
-          lowest = st.at.2.below;
-          after = λ i. record (placed b (suc g.count) (b.next f)) { next = put b.next f (b.next f + es i); from = put b.from k (b.next f + m); to = put b.to k (b.next f + es i) };
-        },
-      )))
+      (books_making p b k s (suc g.count) _ st.at.0 (
+        is_small s rest st.entry st.answers st.at.4 st.runnable,
+        inr (
+          f,
+          record {
+            short = st.at.2.short;
+            there = lf;
+            room = room;
+            lowest = st.at.2.below;
+            after = λ i. record (placed b (suc g.count) (b.next f)) { next = put b.next f (b.next f + es i); from = put b.from k (b.next f + m); to = put b.to k (b.next f + es i) };
+          },
+        ),
+      ))
       (b.next f) (b.next f + m) (b.next f + take) refl (sym (put-same b.from k _)) (sym (put-same b.to k _))
 
   pub claims : (a : Actor) (rest : List Statement) (s : Statement) (f next : ℕ) → w.next f ≡ byte_at next → Stands p lay w g b said k (within a rest (Claim s f next)) →

@@ -4,27 +4,26 @@ use Rattle.std.specs.List.{AllByRecursion}
 use Rattle.sg_words.specs.Address.{byte_at}
 use Rattle.sg_words.specs.Words.{put, Words}
 use Rattle.sg_program.specs.declared.program.Statement.{Statement}
-use Rattle.sg_program.specs.declared.program.Statement.TheVariants.{New, NewV, Collect}
+use Rattle.sg_program.specs.declared.program.Statement.TheVariants.{New, NewV, Hide, Collect}
 use Rattle.sg_program.specs.declared.program.Program.{Program}
 use Rattle.sg_program.specs.declared.answers.Answer.{Answer}
 use Rattle.sg_program.specs.declared.answers.Answer.TheVariants.{At, Nil, Null, Number, Fine, Yes, No, Field, Full}
 use Rattle.sg_desc.specs.Shapes.{has_field}
-use Rattle.sg_program.specs.Scripts.{kind_of, words_for, IsMaking, made_in, made_class, made_fields, made_words}
+use Rattle.sg_program.specs.Scripts.{kind_of, IsMaking, made_in, made_class, made_fields, made_words}
 use Rattle.sg_program.specs.Invariants.{FindKinds}
-use Rattle.sg_graph.specs.Graph.{Entry, Ref, Inner, Graph}
-use Rattle.sg_graph.specs.Statements.{emptied}
+use Rattle.sg_graph.specs.Graph.{Entry, Ref, Graph}
 use Rattle.sg_program.specs.Tests.{Test, test_of}
 use Rattle.sg_graph.specs.Book.{Book, IsShort, LacksRoom, word_of}
 use Rattle.sg_graph.specs.Epoch.{Turn, by_address}
 use Rattle.sg_words.specs.Lists.{Pairwise}
 use Rattle.sg_graph.specs.Invariants.{IsPlain}
 use Rattle.sg_graph.specs.Heap.{Owner, IsHeaded, IsKnown, IsKnownEntry, IsLaid}
-use Rattle.sg_rules.specs.Rules.{Layout, Slot, Mid, Idle, TestTag, TestLength, FailTag, FailLength, Access, Look, Claim, StoreLength, StoreTag, HideFits, HideMisses, Ask, Left, Actor}
+use Rattle.sg_rules.specs.Rules.{Constants, StackWord, Mid, Idle, TestTag, TestLength, Access, Look, Claim, StoreLength, StoreTag, HideLength, Ask, Left, Actor}
 use Rattle.sg_order.specs.Rest.{kinds_in, Holds, IsRunnable}
-use Rattle.sg_order.specs.Rest.{Stands as StandsAt}
+use Rattle.sg_order.specs.Rest.{StandsAt}
 
 -- what no mutator's private state enters into: the words hold the graph, and the fragments are the book's
-pub record Ground (p : Program) (lay : Layout) (w : Words) (g : Graph) (b : Book) (owner : ℕ → Owner) : Type 0 where
+pub record Ground (p : Program) (lay : Constants) (w : Words) (g : Graph) (b : Book) (owner : ℕ → Owner) : Type 0 where
   pub laid : IsLaid p w.word g b owner
   pub plain : IsPlain p g
   pub number : b.fragments ≡ lay.fragments
@@ -51,7 +50,7 @@ AreGiven stands (answer ∷ said) = IsGiven stands answer × AreGiven stands sai
 pub record IsMutator (g : Graph) (said : ℕ → List Answer) (k : ℕ) (register : ℕ → Entry) (script : List Statement) (answers : List Answer) : Type 0 where
   pub register_is : (g.mutator k).register ≡ register
   pub script_is : (g.mutator k).script ≡ script
-  pub awake : (g.mutator k).ended ≡ false
+  pub asleep : (g.mutator k).ended ≡ true → script ≡ []
   pub says : said k ≡ answers
 
 -- k's buffer and the fragments below f have fewer than n words left
@@ -60,11 +59,18 @@ pub record Tight (b : Book) (k n f : ℕ) : Type 0 where
   pub below : (j : ℕ) → j < f → LacksRoom b n j
 
 -- a statement that asks: a new object, for which neither the buffer nor any fragment has room, or a collection
-abbrev pub IsAsked : Program → Layout → Book → ℕ → Statement → Type 0
-IsAsked p lay b k (New r class) = Tight b k (made_words p (New r class)) lay.fragments
-IsAsked p lay b k (NewV r class count) = Tight b k (made_words p (NewV r class count)) lay.fragments
-IsAsked p lay b k (Collect false) = Unit {0}
-IsAsked p lay b k s = ⊥
+abbrev pub AsksForRoom : Program → Constants → Book → ℕ → Statement → Type 0
+AsksForRoom p lay b k (New r class) = Tight b k (made_words p (New r class)) lay.fragments
+AsksForRoom p lay b k (NewV r class count) = Tight b k (made_words p (NewV r class count)) lay.fragments
+AsksForRoom p lay b k (Collect false) = Unit {0}
+AsksForRoom p lay b k s = ⊥
+
+-- the tested register holds the object with this name
+pub record Testing (entry : ℕ → Entry) (s : Statement) (test : Test) : Type 0 where
+  pub tests : test_of s ≡ Some test
+  pub name : ℕ
+  pub holds : entry test.register ≡ Ref name
+  pub some : name ≢ 0
 
 -- the tested register holds the object with this name, and it has such a field
 pub record Tested (p : Program) (g : Graph) (entry : ℕ → Entry) (s : Statement) (test : Test) : Type 0 where
@@ -84,32 +90,23 @@ pub record Placed (p : Program) (g : Graph) (b : Book) (said : ℕ → List Answ
   pub class_is : g.class name ≡ made_class s
   pub ahead : IsMutator g said k (put entry (made_in s) (Ref name)) rest (answers ++ At name ∷ [])
 
--- the address of a byte of the object in a register is about to be hidden: mutator k of the graph is ahead
-pub record Hidden (g : Graph) (said : ℕ → List Answer) (k : ℕ) (entry : ℕ → Entry) (answers : List Answer) (rest : List Statement) (d s offset : ℕ) : Type 0 where
-  pub name : ℕ
-  pub holds : entry s ≡ Ref name
-  pub some : name ≢ 0
-  pub below : offset < byte_at (words_for (g.size name))
-  pub ahead : IsMutator g said k (put entry d (Inner name offset)) rest (answers ++ Fine ∷ [])
-
 -- The graph's mutator, by where the mutator of the program stands in its statement. From the deciding step on it is ahead.
-abbrev pub AtMid : Program → Layout → Words → Graph → Book → (ℕ → List Answer) → ℕ → (ℕ → Entry) → List Answer → List Statement → Mid → Type 0
+abbrev pub AtMid : Program → Constants → Words → Graph → Book → (ℕ → List Answer) → ℕ → (ℕ → Entry) → List Answer → List Statement → Mid → Type 0
 AtMid p lay w g b said k entry answers rest Idle = IsMutator g said k entry rest answers
-AtMid p lay w g b said k entry answers rest (TestTag s test) = Tested p g entry s test × IsMutator g said k entry (s ∷ rest) answers
-AtMid p lay w g b said k entry answers rest (TestLength s test class) = Tested p g entry s test × IsMutator g said k entry (s ∷ rest) answers
+AtMid p lay w g b said k entry answers rest (TestTag s test) = Testing entry s test × IsMutator g said k entry (s ∷ rest) answers
+AtMid p lay w g b said k entry answers rest (TestLength s test class) =
+    (t : Testing entry s test) × (class ≡ g.class t.name) × IsMutator g said k entry (s ∷ rest) answers
 AtMid p lay w g b said k entry answers rest (Access s) = (test : Test) × Tested p g entry s test × IsMutator g said k entry (s ∷ rest) answers
-AtMid p lay w g b said k entry answers rest (FailTag s test) = (test_of s ≡ Some test) × IsMutator g said k (emptied s entry) rest (answers ++ Field ∷ [])
-AtMid p lay w g b said k entry answers rest (FailLength s test class) = (test_of s ≡ Some test) × IsMutator g said k (emptied s entry) rest (answers ++ Field ∷ [])
 AtMid p lay w g b said k entry answers rest (Look s f) =
     IsMaking s × (f < lay.fragments) × Tight b k (made_words p s) f × IsMutator g said k entry (s ∷ rest) answers
 AtMid p lay w g b said k entry answers rest (Claim s f next) =
     IsMaking s × (f < lay.fragments) × Tight b k (made_words p s) f × (next + made_words p s ≤ lay.limit f) × IsMutator g said k entry (s ∷ rest) answers
 AtMid p lay w g b said k entry answers rest (StoreLength s x) = Placed p g b said k entry answers rest s x
 AtMid p lay w g b said k entry answers rest (StoreTag s x) = Placed p g b said k entry answers rest s x × (w.word (x + 1) ≡ made_fields p s)
-AtMid p lay w g b said k entry answers rest (HideFits d s offset) = Hidden g said k entry answers rest d s offset
-AtMid p lay w g b said k entry answers rest (HideMisses d s offset) = IsMutator g said k (put entry d (Inner 0 0)) rest (answers ++ Field ∷ [])
-AtMid p lay w g b said k entry answers rest (Ask s) = IsAsked p lay b k s × IsMutator g said k entry (s ∷ rest) answers
-AtMid p lay w g b said k entry answers rest (Left s) = IsAsked p lay b k s × IsMutator g said k entry (s ∷ rest) answers
+AtMid p lay w g b said k entry answers rest (HideLength d s offset) =
+    (name : ℕ) × (entry s ≡ Ref name) × (name ≢ 0) × IsMutator g said k entry (Hide d s offset ∷ rest) answers
+AtMid p lay w g b said k entry answers rest (Ask s) = AsksForRoom p lay b k s × IsMutator g said k entry (s ∷ rest) answers
+AtMid p lay w g b said k entry answers rest (Left s) = AsksForRoom p lay b k s × IsMutator g said k entry (s ∷ rest) answers
 
 -- the word and the offset are those of the entry, which is known
 pub record Keeps (w : ℕ → ℕ) (g : Graph) (b : Book) (word offset : ℕ) (entry : Entry) : Type 0 where
@@ -117,10 +114,10 @@ pub record Keeps (w : ℕ → ℕ) (g : Graph) (b : Book) (word offset : ℕ) (e
   pub known : IsKnownEntry w g b entry
 
 -- the places of a stack keep these entries
-abbrev pub Stacked : (ℕ → ℕ) → Graph → Book → List Slot → List Entry → Type 0
-Stacked w g b slots entries = Pairwise (λ (slot : Slot) (entry : Entry). Keeps w g b slot.word slot.offset entry) slots entries
+abbrev pub Stacked : (ℕ → ℕ) → Graph → Book → List StackWord → List Entry → Type 0
+Stacked w g b slots entries = Pairwise (λ (slot : StackWord) (entry : Entry). Keeps w g b slot.word slot.offset entry) slots entries
 
-pub record Stands (p : Program) (lay : Layout) (w : Words) (g : Graph) (b : Book) (said : ℕ → List Answer) (k : ℕ) (a : Actor) : Type 0 where
+pub record Stands (p : Program) (lay : Constants) (w : Words) (g : Graph) (b : Book) (said : ℕ → List Answer) (k : ℕ) (a : Actor) : Type 0 where
   pub entry : ℕ → Entry
   pub answers : List Answer
   pub regs : (r : ℕ) → a.reg r ≡ word_of b.address (entry r)
@@ -168,7 +165,7 @@ pub record Heads (w : Words) (g : Graph) (b : Book) (mid : Mid) (v : Words) (h :
   pub done : (n : ℕ) → b.stands n ≡ true → IsHeading (b.address n) mid → IsHeaded v.word h c n ⊎ IsHeading (c.address n) mid'
 
 -- what a step of mutator k, which stood at `mid`, gives
-pub record Kept (p : Program) (lay : Layout) (w : Words) (g : Graph) (b : Book) (said : ℕ → List Answer) (k : ℕ) (mid : Mid) (decides : Bool) (v : Words) (a : Actor) : Type 0 where
+pub record Kept (p : Program) (lay : Constants) (w : Words) (g : Graph) (b : Book) (said : ℕ → List Answer) (k : ℕ) (mid : Mid) (decides : Bool) (v : Words) (a : Actor) : Type 0 where
   pub h : Graph
   pub c : Book
   pub said' : ℕ → List Answer
@@ -180,7 +177,7 @@ pub record Kept (p : Program) (lay : Layout) (w : Words) (g : Graph) (b : Book) 
   pub stands : Stands p lay v h c said' k a
 
 -- the relation for all mutators: each object is headed, or a mutator is about to write its header
-pub record World (p : Program) (lay : Layout) (w : Words) (g : Graph) (b : Book) (said : ℕ → List Answer) (actors : ℕ → Actor) : Type 0 where
+pub record World (p : Program) (lay : Constants) (w : Words) (g : Graph) (b : Book) (said : ℕ → List Answer) (actors : ℕ → Actor) : Type 0 where
   pub owner : ℕ → Owner
   pub ground : Ground p lay w g b owner
   pub stands : (k : ℕ) → Stands p lay w g b said k (actors k)

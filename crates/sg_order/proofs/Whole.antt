@@ -11,57 +11,52 @@ use Rattle.sg_graph.specs.Graph.{Graph}
 use Rattle.sg_graph.specs.Book.{Book}
 use Rattle.sg_graph.specs.Epoch.{Said, Explains, answers_of}
 use Rattle.sg_graph.specs.Heap.{Owner, IsHeaded}
-use Rattle.sg_rules.specs.Rules.{Layout, Actor, Comes, Follows}
-use Rattle.sg_rules.specs.Rules.Comes.{test_null, test_begins, test_fails, loads_tag, loads_length, fails_tag, fails_length, put_stores, putd_stores, get_loads, getd_loads, num_sets, drop_clears, move_sets, push_sets, pop_sets, hide_null, hide_begins, hide_fails, hide_fits, hide_misses, unhide_sets, same_tells, new_bumps, new_looks, look_finds, look_goes_on, look_ends, new_asks, minor_asks, asks, claim_wins, stores_length, stores_tag}
+use Rattle.sg_rules.specs.Rules.{Constants, Actor, Comes, Follows}
+use Rattle.sg_rules.specs.Rules.Comes.{test_null, test_begins, loads_tag, loads_length, test_fails, put_stores, putd_stores, get_loads, getd_loads, num_sets, drop_clears, move_sets, push_sets, pop_sets, hide_null, hide_begins, hide_fits, hide_misses, unhide_sets, same_tells, new_bumps, new_looks, look_finds, look_goes_on, minor_asks, asks, claim_wins, stores_length, stores_tag}
 use Rattle.sg_words.proofs.Puts.{put-at, put-same, put-other, put-all}
 use Rattle.sg_order.proofs.Events.{part-same, part-other, part-own, part-none, ticks-own}
 use Rattle.sg_order.proofs.Relation.{Ground, Stands, Moves, IsHeading, Kept, World}
 use Rattle.sg_order.proofs.Frame.{stands_later}
-use Rattle.sg_order.proofs.Loads.{nulls, begins, fails, sees_tag, sees_length, sees_failing_tag, tells_field, sets_number, clears, searches, finds_room, finds_small, finds_none, has_none, wants, leaves}
-use Rattle.sg_order.proofs.Registers.{moves_over, pushes, takes_top, hides_nothing, begins_hiding, fails_hiding, hides, hides_no_byte, unhides, compares}
+use Rattle.sg_order.proofs.Loads.{nulls, begins, fails, sees_tag, sees_length, sets_number, clears, searches, finds_room, finds_small, wants, leaves}
+use Rattle.sg_order.proofs.Registers.{moves_over, pushes, takes_top, hides_nothing, begins_hiding, hides, hides_no_byte, unhides, compares}
 use Rattle.sg_order.proofs.Accesses.{puts, puts_number, gets, gets_number}
 use Rattle.sg_order.proofs.Places.{bumps, claims, writes_length, writes_tag}
 
-module _ (p : Program) (lay : Layout) (w : Words) (g : Graph) (b : Book) (said : ℕ → List Answer) (k : ℕ) (owner : ℕ → Owner) (t : Ground p lay w g b owner) where
+module _ (p : Program) (lay : Constants) (w : Words) (g : Graph) (b : Book) (said : ℕ → List Answer) (k : ℕ) (owner : ℕ → Owner) (t : Ground p lay w g b owner) where
   -- one step of a mutator: one line for each rule
   pub kept : (a : Actor) (e : Step) (d : Bool) (a' : Actor) → Comes p lay a e d a' → Saw w e → Stands p lay w g b said k a → Kept p lay w g b said k a.mid d (after_step w e) a'
-  kept _ _ _ _ (test_null a s rest test x tag len e z) saw st = nulls p lay w g b said k owner t a rest s test e z st
-  kept _ _ _ _ (test_begins a s rest test class len e z f) saw st = begins p lay w g b said k owner t a rest s test class len e z f saw.1 saw.2 st
-  kept _ _ _ _ (test_fails a s rest test class len e z f) saw st = fails p lay w g b said k owner t a rest s test class len e z f saw.1 saw.2 st
-  kept _ _ _ _ (loads_tag a s rest test class) saw st = sees_tag p lay w g b said k owner t a rest s test class st
-  kept _ _ _ _ (loads_length a s rest test class len f) saw st = sees_length p lay w g b said k owner t a rest s test class st
-  kept _ _ _ _ (fails_tag a s rest test class) saw st = sees_failing_tag p lay w g b said k owner t a rest s test class st
-  kept _ _ _ _ (fails_length a s rest test class len f) saw st = tells_field p lay w g b said k owner t a rest s test class st
+  kept _ _ _ _ (test_null a s rest test e z) saw st = nulls p lay w g b said k owner t a rest s test e z st
+  kept _ _ _ _ (test_begins a s rest test e z) saw st = begins p lay w g b said k owner t a rest s test e z st
+  kept _ _ _ _ (loads_tag a s rest test class) saw st = sees_tag p lay w g b said k owner t a rest s test class saw st
+  kept _ _ _ _ (loads_length a s rest test class len f) saw st = sees_length p lay w g b said k owner t a rest s test class len f saw st
+  kept _ _ _ _ (test_fails a s rest test class len f) saw st = fails p lay w g b said k owner t a rest s test class len f saw st
   kept _ _ _ _ (put_stores a rest r i s) saw st = puts p lay w g b said k owner t a rest r i s st
   kept _ _ _ _ (putd_stores a rest r i s) saw st = puts_number p lay w g b said k owner t a rest r i s st
   kept _ _ _ _ (get_loads a rest d r i v) saw st = gets p lay w g b said k owner t a rest d r i v saw st
   kept _ _ _ _ (getd_loads a rest d r i v) saw st = gets_number p lay w g b said k owner t a rest d r i v saw st
-  kept _ _ _ _ (num_sets a rest d n x tag len) saw st = sets_number p lay w g b said k owner t a rest d n st
-  kept _ _ _ _ (drop_clears a rest r x tag len) saw st = clears p lay w g b said k owner t a rest r st
-  kept _ _ _ _ (move_sets a rest d s x tag len) saw st = moves_over p lay w g b said k owner t a rest d s st
-  kept _ _ _ _ (push_sets a rest r x tag len) saw st = pushes p lay w g b said k owner t a rest r st
-  kept _ _ _ _ (pop_sets a rest r x tag len top stack e) saw st = takes_top p lay w g b said k owner t a rest r top stack e st
-  kept _ _ _ _ (hide_null a rest d s offset x tag len z) saw st = hides_nothing p lay w g b said k owner t a rest d s offset z st
-  kept _ _ _ _ (hide_begins a rest d s offset class len z f) saw st = begins_hiding p lay w g b said k owner t a rest d s offset class len z f saw.1 saw.2 st
-  kept _ _ _ _ (hide_fails a rest d s offset class len z f) saw st = fails_hiding p lay w g b said k owner t a rest d s offset class len z f saw.1 saw.2 st
-  kept _ _ _ _ (hide_fits a rest d s offset len f) saw st = hides p lay w g b said k owner t a rest d s offset st
-  kept _ _ _ _ (hide_misses a rest d s offset len f) saw st = hides_no_byte p lay w g b said k owner t a rest d s offset st
-  kept _ _ _ _ (unhide_sets a rest d s x tag len) saw st = unhides p lay w g b said k owner t a rest d s st
-  kept _ _ _ _ (same_tells a rest r s x tag len) saw st = compares p lay w g b said k owner t a rest r s st
-  kept _ _ _ _ (new_bumps a s rest x tag len making l) saw st = bumps p lay w g b said k owner t a rest s making l st
-  kept _ _ _ _ (new_looks a s rest x tag len making l f) saw st = searches p lay w g b said k owner t a rest s making l f st
+  kept _ _ _ _ (num_sets a rest d n) saw st = sets_number p lay w g b said k owner t a rest d n st
+  kept _ _ _ _ (drop_clears a rest r) saw st = clears p lay w g b said k owner t a rest r st
+  kept _ _ _ _ (move_sets a rest d s) saw st = moves_over p lay w g b said k owner t a rest d s st
+  kept _ _ _ _ (push_sets a rest r) saw st = pushes p lay w g b said k owner t a rest r st
+  kept _ _ _ _ (pop_sets a rest r top stack e) saw st = takes_top p lay w g b said k owner t a rest r top stack e st
+  kept _ _ _ _ (hide_null a rest d s offset z) saw st = hides_nothing p lay w g b said k owner t a rest d s offset z st
+  kept _ _ _ _ (hide_begins a rest d s offset z) saw st = begins_hiding p lay w g b said k owner t a rest d s offset z st
+  kept _ _ _ _ (hide_fits a rest d s offset len f) saw st = hides p lay w g b said k owner t a rest d s offset len f saw st
+  kept _ _ _ _ (hide_misses a rest d s offset len f) saw st = hides_no_byte p lay w g b said k owner t a rest d s offset len f saw st
+  kept _ _ _ _ (unhide_sets a rest d s) saw st = unhides p lay w g b said k owner t a rest d s st
+  kept _ _ _ _ (same_tells a rest r s) saw st = compares p lay w g b said k owner t a rest r s st
+  kept _ _ _ _ (new_bumps a s rest making l) saw st = bumps p lay w g b said k owner t a rest s making l st
+  kept _ _ _ _ (new_looks a s rest making l) saw st = searches p lay w g b said k owner t a rest s making l st
   kept _ _ _ _ (look_finds a s rest f next l) saw st = finds_room p lay w g b said k owner t a rest s f next l st
-  kept _ _ _ _ (look_goes_on a s rest f next l more) saw st = finds_small p lay w g b said k owner t a rest s f next l more saw st
-  kept _ _ _ _ (look_ends a s rest f next l last) saw st = finds_none p lay w g b said k owner t a rest s f next l last saw st
-  kept _ _ _ _ (new_asks a s rest x tag len making l f) saw st = has_none p lay w g b said k owner t a rest s making l f st
-  kept _ _ _ _ (minor_asks a rest x tag len) saw st = wants p lay w g b said k owner t a rest st
+  kept _ _ _ _ (look_goes_on a s rest f next l) saw st = finds_small p lay w g b said k owner t a rest s f next l saw st
+  kept _ _ _ _ (minor_asks a rest) saw st = wants p lay w g b said k owner t a rest st
   kept _ _ _ _ (asks a rest s) saw st = leaves p lay w g b said k owner t a rest s st
   kept _ _ _ _ (claim_wins a s rest f next) saw st = claims p lay w g b said k owner t a rest s f next saw st
   kept _ _ _ _ (stores_length a s rest x) saw st = writes_length p lay w g b said k owner t a rest s x st
   kept _ _ _ _ (stores_tag a s rest x) saw st = writes_tag p lay w g b said k owner t a rest s x st
 
 -- from words w that stand to g and b, a list of events leads to others that stand to the graph and the book after one order
-pub record Explained (p : Program) (lay : Layout) (es : List Event) (w : Words) (g : Graph) (b : Book) (said : ℕ → List Answer) (last : ℕ → Actor) : Type 0 where
+pub record Explained (p : Program) (lay : Constants) (es : List Event) (w : Words) (g : Graph) (b : Book) (said : ℕ → List Answer) (last : ℕ → Actor) : Type 0 where
   pub order : List Said
   pub graph : Graph
   pub book : Book
@@ -82,7 +77,7 @@ said_more said said1 said2 k answer order e f j = elim (cases_eq k j) [
 ]
 
 -- a step that decided a statement or none, and what explains the rest
-more : (p : Program) (lay : Layout) (k : ℕ) (tick : Tick) (es : List Event) (w : Words) (g : Graph) (b : Book) (said : ℕ → List Answer) (last : ℕ → Actor) (h : Graph) (c : Book) (said1 : ℕ → List Answer) →
+more : (p : Program) (lay : Constants) (k : ℕ) (tick : Tick) (es : List Event) (w : Words) (g : Graph) (b : Book) (said : ℕ → List Answer) (last : ℕ → Actor) (h : Graph) (c : Book) (said1 : ℕ → List Answer) →
     Moves p g b said k tick.decides h c said1 → Explained p lay es (after_step w tick.step) h c said1 last → Explained p lay (record { by = k; tick = tick } ∷ es) w g b said last
 more p lay k tick es w g b said last h c said1 m x = go tick.decides m
   where
@@ -109,7 +104,7 @@ more p lay k tick es w g b said last h c said1 m x = go tick.decides m
     }
 
 -- after a step each object is headed, or a mutator is about to write its header
-headed_later : (p : Program) (lay : Layout) (w : Words) (g : Graph) (b : Book) (said : ℕ → List Answer) (actors : ℕ → Actor) (k : ℕ) (d : Bool) (v : Words) (a : Actor) →
+headed_later : (p : Program) (lay : Constants) (w : Words) (g : Graph) (b : Book) (said : ℕ → List Answer) (actors : ℕ → Actor) (k : ℕ) (d : Bool) (v : Words) (a : Actor) →
     ((n : ℕ) → 1 ≤ n → b.stands n ≡ true → IsHeaded w.word g b n ⊎ ((j : ℕ) × IsHeading (b.address n) (actors j).mid)) → (step : Kept p lay w g b said k (actors k).mid d v a) →
     (n : ℕ) → 1 ≤ n → step.c.stands n ≡ true → IsHeaded v.word step.h step.c n ⊎ ((j : ℕ) × IsHeading (step.c.address n) (put actors k a j).mid)
 headed_later p lay w g b said actors k d v a before step n l q =
@@ -128,7 +123,7 @@ headed_later p lay w g b said actors k d v a before step n l q =
       ]
     ]
 
-pub one_by_one : (p : Program) (lay : Layout) (es : List Event) (w : Words) (g : Graph) (b : Book) (said : ℕ → List Answer) (actors last : ℕ → Actor) → World p lay w g b said actors → Legal w (ticks es) →
+pub one_by_one : (p : Program) (lay : Constants) (es : List Event) (w : Words) (g : Graph) (b : Book) (said : ℕ → List Answer) (actors last : ℕ → Actor) → World p lay w g b said actors → Legal w (ticks es) →
     ((k : ℕ) → Follows p lay (actors k) (part k es) (last k)) → Explained p lay es w g b said last
 one_by_one p lay [] w g b said actors last wo legal follows = record {
   order = [];
@@ -163,7 +158,7 @@ one_by_one p lay (e ∷ es) w g b said actors last wo legal follows =
     (put-all (λ j a. Follows p lay a (part j es) (last j)) actors k a' mine.2 (λ j n. subst (λ q. Follows p lay (actors j) q (last j)) (part-other j e es n) (follows j))))
 
 -- the steps of one mutator
-pub by_one_mutator : (p : Program) (lay : Layout) (k : ℕ) (ts : List Tick) (w : Words) (g : Graph) (b : Book) (said : ℕ → List Answer) (actors : ℕ → Actor) (a : Actor) → World p lay w g b said actors → Legal w ts →
+pub by_one_mutator : (p : Program) (lay : Constants) (k : ℕ) (ts : List Tick) (w : Words) (g : Graph) (b : Book) (said : ℕ → List Answer) (actors : ℕ → Actor) (a : Actor) → World p lay w g b said actors → Legal w ts →
     Follows p lay (actors k) ts a → Explained p lay (by_one k ts) w g b said (put actors k a)
 by_one_mutator p lay k ts w g b said actors a wo legal follows =
     one_by_one p lay (by_one k ts) w g b said actors (put actors k a) wo (subst (λ s. Legal w s) (sym (ticks-own k ts)) legal)

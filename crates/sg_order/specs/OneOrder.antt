@@ -8,14 +8,14 @@ use Rattle.sg_graph.specs.Graph.{Graph}
 use Rattle.sg_program.specs.Scripts.{IsMaking, made_words}
 use Rattle.sg_graph.specs.Book.{Book, HasNoPlace, IsApart}
 use Rattle.sg_graph.specs.Epoch.{Said, Explains, answers_of, by_address}
-use Rattle.sg_rules.specs.Rules.{Layout, Actor, Left, Follows}
+use Rattle.sg_rules.specs.Rules.{Constants, Actor, Left, Follows}
 use Rattle.sg_order.specs.Rest.{IsReady, IsHeld, IsEpochOpening, before_it, IsOver}
 
 -- Whole statements, in the order of the deciding steps of the list, lead to a graph and a book; the standing objects are
 -- apart; each mutator that is between two statements or has left has the answers of the graph, read through the book, and
 -- stands where the graph's mutator stands. Who left with a new object had no room in its buffer and in no fragment. Where all
 -- are so, the words hold the graph by the book.
-pub record IsOneOrder (p : Program) (lay : Layout) (w : Words) (g : Graph) (b : Book) (es : List Event) (last : ℕ → Actor) : Type 0 where
+pub record IsOneOrder (p : Program) (lay : Constants) (w : Words) (g : Graph) (b : Book) (es : List Event) (last : ℕ → Actor) : Type 0 where
   pub order : List Said
   pub graph : Graph
   pub book : Book
@@ -30,6 +30,6 @@ pub record IsOneOrder (p : Program) (lay : Layout) (w : Words) (g : Graph) (b : 
 -- every legal list of steps of mutators that follow their programs from an epoch's opening on has one order
 abbrev pub OneOrder : Type 0
 OneOrder =
-    (p : Program) (lay : Layout) (w : Words) (g : Graph) (b : Book) (es : List Event) (actors last : ℕ → Actor) →
+    (p : Program) (lay : Constants) (w : Words) (g : Graph) (b : Book) (es : List Event) (actors last : ℕ → Actor) →
     IsEpochOpening p lay w g b actors → Legal w (ticks es) → ((k : ℕ) → Follows p lay (actors k) (part k es) (last k)) →
     IsOneOrder p lay w g b es last

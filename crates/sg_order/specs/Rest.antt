@@ -1,5 +1,5 @@
 -- How the mutators and the words stand to the graph and the book between two epochs.
-use Rattle.std.specs.Prelude.{◌≡◌, ◌≢◌, ℕ, ◌<◌, ◌≤◌, ◌⊎◌, true, false, List, [], ◌∷◌, map}
+use Rattle.std.specs.Prelude.{◌≡◌, ◌≢◌, ℕ, ◌<◌, ◌≤◌, ◌⊎◌, true, List, [], ◌∷◌, map}
 use Rattle.std.specs.List.{AllByRecursion}
 use Rattle.sg_words.specs.Address.{byte_at}
 use Rattle.sg_words.specs.Words.{Words}
@@ -13,7 +13,7 @@ use Rattle.sg_graph.specs.Book.{Book, word_of}
 use Rattle.sg_words.specs.Lists.{Pairwise}
 use Rattle.sg_graph.specs.Invariants.{IsPlain}
 use Rattle.sg_graph.specs.Heap.{Owner, IsHeap}
-use Rattle.sg_rules.specs.Rules.{Layout, Slot, Actor, Mid, Idle, Left}
+use Rattle.sg_rules.specs.Rules.{Constants, StackWord, Actor, Mid, Idle, Left}
 
 abbrev pub kind_of_entry : Entry → Kind
 kind_of_entry (Ref n) = IsRef
@@ -26,15 +26,15 @@ kinds_in m = record { register = λ r. kind_of_entry (m.register r); stack = map
 
 -- what an entry refers to stands; an address inside an object has this offset beside it and is one of the object's bytes, and
 -- where it holds no object the offset is 0
-abbrev pub Stands : Graph → Book → ℕ → Entry → Type 0
-Stands g b offset (Ref n) = b.stands n ≡ true
-Stands g b offset (Int v) = Unit {0}
-Stands g b offset (Inner n o) = (b.stands n ≡ true) × (offset ≡ o) × (((n ≡ 0) × (o ≡ 0)) ⊎ ((n ≢ 0) × (o < byte_at (words_for (g.size n)))))
+abbrev pub StandsAt : Graph → Book → ℕ → Entry → Type 0
+StandsAt g b offset (Ref n) = b.stands n ≡ true
+StandsAt g b offset (Int v) = Unit {0}
+StandsAt g b offset (Inner n o) = (b.stands n ≡ true) × (offset ≡ o) × (((n ≡ 0) × (o ≡ 0)) ⊎ ((n ≢ 0) × (o < byte_at (words_for (g.size n)))))
 
 -- the word and the offset are those of the entry, and what it refers to stands
 pub record Holds (g : Graph) (b : Book) (word offset : ℕ) (entry : Entry) : Type 0 where
   pub word_is : word ≡ word_of b.address entry
-  pub stands : Stands g b offset entry
+  pub stands : StandsAt g b offset entry
 
 -- a statement of the program that is run now: an object that it makes is small
 pub record IsRunnable (p : Program) (s : Statement) : Type 0 where
@@ -43,19 +43,20 @@ pub record IsRunnable (p : Program) (s : Statement) : Type 0 where
   pub small : made_fields p s ≤ 62
 
 -- mutator k between two statements, with these before it: its registers and its stack hold what the graph says, and what they
--- refer to stands; its buffer is the book's; the kinds of its operands are right, and its statements are run now
+-- refer to stands; it has ended only where no statement is left; its buffer is the book's; the kinds of its operands are right,
+-- and its statements are run now
 pub record IsReady (p : Program) (g : Graph) (b : Book) (k : ℕ) (a : Actor) (script : List Statement) : Type 0 where
   pub regs : (r : ℕ) → Holds g b (a.reg r) (a.offset r) ((g.mutator k).register r)
-  pub stack : Pairwise (λ (slot : Slot) (entry : Entry). Holds g b slot.word slot.offset entry) a.stack (g.mutator k).stack
+  pub stack : Pairwise (λ (slot : StackWord) (entry : Entry). Holds g b slot.word slot.offset entry) a.stack (g.mutator k).stack
   pub script_is : (g.mutator k).script ≡ script
-  pub awake : (g.mutator k).ended ≡ false
+  pub asleep : (g.mutator k).ended ≡ true → script ≡ []
   pub from_is : a.from ≡ b.from k
   pub to_is : a.to ≡ b.to k
   pub kinds : FindKinds (kinds_in (g.mutator k)) script
   pub runnable : AllByRecursion (IsRunnable p) script
 
 -- the words hold the graph, and the fragments are the book's
-pub record IsHeld (p : Program) (lay : Layout) (w : Words) (g : Graph) (b : Book) : Type 0 where
+pub record IsHeld (p : Program) (lay : Constants) (w : Words) (g : Graph) (b : Book) : Type 0 where
   pub owner : ℕ → Owner
   pub heap : IsHeap p w.word g b owner
   pub plain : IsPlain p g
@@ -64,7 +65,7 @@ pub record IsHeld (p : Program) (lay : Layout) (w : Words) (g : Graph) (b : Book
   pub nexts : (f : ℕ) → f < b.fragments → w.next f ≡ byte_at (b.next f)
 
 -- how an epoch opens: no mutator has an answer in it yet
-pub record IsEpochOpening (p : Program) (lay : Layout) (w : Words) (g : Graph) (b : Book) (actors : ℕ → Actor) : Type 0 where
+pub record IsEpochOpening (p : Program) (lay : Constants) (w : Words) (g : Graph) (b : Book) (actors : ℕ → Actor) : Type 0 where
   pub held : IsHeld p lay w g b
   pub ready : (k : ℕ) → IsReady p g b k (actors k) (actors k).script
   pub idle : (k : ℕ) → (actors k).mid ≡ Idle

@@ -6,6 +6,7 @@ use Rattle.std.proofs.lemmas.Bool.{cases_eq, cases_lt}
 use Rattle.std.proofs.lemmas.List.{get_or-map, get_or-take, length-map, take_more, get_or_append_left, get_or_push, length_push, get_or_default, length-take-le, take_all}
 use Rattle.std.proofs.lemmas.List.Elements.{Contains-get_or, Contains-append_left, Contains-push, Contains-push_cases}
 use Rattle.sg_space.specs.declared.objects.Object.{Object}
+use Rattle.sg_words.proofs.Sorted.{rising, increasing_push}
 use Rattle.sg_pins.specs.Pins.{IsReached, AreReached}
 
 -- after i objects: what is pinned is what the words reach among them, and the words below the index are below the others
@@ -13,39 +14,6 @@ pub record IsMerged (words : List ℕ) (objects : List Object) (i index : ℕ) (
   pub reached : AreReached words (take i objects) pinned
   pub index_in : index ≤ length words
   pub passed : (k j : ℕ) (d : Object) → k < index → i ≤ j → j < length objects → get_or words k 0 < (get_or objects j d).at
-
-pub sorted_far : (xs : List ℕ) → IsStrictlyIncreasing xs → (i j : ℕ) → i < j → j < length xs → get_or xs i 0 < get_or xs j 0
-sorted_far xs up i zero l m = absurd (omega arith)
-sorted_far xs up i (suc j) l m =
-    let next : get_or xs j 0 < get_or xs (suc j) 0 = subst (λ n. get_or xs j 0 < get_or xs n 0) (add-one j) (up j (omega arith)) in
-    elim (cases_eq i j) [
-      | inl e ↦ rw e next
-      | inr d ↦ let below = sorted_far xs up i j (omega arith) (omega arith) in omega arith
-    ]
-
--- an object further on has a greater address
-pub rising : (objects : List Object) → IsStrictlyIncreasing (map (λ (o : Object). o.at) objects) → (i j : ℕ) (d : Object) → i < j → j < length objects → (get_or objects i d).at < (get_or objects j d).at
-rising objects up i j d l m =
-    let at_i = get_or-map (λ (o : Object). o.at) objects i d 0 (omega arith) in
-    let at_j = get_or-map (λ (o : Object). o.at) objects j d 0 m in
-    let lengths = length-map objects (λ (o : Object). o.at) in
-    let below = sorted_far (map (λ (o : Object). o.at) objects) up i j l (omega arith) in
-    omega arith
-
-pub increasing_push : (xs : List ℕ) (a : ℕ) → IsStrictlyIncreasing xs → ((x : ℕ) → Contains xs x → x < a) → IsStrictlyIncreasing (xs ++ a ∷ [])
-increasing_push xs a up below k m =
-    let n = length_push xs a in
-    let left : get_or (xs ++ a ∷ []) k 0 ≡ get_or xs k 0 = get_or_append_left xs (a ∷ []) 0 k (omega arith) in
-    elim (cases_eq (k + 1) (length xs)) [
-      | inl e ↦
-          let right = get_or_push xs a 0 (k + 1) (sym e) in
-          let lower = below (get_or xs k 0) (Contains-get_or xs k 0 (omega arith)) in
-          omega arith
-      | inr d ↦
-          let right = get_or_append_left xs (a ∷ []) 0 (k + 1) (omega arith) in
-          let lower = up k (omega arith) in
-          omega arith
-    ]
 
 reached_more : (words : List ℕ) (objects : List Object) (pinned : List ℕ) (o : Object) → AreReached words objects pinned → ((before : Object) → Contains objects before → before.at < o.at) → IsReached words o → AreReached words (objects ++ o ∷ []) (pinned ++ o.at ∷ [])
 reached_more words objects pinned o r above hit = record {
@@ -77,7 +45,7 @@ below_here objects i o before up l is w =
     let k : w.0 < i = omega arith in
     let there : get_or objects w.0 before ≡ before = sym (get_or-take i objects w.0 before k) ∙ w.2 in
     let here : get_or objects i before ≡ o = get_or_default objects i before o l ∙ sym is in
-    let rises = rising objects up w.0 i before k l in
+    let rises = rising (λ (o : Object). o.at) objects up w.0 i before k l in
     let first = ap (λ (p : Object). p.at) there in
     let second = ap (λ (p : Object). p.at) here in
     omega arith
@@ -97,7 +65,7 @@ still_passed words objects i from index pinned o m s k j d l a b = elim (cases_l
   | inl old ↦ m.passed k j d old (omega arith) b
   | inr new ↦
       let lower = s.below k new l in
-      let rises = rising objects s.rises i j d (omega arith) b in
+      let rises = rising (λ (o : Object). o.at) objects s.rises i j d (omega arith) b in
       let here = ap (λ (p : Object). p.at) (get_or_default objects i d o s.there ∙ sym s.is) in
       omega arith
 ]

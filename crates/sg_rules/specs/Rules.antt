@@ -1,11 +1,11 @@
 -- The private state of a mutator, and its program: which atomic step comes next, whether that step decides the statement,
 -- and what the mutator is after it.
-use Rattle.std.specs.Prelude.{◌≡◌, ◌≢◌, ℕ, ◌+◌, ◌-◌, ◌<◌, ◌≤◌, ◌==◌, if◌then◌else◌, min, max, Bool, true, false, Some, List, [], ◌∷◌, ◌++◌}
+use Rattle.std.specs.Prelude.{◌≡◌, ◌≢◌, ℕ, ◌+◌, ◌-◌, ◌<◌, ◌≤◌, ◌==◌, if◌then◌else◌, nat_lt, min, max, Bool, true, false, Some, List, [], ◌∷◌, ◌++◌}
 use Rattle.sg_words.specs.Address.{byte_at, word_at}
 use Rattle.sg_words.specs.Tags.{plain_word}
 use Rattle.sg_words.specs.declared.steps.Place.TheVariants.{Stop, Next, Word}
 use Rattle.sg_words.specs.declared.steps.Step.{Step}
-use Rattle.sg_words.specs.declared.steps.Step.TheVariants.{Begin, Load, Store, Won}
+use Rattle.sg_words.specs.declared.steps.Step.TheVariants.{Load, Store, Won}
 use Rattle.sg_words.specs.declared.steps.Tick.{Tick}
 use Rattle.sg_words.specs.Words.{put, Words, after, Legal}
 use Rattle.sg_program.specs.declared.program.Statement.{Statement}
@@ -18,7 +18,7 @@ use Rattle.sg_program.specs.Scripts.{kind_of, words_for, IsMaking, made_in, made
 use Rattle.sg_program.specs.Tests.{Test, test_of}
 
 -- What is constant in an epoch: how many fragments there are, and before which word each ends.
-pub record Layout : Type 0 where
+pub record Constants : Type 0 where
   pub fragments : ℕ
   pub limit : ℕ → ℕ
 
@@ -26,12 +26,9 @@ pub record Layout : Type 0 where
 pub data Mid : Type 0 where
   -- between two statements
   Idle : Mid
-  -- the object of the statement passes its test: next comes the load of its tag, and then that of its length
+  -- the object of the statement is tested: next comes the load of its tag, and then, where the tag said this class, that of its length
   TestTag : (s : Statement) (test : Test) → Mid
   TestLength : (s : Statement) (test : Test) (class : ℕ) → Mid
-  -- the object of the statement fails its test: the same loads
-  FailTag : (s : Statement) (test : Test) → Mid
-  FailLength : (s : Statement) (test : Test) (class : ℕ) → Mid
   -- the test is passed: next comes the load or the store of the field
   Access : (s : Statement) → Mid
   -- the statement makes an object: next comes the load of a fragment's next word, or the exchange of it
@@ -40,16 +37,15 @@ pub data Mid : Type 0 where
   -- the new object has the word x: next comes the store of its length, and then that of its tag
   StoreLength : (s : Statement) (x : ℕ) → Mid
   StoreTag : (s : Statement) (x : ℕ) → Mid
-  -- the object of register s has the byte with this offset, or it hasn't: next comes the load of the object's length
-  HideFits : (d s offset : ℕ) → Mid
-  HideMisses : (d s offset : ℕ) → Mid
+  -- the byte with this offset of the object of register s is to be hidden: next comes the load of the object's length
+  HideLength : (d s offset : ℕ) → Mid
   -- the statement needs a stop: next comes the store of the stop word
   Ask : (s : Statement) → Mid
   -- the mutator has left the epoch, and this statement waits for its answer
   Left : (s : Statement) → Mid
 
 -- a place of the stack: its word, and the offset that stands beside it where the word is an address inside an object
-pub record Slot : Type 0 where
+pub record StackWord : Type 0 where
   pub word : ℕ
   pub offset : ℕ
 
@@ -58,7 +54,7 @@ pub record Slot : Type 0 where
 pub record Actor : Type 0 where
   pub reg : ℕ → ℕ
   pub offset : ℕ → ℕ
-  pub stack : List Slot
+  pub stack : List StackWord
   pub from : ℕ
   pub to : ℕ
   pub script : List Statement
@@ -82,7 +78,7 @@ abbrev pub over : Actor → List Statement → (ℕ → ℕ) → Answer → Acto
 over a rest reg answer = record a { reg = reg; script = rest; told = a.told ++ answer ∷ []; mid = Idle }
 
 -- the same, with these offsets beside the registers and this stack
-abbrev pub over_with : Actor → List Statement → (ℕ → ℕ) → (ℕ → ℕ) → List Slot → Answer → Actor
+abbrev pub over_with : Actor → List Statement → (ℕ → ℕ) → (ℕ → ℕ) → List StackWord → Answer → Actor
 over_with a rest reg offset stack answer = record a { reg = reg; offset = offset; stack = stack; script = rest; told = a.told ++ answer ∷ []; mid = Idle }
 
 -- the mutator has this buffer
@@ -100,7 +96,7 @@ abbrev pub reference_answer : ℕ → Answer
 reference_answer v = if v == 0 then Nil else At v
 
 -- what a claim of n words at the word `next` of fragment f takes: the smaller of the rest and the greater of n and the setting
-abbrev pub taken : Program → Layout → ℕ → ℕ → ℕ → ℕ
+abbrev pub taken : Program → Constants → ℕ → ℕ → ℕ → ℕ
 taken p lay f next n = min (lay.limit f - next) (max n p.config.buffer)
 
 -- the number of the word of the object in a register
@@ -115,25 +111,23 @@ hides_none a rest d answer = over_with a rest (put a.reg d 0) (put a.offset d 0)
 abbrev pub unhidden : Actor → ℕ → ℕ
 unhidden a s = if a.reg s == 0 then 0 else a.reg s - a.offset s
 
+-- where a mutator stands that looks for a fragment with room from f on: there is one more, or it asks for a stop
+abbrev pub looking : Constants → Statement → ℕ → Mid
+looking lay s f = if nat_lt f lay.fragments then Look s f else Ask s
+
 -- this step comes next, it decides the statement or not, and then the mutator is so
-pub data Comes (p : Program) (lay : Layout) : Actor → Step → Bool → Actor → Type 0 where
-  -- the object test: no object; an object with such a field; an object without
-  test_null : (a : Actor) (s : Statement) (rest : List Statement) (test : Test) (x tag len : ℕ) → test_of s ≡ Some test → a.reg test.register ≡ 0 →
-      Comes p lay (before a s rest) (Begin 0 x tag len) true (over a rest (cleared s a.reg) Null)
-  test_begins : (a : Actor) (s : Statement) (rest : List Statement) (test : Test) (class len : ℕ) → test_of s ≡ Some test → a.reg test.register ≢ 0 →
-      has_field test.sort (kind_of p class) len test.field ≡ true →
-      Comes p lay (before a s rest) (Begin 0 (object_in a test.register) (plain_word class) len) false (within a rest (TestTag s test))
-  test_fails : (a : Actor) (s : Statement) (rest : List Statement) (test : Test) (class len : ℕ) → test_of s ≡ Some test → a.reg test.register ≢ 0 →
-      has_field test.sort (kind_of p class) len test.field ≡ false →
-      Comes p lay (before a s rest) (Begin 0 (object_in a test.register) (plain_word class) len) true (within a rest (FailTag s test))
+pub data Comes (p : Program) (lay : Constants) : Actor → Step → Bool → Actor → Type 0 where
+  -- the object test: no object, or else the loads of its tag and of its length; with the length the object has such a field or it hasn't
+  test_null : (a : Actor) (s : Statement) (rest : List Statement) (test : Test) → test_of s ≡ Some test → a.reg test.register ≡ 0 →
+      Comes p lay (before a s rest) (Load Stop 0) true (over a rest (cleared s a.reg) Null)
+  test_begins : (a : Actor) (s : Statement) (rest : List Statement) (test : Test) → test_of s ≡ Some test → a.reg test.register ≢ 0 →
+      Comes p lay (before a s rest) (Load Stop 0) false (within a rest (TestTag s test))
   loads_tag : (a : Actor) (s : Statement) (rest : List Statement) (test : Test) (class : ℕ) →
       Comes p lay (within a rest (TestTag s test)) (Load (Word (object_in a test.register)) (plain_word class)) false (within a rest (TestLength s test class))
   loads_length : (a : Actor) (s : Statement) (rest : List Statement) (test : Test) (class len : ℕ) → has_field test.sort (kind_of p class) len test.field ≡ true →
       Comes p lay (within a rest (TestLength s test class)) (Load (Word (object_in a test.register + 1)) len) false (within a rest (Access s))
-  fails_tag : (a : Actor) (s : Statement) (rest : List Statement) (test : Test) (class : ℕ) →
-      Comes p lay (within a rest (FailTag s test)) (Load (Word (object_in a test.register)) (plain_word class)) false (within a rest (FailLength s test class))
-  fails_length : (a : Actor) (s : Statement) (rest : List Statement) (test : Test) (class len : ℕ) → has_field test.sort (kind_of p class) len test.field ≡ false →
-      Comes p lay (within a rest (FailLength s test class)) (Load (Word (object_in a test.register + 1)) len) false (over a rest (cleared s a.reg) Field)
+  test_fails : (a : Actor) (s : Statement) (rest : List Statement) (test : Test) (class len : ℕ) → has_field test.sort (kind_of p class) len test.field ≡ false →
+      Comes p lay (within a rest (TestLength s test class)) (Load (Word (object_in a test.register + 1)) len) true (over a rest (cleared s a.reg) Field)
   -- the load or the store of the field
   put_stores : (a : Actor) (rest : List Statement) (r i s : ℕ) →
       Comes p lay (within a rest (Access (Put r i s))) (Store (Word (object_in a r + 2 + i)) (a.reg s)) true (over a rest a.reg Fine)
@@ -144,50 +138,43 @@ pub data Comes (p : Program) (lay : Layout) : Actor → Step → Bool → Actor 
   getd_loads : (a : Actor) (rest : List Statement) (d r i v : ℕ) →
       Comes p lay (within a rest (Access (GetD d r i))) (Load (Word (object_in a r + 2 + i)) v) true (over a rest (put a.reg d v) (Number v))
   -- a number
-  num_sets : (a : Actor) (rest : List Statement) (d n x tag len : ℕ) → Comes p lay (before a (Num d n) rest) (Begin 0 x tag len) true (over a rest (put a.reg d n) Fine)
+  num_sets : (a : Actor) (rest : List Statement) (d n : ℕ) → Comes p lay (before a (Num d n) rest) (Load Stop 0) true (over a rest (put a.reg d n) Fine)
   -- no object
-  drop_clears : (a : Actor) (rest : List Statement) (r x tag len : ℕ) → Comes p lay (before a (Drop r) rest) (Begin 0 x tag len) true (over a rest (put a.reg r 0) Fine)
+  drop_clears : (a : Actor) (rest : List Statement) (r : ℕ) → Comes p lay (before a (Drop r) rest) (Load Stop 0) true (over a rest (put a.reg r 0) Fine)
   -- what a register holds goes into another one, onto the stack, or back from it
-  move_sets : (a : Actor) (rest : List Statement) (d s x tag len : ℕ) →
-      Comes p lay (before a (Move d s) rest) (Begin 0 x tag len) true (over_with a rest (put a.reg d (a.reg s)) (put a.offset d (a.offset s)) a.stack Fine)
-  push_sets : (a : Actor) (rest : List Statement) (r x tag len : ℕ) →
-      Comes p lay (before a (Push r) rest) (Begin 0 x tag len) true (over_with a rest a.reg a.offset (record { word = a.reg r; offset = a.offset r } ∷ a.stack) Fine)
-  pop_sets : (a : Actor) (rest : List Statement) (r x tag len : ℕ) (top : Slot) (stack : List Slot) → a.stack ≡ top ∷ stack →
-      Comes p lay (before a (Pop r) rest) (Begin 0 x tag len) true (over_with a rest (put a.reg r top.word) (put a.offset r top.offset) stack Fine)
-  -- an address inside an object: no object; an object that has the byte; an object that hasn't
-  hide_null : (a : Actor) (rest : List Statement) (d s offset x tag len : ℕ) → a.reg s ≡ 0 →
-      Comes p lay (before a (Hide d s offset) rest) (Begin 0 x tag len) true (hides_none a rest d Null)
-  hide_begins : (a : Actor) (rest : List Statement) (d s offset class len : ℕ) → a.reg s ≢ 0 → offset < byte_at (words_for len) →
-      Comes p lay (before a (Hide d s offset) rest) (Begin 0 (object_in a s) (plain_word class) len) true (within a rest (HideFits d s offset))
-  hide_fails : (a : Actor) (rest : List Statement) (d s offset class len : ℕ) → a.reg s ≢ 0 → byte_at (words_for len) ≤ offset →
-      Comes p lay (before a (Hide d s offset) rest) (Begin 0 (object_in a s) (plain_word class) len) true (within a rest (HideMisses d s offset))
+  move_sets : (a : Actor) (rest : List Statement) (d s : ℕ) →
+      Comes p lay (before a (Move d s) rest) (Load Stop 0) true (over_with a rest (put a.reg d (a.reg s)) (put a.offset d (a.offset s)) a.stack Fine)
+  push_sets : (a : Actor) (rest : List Statement) (r : ℕ) →
+      Comes p lay (before a (Push r) rest) (Load Stop 0) true (over_with a rest a.reg a.offset (record { word = a.reg r; offset = a.offset r } ∷ a.stack) Fine)
+  pop_sets : (a : Actor) (rest : List Statement) (r : ℕ) (top : StackWord) (stack : List StackWord) → a.stack ≡ top ∷ stack →
+      Comes p lay (before a (Pop r) rest) (Load Stop 0) true (over_with a rest (put a.reg r top.word) (put a.offset r top.offset) stack Fine)
+  -- an address inside an object: no object, or else the load of its length, by which it has the byte or it hasn't
+  hide_null : (a : Actor) (rest : List Statement) (d s offset : ℕ) → a.reg s ≡ 0 →
+      Comes p lay (before a (Hide d s offset) rest) (Load Stop 0) true (hides_none a rest d Null)
+  hide_begins : (a : Actor) (rest : List Statement) (d s offset : ℕ) → a.reg s ≢ 0 →
+      Comes p lay (before a (Hide d s offset) rest) (Load Stop 0) false (within a rest (HideLength d s offset))
   hide_fits : (a : Actor) (rest : List Statement) (d s offset len : ℕ) → offset < byte_at (words_for len) →
-      Comes p lay (within a rest (HideFits d s offset)) (Load (Word (object_in a s + 1)) len) false
+      Comes p lay (within a rest (HideLength d s offset)) (Load (Word (object_in a s + 1)) len) true
       (over_with a rest (put a.reg d (a.reg s + offset)) (put a.offset d offset) a.stack Fine)
   hide_misses : (a : Actor) (rest : List Statement) (d s offset len : ℕ) → byte_at (words_for len) ≤ offset →
-      Comes p lay (within a rest (HideMisses d s offset)) (Load (Word (object_in a s + 1)) len) false (hides_none a rest d Field)
+      Comes p lay (within a rest (HideLength d s offset)) (Load (Word (object_in a s + 1)) len) true (hides_none a rest d Field)
   -- and back
-  unhide_sets : (a : Actor) (rest : List Statement) (d s x tag len : ℕ) →
-      Comes p lay (before a (Unhide d s) rest) (Begin 0 x tag len) true (over a rest (put a.reg d (unhidden a s)) (reference_answer (unhidden a s)))
+  unhide_sets : (a : Actor) (rest : List Statement) (d s : ℕ) →
+      Comes p lay (before a (Unhide d s) rest) (Load Stop 0) true (over a rest (put a.reg d (unhidden a s)) (reference_answer (unhidden a s)))
   -- two registers are compared
-  same_tells : (a : Actor) (rest : List Statement) (r s x tag len : ℕ) →
-      Comes p lay (before a (Same r s) rest) (Begin 0 x tag len) true (over a rest a.reg (if a.reg r == a.reg s then Yes else No))
+  same_tells : (a : Actor) (rest : List Statement) (r s : ℕ) →
+      Comes p lay (before a (Same r s) rest) (Load Stop 0) true (over a rest a.reg (if a.reg r == a.reg s then Yes else No))
   -- a new object: from the buffer, or from the lowest fragment that has room
-  new_bumps : (a : Actor) (s : Statement) (rest : List Statement) (x tag len : ℕ) → IsMaking s → a.from + made_words p s ≤ a.to →
-      Comes p lay (before a s rest) (Begin 0 x tag len) true (within (owning a (a.from + made_words p s) a.to) rest (StoreLength s a.from))
-  new_looks : (a : Actor) (s : Statement) (rest : List Statement) (x tag len : ℕ) → IsMaking s → a.to < a.from + made_words p s → 0 < lay.fragments →
-      Comes p lay (before a s rest) (Begin 0 x tag len) false (within a rest (Look s 0))
+  new_bumps : (a : Actor) (s : Statement) (rest : List Statement) → IsMaking s → a.from + made_words p s ≤ a.to →
+      Comes p lay (before a s rest) (Load Stop 0) true (within (owning a (a.from + made_words p s) a.to) rest (StoreLength s a.from))
+  new_looks : (a : Actor) (s : Statement) (rest : List Statement) → IsMaking s → a.to < a.from + made_words p s →
+      Comes p lay (before a s rest) (Load Stop 0) false (within a rest (looking lay s 0))
   look_finds : (a : Actor) (s : Statement) (rest : List Statement) (f next : ℕ) → next + made_words p s ≤ lay.limit f →
       Comes p lay (within a rest (Look s f)) (Load (Next f) (byte_at next)) false (within a rest (Claim s f next))
-  look_goes_on : (a : Actor) (s : Statement) (rest : List Statement) (f next : ℕ) → lay.limit f < next + made_words p s → f + 1 < lay.fragments →
-      Comes p lay (within a rest (Look s f)) (Load (Next f) (byte_at next)) false (within a rest (Look s (f + 1)))
-  -- there is no room: the mutator asks for it
-  look_ends : (a : Actor) (s : Statement) (rest : List Statement) (f next : ℕ) → lay.limit f < next + made_words p s → lay.fragments ≤ f + 1 →
-      Comes p lay (within a rest (Look s f)) (Load (Next f) (byte_at next)) false (within a rest (Ask s))
-  new_asks : (a : Actor) (s : Statement) (rest : List Statement) (x tag len : ℕ) → IsMaking s → a.to < a.from + made_words p s → lay.fragments ≡ 0 →
-      Comes p lay (before a s rest) (Begin 0 x tag len) false (within a rest (Ask s))
+  look_goes_on : (a : Actor) (s : Statement) (rest : List Statement) (f next : ℕ) → lay.limit f < next + made_words p s →
+      Comes p lay (within a rest (Look s f)) (Load (Next f) (byte_at next)) false (within a rest (looking lay s (f + 1)))
   -- a collection: the mutator asks for it
-  minor_asks : (a : Actor) (rest : List Statement) (x tag len : ℕ) → Comes p lay (before a (Collect false) rest) (Begin 0 x tag len) false (within a rest (Ask (Collect false)))
+  minor_asks : (a : Actor) (rest : List Statement) → Comes p lay (before a (Collect false) rest) (Load Stop 0) false (within a rest (Ask (Collect false)))
   -- who asks sets the stop word and leaves
   asks : (a : Actor) (rest : List Statement) (s : Statement) → Comes p lay (within a rest (Ask s)) (Store Stop 1) false (within a rest (Left s))
   claim_wins : (a : Actor) (s : Statement) (rest : List Statement) (f next : ℕ) →
@@ -199,12 +186,12 @@ pub data Comes (p : Program) (lay : Layout) : Actor → Step → Bool → Actor 
       Comes p lay (within a rest (StoreTag s x)) (Store (Word x) (plain_word (made_class s))) false (over a rest (put a.reg (made_in s) (byte_at x)) (At (byte_at x)))
 
 -- these steps are the next ones of a mutator, which is `last` after them
-abbrev pub Follows : Program → Layout → Actor → List Tick → Actor → Type 0
+abbrev pub Follows : Program → Constants → Actor → List Tick → Actor → Type 0
 Follows p lay a [] last = last ≡ a
 Follows p lay a (t ∷ ts) last = (mid : Actor) × Comes p lay a t.step t.decides mid × Follows p lay mid ts last
 
 -- a, on the words w, takes next steps of its program, and so becomes b and leaves the words v
-pub record Went (p : Program) (lay : Layout) (a : Actor) (w : Words) (b : Actor) (v : Words) : Type 0 where
+pub record Went (p : Program) (lay : Constants) (a : Actor) (w : Words) (b : Actor) (v : Words) : Type 0 where
   pub ticks : List Tick
   pub legal : Legal w ticks
   pub after : v ≡ after w ticks

@@ -3,4 +3,3 @@ pub mod Pair
 pub mod Placed
 pub mod Reached
 pub mod Told
-pub mod Fragments

@@ -6,3 +6,4 @@ pub mod Pieces
 pub mod Lists
 pub mod Reach
 pub mod Sections
+pub mod Objects

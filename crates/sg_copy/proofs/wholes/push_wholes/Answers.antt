@@ -3,7 +3,7 @@ use Rattle.std.proofs.lemmas.List.{append_assoc}
 use Rattle.sg_words.specs.Address.{word_at}
 use Rattle.sg_copy.specs.Copying.{fields_of, fields_of_all}
 use Rattle.sg_copy.proofs.Running.{begins_at}
-use Rattle.sg_copy.proofs.Members.{in-dropped}
+use Rattle.sg_words.proofs.Members.{in-dropped}
 use Rattle.sg_copy.proofs.wholes.push_wholes.Goals as goal
 
 pub push_whole-requires-clause-pinned : goal.push_whole-requires-clause-pinned

@@ -2,7 +2,7 @@ use Rattle.std.proofs.Common.{◌≡◌, ◌≢◌, ℕ, ◌+◌, ◌*◌, ◌<�
 use Rattle.sg_words.specs.Address.{byte_at, word_at}
 use Rattle.sg_words.specs.Sections.{old_base, large_base}
 use Rattle.sg_space.specs.Standing.{word}
-use Rattle.sg_copy.proofs.Handled.{moved_front, moved_word}
+use Rattle.sg_words.proofs.Numbers.{whole-plus, word_at-plus}
 use Rattle.sg_minor.proofs.OldSlots.{IsBorder, IsSeeded, met_class, met_few, met_inside, met_next, met_end, met_zero, met_last, met_first}
 use Rattle.sg_minor.proofs.seeds.add_old.Goals as goal
 
@@ -52,9 +52,9 @@ loop-at-preserved c =
     let x = word_at at in
     let l = below (large_base s.layout) at c.get.result c.large_base-end.result c.loop-at.invariant.whole c.get.ensures.value (c.large_base-end.ensures ∙ ap (λ l. 8 * large_base l) c.layout.ensures) c.loop-at-test.true in
     let is = c.in_ok-fields.ensures.fields in
-    let place : word_at c.plus-at.result ≡ x + (word s (x + 1) + 2) = ap word_at c.plus-at.ensures ∙ moved_word at c.in_ok-fields.fields ∙ ap (λ (z : ℕ). x + (z + 2)) is in
+    let place : word_at c.plus-at.result ≡ x + (word s (x + 1) + 2) = ap word_at c.plus-at.ensures ∙ word_at-plus at (c.in_ok-fields.fields + 2) ∙ ap (λ (z : ℕ). x + (z + 2)) is in
     record {
-      whole = subst (λ (z : ℕ). byte_at (word_at z) ≡ z) (sym c.plus-at.ensures) (moved_front at c.in_ok-fields.fields c.loop-at.invariant.whole);
+      whole = subst (λ (z : ℕ). byte_at (word_at z) ≡ z) (sym c.plus-at.ensures) (whole-plus at (c.in_ok-fields.fields + 2) c.loop-at.invariant.whole);
       seeded = λ p g b heap. subst (λ (z : ℕ). IsSeeded p s g b z (map word_at c.args.slots.now.items) (map word_at c.add_object.new.slots.items)) (sym place)
           (met_next p s g b heap c.requires.contents x _ _ _ (c.loop-at.invariant.seeded p g b heap) l (λ z. c.if-read-ne0.true (c.read.ensures.value ∙ z)) c.in_ok-fields.ensures.grown);
     }

@@ -1,6 +1,6 @@
 use Rattle.std.proofs.Common.{sym}
 use Rattle.sg_space.specs.Standing.{word}
-use Rattle.sg_copy.proofs.Hand.{still_on}
+use Rattle.sg_copy.specs.Copying.{still_on}
 use Rattle.sg_minor.proofs.Cleaning.{cleaned_next}
 use Rattle.sg_minor.proofs.Tagged.{contents_still}
 use Rattle.sg_minor.proofs.sweep.clean.Goals as goal

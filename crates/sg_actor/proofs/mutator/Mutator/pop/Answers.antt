@@ -11,6 +11,6 @@ returns-clause-went c p lay w rest going =
     let items = c.pop.new.self.items in
     let top = c.in-Some.top in
     went_at_once p lay a rest w going (Pop c.args.r) _ _
-    (λ x tag len. pop_sets a rest c.args.r x tag len (slot_of top) (reverse (map slot_of items))
+    (pop_sets a rest c.args.r (slot_of top) (reverse (map slot_of items))
     (ap (λ y. reverse (map slot_of y)) c.in-Some.ensures.items ∙ put_on_top items top))
     (c.tell_inner.ensures.told rest)

@@ -3,7 +3,7 @@ use Rattle.sg_program.specs.declared.program.Statement.TheVariants.{Collect}
 use Rattle.sg_program.specs.declared.answers.Request.TheVariants.{Minor}
 use Rattle.sg_space.specs.Space.{words_of}
 use Rattle.sg_rules.specs.Rules.{within, Left, Went}
-use Rattle.sg_actor.specs.Views.{layout_of, actor_of, IsRequestOf}
+use Rattle.sg_actor.specs.Views.{constants_of, actor_of, IsRequestOf}
 use Rattle.sg_actor.proofs.Steps.{went_minor, went_leaves}
 use Rattle.sg_actor.proofs.mutator.Mutator.step.Goals as goal
 
@@ -12,7 +12,7 @@ returns-in-Collect-false-clause-done c =
     let p = c.args.program.now in
     let s = c.args.space.now in
     let m = c.args.self.now in
-    let lay = layout_of s in
+    let lay = constants_of s in
     let is : c.args.statement ≡ Collect false = c.in-Collect-false.is ∙ ap (λ b. Collect b) c.in-Collect-false.major-test in
     record {
       went = λ rest. let a = actor_of m rest in

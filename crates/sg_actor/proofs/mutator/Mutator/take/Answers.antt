@@ -1,8 +1,7 @@
-use Rattle.std.proofs.Common.{◌≤◌, ◌+◌, length, inl, inr, refl, arith}
-use Rattle.std.proofs.lemmas.Bool.{cases_eq}
+use Rattle.std.proofs.Common.{◌≤◌, ◌+◌, refl, arith}
 use Rattle.sg_space.specs.Space.{words_of}
-use Rattle.sg_actor.specs.Views.{layout_of, actor_of}
-use Rattle.sg_actor.proofs.Steps.{went_none, went_bumps, went_looks, went_asks, went_then}
+use Rattle.sg_actor.specs.Views.{constants_of, actor_of}
+use Rattle.sg_actor.proofs.Steps.{went_bumps, went_looks, went_then}
 use Rattle.sg_actor.proofs.mutator.Mutator.take.Goals as goal
 
 pub returns-then-words-saturating_sub-clause-went : goal.returns-then-words-saturating_sub-clause-went
@@ -12,7 +11,7 @@ returns-then-words-saturating_sub-clause-went c =
     let fits : m.from + c.args.words ≤ m.to = omega (arith, c.saturating_sub.ensures, c.if-words-saturating_sub.true, c.requires.some) in
     let lies = c.requires.buffer (omega (arith, c.requires.some)) in
     record {
-      went = λ rest making is e. went_bumps c.args.program.now (layout_of s) (actor_of m rest) rest (words_of s) c.requires.going making c.args.words is e fits;
+      went = λ rest making is e. went_bumps c.args.program.now (constants_of s) (actor_of m rest) rest (words_of s) c.requires.going making c.args.words is e fits;
       above = lies.0;
       inside = omega (arith, lies.1);
       answers = refl;
@@ -25,12 +24,8 @@ returns-in_default-clause-went c =
     let m = c.args.self.now in
     let found = c.in_default.ensures.none in
     record {
-      went = λ rest making is e. elim (cases_eq (length s.ends) 0) [
-        | inl none ↦ went_asks c.args.program.now (layout_of s) (actor_of m rest) rest (words_of s) c.requires.going making c.args.words is e _ _ (omega (arith, c.saturating_sub.ensures)) none
-            (went_none c.args.program.now (layout_of s) _ _ _ _ refl refl)
-        | inr some ↦ went_looks c.args.program.now (layout_of s) (actor_of m rest) rest (words_of s) c.requires.going making c.args.words is e _ _ (omega (arith, c.saturating_sub.ensures)) (omega arith)
-            (found.went (omega arith) c.args.program.now (actor_of m rest) rest making e)
-      ];
+      went = λ rest making is e. went_looks c.args.program.now (constants_of s) (actor_of m rest) rest (words_of s) c.requires.going making c.args.words is e _ _ (omega (arith, c.saturating_sub.ensures))
+          (found.went c.args.program.now (actor_of m rest) rest making e);
       space = refl;
       mutator = refl;
     }
@@ -42,8 +37,8 @@ returns-clause-went c =
     let room = c.in-Some.room in
     let found = c.in-Some.ensures.found in
     record {
-      went = λ rest making is e. went_looks c.args.program.now (layout_of s) (actor_of m rest) rest (words_of s) c.requires.going making c.args.words is e _ _ (omega (arith, c.saturating_sub.ensures)) (omega (arith, found.there))
-          (went_then c.args.program.now (layout_of s) _ _ _ _ _ _ (found.went c.args.program.now (actor_of m rest) rest making e) (c.claim.ensures.went rest making e));
+      went = λ rest making is e. went_looks c.args.program.now (constants_of s) (actor_of m rest) rest (words_of s) c.requires.going making c.args.words is e _ _ (omega (arith, c.saturating_sub.ensures))
+          (went_then c.args.program.now (constants_of s) _ _ _ _ _ _ (found.went c.args.program.now (actor_of m rest) rest making e) (c.claim.ensures.went rest making e));
       above = found.above;
       inside = omega (arith, found.room, c.requires.space.ends room.fragment found.there);
       answers = c.claim.ensures.answers;

@@ -8,10 +8,10 @@ use Rattle.sg_space.specs.Standing.{word}
 use Rattle.sg_copy.specs.Round.{started, IsAfter}
 use Rattle.sg_copy.specs.Image.{IsImage}
 use Rattle.sg_copy.specs.Order.{IsInOrder}
-use Rattle.sg_copy.specs.Copying.{area_of, IsStill}
+use Rattle.sg_copy.specs.Copying.{area_of, IsStill, still_on, area_still}
 use Rattle.sg_copy.proofs.Steps.{at_start}
 use Rattle.sg_copy.proofs.Ends.{at_end}
-use Rattle.sg_copy.proofs.Hand.{still_same, still_on, area_still}
+use Rattle.sg_copy.proofs.Hand.{still_same}
 use Rattle.sg_copy.proofs.Order.{queue-start, queue-on, queue-end}
 use Rattle.sg_copy.proofs.Running.{begins_at, no_moves, no_addresses, slot_within, target_known, next_handles, next, later_todo, later_bound, later_moves, later_fails, measure_is}
 use Rattle.sg_copy.proofs.copier.Copier.run.Goals as goal

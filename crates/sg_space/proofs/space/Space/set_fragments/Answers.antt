@@ -1,5 +1,5 @@
 use Rattle.std.proofs.Common.{◌≡◌, length, arith, ap, sym, ◌∙◌}
-use Rattle.sg_space.proofs.Fragments.{same_count}
+use Rattle.sg_words.proofs.Fragments.{same_count}
 use Rattle.sg_words.specs.Pieces.{fronts_of, ends_of}
 use Rattle.sg_space.proofs.space.Space.set_fragments.Goals as goal
 

@@ -1,0 +1,132 @@
+#!/usr/bin/env python3
+"""Runs the built program on large inputs, each made here, and prints what it took.
+
+  docs/figures/measure.py [NAME..]           a line of a table for each input, or for those that are named
+  docs/figures/measure.py --write FOLDER     writes the inputs as files
+
+Instructions are counted by valgrind (`--tool=callgrind`), where it is on the path: the same on each run of one binary. Seconds
+and memory are of a run without it, the best of three.
+"""
+import os, resource, shutil, subprocess, sys, tempfile, time
+
+TOP = os.path.join(os.path.dirname(os.path.abspath(__file__)), '..', '..')
+PROGRAM = os.path.join(TOP, 'crates', 'sgenlab', 'out', 'sgenlab')
+
+
+def program(settings, classes, script):
+    return 'sgen 1\n' + settings + classes + 'mutator\n' + script + 'end\n'
+
+
+NODE = 'class N map rr.\n'
+
+
+def pauses():
+    return program('nursery 4096\nblocks 4096\n', NODE,
+                   'new r0 N\n' * 12 + ''.join(f'new r{i} N\nput r{i} 0 r{(i + 1) % 16}\n' for i in range(16)) + 'collect minor\n' * 2000)
+
+
+def statements():
+    return program('nursery 65536\n', 'class N map r.\n',
+                   'new r0 N\nnew r1 N\n' + 'put r0 0 r1\nget r2 r0 0\nnum r3 7\nputd r0 1 r3\ngetd r4 r0 1\n' * 16000)
+
+
+def promoted():
+    return program('nursery 4096\nblocks 4096\n', NODE, 'new r0 N\nput r0 0 r1\nnew r1 N\nput r1 1 r0\n' * 12000)
+
+
+def news():
+    return program('nursery 4096\n', NODE, 'repeat 1000\nrepeat 1000\nnew r0 N\nend\nend\n')
+
+
+def one_epoch():
+    return program('', '', 'repeat 1000\nrepeat 1000\nnum r0 7\nend\nend\n')
+
+
+def long_list():
+    return program('nursery 65536\nblocks 4096\n', NODE, 'repeat 87000\nnew r0 N\nput r0 0 r1\nmove r1 r0\nend\n')
+
+
+def wide_objects():
+    return program('', 'class W plain 62\n', 'new r0 W\n' * 60000)
+
+
+def names():
+    return program('', ''.join(f'class Name_of_a_class_number_{i} plain 2\n' for i in range(250)),
+                   ''.join(f'new r{i % 16} Name_of_a_class_number_{i * 7 % 250}\n' for i in range(26000)))
+
+
+def empty_repeats():
+    return program('', '', 'repeat 1048576\n' * 4 + 'end\n' * 4)
+
+
+def nested_repeats():
+    return program('', '', 'repeat 1\n' * 70000 + 'end\n' * 70000)
+
+
+def one_byte_too_long():
+    return '#' * 1048577
+
+
+def line_feeds():
+    return '\n' * 1048500
+
+
+INPUTS = [
+    (pauses, 'a nursery of 4,096 words with 28 objects, and 2,000 `collect minor`'),
+    (statements, '80,002 statements of five sorts, 944,066 bytes'),
+    (promoted, 'a list that is promoted as it grows: 24,000 objects, 48,000 statements'),
+    (news, 'a million `new`s of 5 words by two repeats, over a nursery of 4,096 words'),
+    (one_epoch, 'a million `num`s by two repeats: one epoch'),
+    (long_list, 'a list of 87,000 objects by a repeat, with the largest nursery and major heap'),
+    (wide_objects, '60,000 `new`s of 64 words over the default nursery'),
+    (names, '250 classes with names of 26 bytes, and 26,000 `new`s of them'),
+    (empty_repeats, 'four nested repeats of 1,048,576 over nothing'),
+    (nested_repeats, '70,000 nested repeats: refused, `limit nesting`'),
+    (one_byte_too_long, '1,048,577 bytes: refused, `long`'),
+    (line_feeds, '1,048,500 line feeds: refused, `syntax`'),
+]
+
+
+def timed(data):
+    best = None
+    for _ in range(3):
+        with tempfile.TemporaryFile() as f:
+            f.write(data)
+            f.seek(0)
+            begun = time.perf_counter()
+            child = subprocess.Popen([PROGRAM, 'run'], stdin=f, stdout=subprocess.DEVNULL)
+            _, status, used = os.wait4(child.pid, 0)
+            gone = time.perf_counter() - begun
+        if best is None or gone < best[0]:
+            best = (gone, used.ru_maxrss / 1024)
+    return best
+
+
+def counted(data):
+    if shutil.which('valgrind') is None:
+        return None
+    with tempfile.TemporaryFile() as f:
+        f.write(data)
+        f.seek(0)
+        ran = subprocess.run(['valgrind', '--tool=callgrind', '--callgrind-out-file=/dev/null', PROGRAM, 'run'],
+                             stdin=f, stdout=subprocess.DEVNULL, stderr=subprocess.PIPE)
+    return int(next(line for line in ran.stderr.decode('latin-1').split('\n') if 'Collected' in line).split()[-1])
+
+
+if __name__ == '__main__':
+    args = sys.argv[1:]
+    if args and args[0] == '--write':
+        for make, _ in INPUTS:
+            with open(os.path.join(args[1], make.__name__ + '.sgen'), 'w') as f:
+                f.write(make())
+        sys.exit(0)
+    if not os.access(PROGRAM, os.X_OK):
+        sys.exit('measure.py: the program is missing: ./sgenlab run builds it')
+    print('| Input | | Instructions | Seconds | Memory |\n|---|---|---|---|---|')
+    for make, what in INPUTS:
+        if args and make.__name__ not in args:
+            continue
+        data = make().encode()
+        count, (seconds, memory) = counted(data), timed(data)
+        told = '-' if count is None else f'{count / 1e6:.1f} million'
+        print(f'| `{make.__name__}` | {what} | {told} | {seconds:.2f} s | {memory:.1f} MiB |')
