@@ -11,3 +11,4 @@ pub mod Stops
 pub mod Rounds
 pub mod Texts
 pub mod Placing
+mod Promised
