@@ -16,7 +16,8 @@ use Rattle.sg_program.specs.Tests.{Test}
 use Rattle.sg_graph.specs.Book.{Book, word_of}
 use Rattle.sg_graph.specs.Epoch.{by_address}
 use Rattle.sg_rules.specs.Rules.{Constants, StackWord, Mid, Idle, TestTag, TestLength, Access, Look, Claim, StoreLength, StoreTag, HideLength, Ask, Left, Actor}
-use Rattle.sg_order.specs.Rest.{kinds_in, IsRunnable}
+use Rattle.sg_order.specs.Rest.{kinds_in}
+use Rattle.sg_rules.specs.Resting.{IsRunnable}
 use Rattle.sg_order.specs.Rest.{StandsAt}
 use Rattle.sg_graph.specs.Heap.{IsKnown, IsKnownEntry}
 use Rattle.sg_order.proofs.Relation.{IsGiven, AreGiven, IsMutator, Tight, AsksForRoom, Tested, Placed, AtMid, Keeps, Stacked, Stands, Later}

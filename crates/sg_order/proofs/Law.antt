@@ -18,24 +18,18 @@ use Rattle.sg_graph.specs.Epoch.{Said, Explains, answers_of, by_address}
 use Rattle.sg_words.specs.Lists.{Pairwise}
 use Rattle.sg_graph.specs.Heap.{Owner, Of, Frag, Nobody, IsKnownEntry, IsHeap}
 use Rattle.sg_rules.specs.Rules.{Constants, StackWord, Mid, Left, Actor, fresh, Went}
-use Rattle.sg_order.specs.Rest.{Holds, IsReady, IsHeld, IsEpochOpening, IsRunnable, before_it, IsOver, kinds_in}
+use Rattle.sg_order.specs.Rest.{Holds, IsReady, IsHeld, IsEpochOpening, before_it, IsOver, kinds_in}
+use Rattle.sg_rules.specs.Resting.{IsRunnable}
 use Rattle.sg_order.specs.Rest.{StandsAt}
-use Rattle.sg_order.specs.Opening.{AreFirstConstants, AreFirstWords}
+use Rattle.sg_order.specs.Opening.{AreFirstConstants, AreFirstWords, AreFirstScripts, FirstOpening}
 use Rattle.sg_order.specs.OneOrder.{OneOrder}
 use Rattle.sg_words.proofs.Puts.{put-same, within_range, range-in, range-below}
 use Rattle.sg_order.proofs.Events.{range-was, ticks-own}
 use Rattle.sg_order.proofs.Cases.{by_making}
 use Rattle.sg_order.proofs.Relation.{Ground, IsMutator, Tight, AsksForRoom, AtMid, Stacked, Stands, IsHeading, World}
 use Rattle.sg_order.proofs.Loads.{same_object}
-use Rattle.sg_order.proofs.Whole.{one_by_one, by_one_mutator}
-
--- What one order of whole statements says of the words w in the midst of an epoch that opened with g and b, and of the mutators.
-pub record SoFar (p : Program) (lay : Constants) (g : Graph) (b : Book) (w : Words) (actors : ℕ → Actor) : Type 0 where
-  pub order : List Said
-  pub graph : Graph
-  pub book : Book
-  pub explains : Explains p g b order graph book
-  pub world : World p lay w graph book (λ k. answers_of k order) actors
+use Rattle.sg_order.proofs.Whole.{one_by_one}
+use Rattle.sg_order.proofs.MayDo.{may_do}
 
 -- an epoch opens with every object headed and every mutator between two statements
 pub at_opening : (p : Program) (lay : Constants) (w : Words) (g : Graph) (b : Book) (actors : ℕ → Actor) → IsEpochOpening p lay w g b actors → World p lay w g b (λ _. []) actors
@@ -80,29 +74,6 @@ at_opening p lay w g b actors o = record {
     stacked [] (y ∷ ys) q = absurd q
     stacked (x ∷ xs) [] q = absurd q
     stacked (x ∷ xs) (y ∷ ys) q = (record { holds = q.0; known = known x.offset y q.0.stands }, stacked xs ys q.1)
-
--- mutator k has taken next steps of its program from an epoch's opening on
-pub so_far : (p : Program) (lay : Constants) (w0 : Words) (g : Graph) (b : Book) (actors : ℕ → Actor) (k : ℕ) (a : Actor) (w : Words) → IsEpochOpening p lay w0 g b actors → Went p lay (actors k) w0 a w →
-    SoFar p lay g b w (put actors k a)
-so_far p lay w0 g b actors k a w opening went =
-    let x = by_one_mutator p lay k went.ticks w0 g b (λ _. []) actors a (at_opening p lay w0 g b actors opening) went.legal went.follows in
-    let e : after w0 (ticks (by_one k went.ticks)) ≡ w = ap (after w0) (ticks-own k went.ticks) ∙ sym went.after in
-    let s : x.says ≡ (λ j. answers_of j x.order) = fun_ext x.said_is in
-    record {
-      order = x.order;
-      graph = x.graph;
-      book = x.book;
-      explains = x.explains;
-      world = subst (λ v. World p lay v x.graph x.book (λ j. answers_of j x.order) (put actors k a)) e
-          (subst (λ (says : ℕ → List Answer). World p lay (after w0 (ticks (by_one k went.ticks))) x.graph x.book says (put actors k a)) s x.world);
-    }
-
--- the words and mutator k itself, in the midst of an epoch
-pub ground_so_far : (p : Program) (lay : Constants) (g : Graph) (b : Book) (w : Words) (actors : ℕ → Actor) (so : SoFar p lay g b w actors) → Ground p lay w so.graph so.book so.world.owner
-ground_so_far p lay g b w actors so = so.world.ground
-
-pub stands_so_far : (p : Program) (lay : Constants) (g : Graph) (b : Book) (w : Words) (actors : ℕ → Actor) (k : ℕ) (a : Actor) (so : SoFar p lay g b w (put actors k a)) → Stands p lay w so.graph so.book (λ j. answers_of j so.order) k a
-stands_so_far p lay g b w actors k a so = subst (λ x. Stands p lay w so.graph so.book (λ j. answers_of j so.order) k x) (put-same actors k a) (so.world.stands k)
 
 -- a mutator that is over is where the graph's mutator is
 pub at_rest : (p : Program) (lay : Constants) (w : Words) (g : Graph) (b : Book) (said : ℕ → List Answer) (k : ℕ) (a : Actor) (s : Stands p lay w g b said k a) → IsOver a.mid → IsMutator g said k s.entry (before_it a.mid a.script) s.answers
@@ -192,6 +163,7 @@ is_one_order p lay w g b es actors last opening legal follows =
       explains = x.explains;
       deciding = x.order_is;
       apart = apart_by p lay v x.graph x.book x.world.owner x.world.ground;
+      may = λ k s rest idle script. may_do p lay v x.graph x.book x.says x.world.owner x.world.ground k (last k) (x.world.stands k) s rest idle script;
       answers = λ k over. let s = x.world.stands k in s.told ∙ ap (map (by_address x.book)) (sym (at_rest p lay v x.graph x.book x.says k (last k) s over).says ∙ x.said_is k);
       ready = λ k over. ready_at_rest p lay v x.graph x.book x.says k (last k) (x.world.stands k) over;
       tight = λ k s making e. no_place p lay v x.graph x.book x.says x.world.owner x.world.ground k (last k) (x.world.stands k) s making e;
@@ -202,7 +174,7 @@ is_one_order p lay w g b es actors last opening legal follows =
 first_owner : Program → ℕ → Owner
 first_owner p = within_range (within_range (λ _. Nobody) 0 2 (Of 0)) nursery_base (nursery_end p) (Frag 0)
 
-module _ (p : Program) (lay : Constants) (w : Words) (kinds : (k : ℕ) → FindKinds first_kinds (script_of p k)) (runnable : (k : ℕ) → AllByRecursion (IsRunnable p) (script_of p k)) (first : AreFirstConstants p lay) (opening : AreFirstWords w) where
+module _ (p : Program) (lay : Constants) (w : Words) (scripts : AreFirstScripts p) (first : AreFirstConstants p lay) (opening : AreFirstWords w) where
   nil : (n : ℕ) → (n == 0) ≡ true → n ≡ 0
   nil n q = eqb-true n 0 q
 
@@ -262,7 +234,7 @@ module _ (p : Program) (lay : Constants) (w : Words) (kinds : (k : ℕ) → Find
   }
 
   -- the first epoch of a program
-  pub first_opening : IsEpochOpening p lay w (no_objects p) (empty_book p) (λ k. fresh (script_of p k))
+  first_opening : IsEpochOpening p lay w (no_objects p) (empty_book p) (λ k. fresh (script_of p k))
   first_opening = record {
     held = record {
       owner = first_owner p;
@@ -284,9 +256,12 @@ module _ (p : Program) (lay : Constants) (w : Words) (kinds : (k : ℕ) → Find
       asleep = λ e. let q : false ≡ true = e in cc;
       from_is = refl;
       to_is = refl;
-      kinds = kinds k;
-      runnable = runnable k;
+      kinds = scripts.kinds k;
+      runnable = scripts.runnable k;
     };
     idle = λ k. refl;
     untold = λ k. refl;
   }
+
+pub is_first_opening : FirstOpening
+is_first_opening p lay w scripts first opening = first_opening p lay w scripts first opening

@@ -10,5 +10,7 @@ pub mod Accesses
 pub mod Makes
 pub mod Places
 pub mod Whole
+pub mod MayDo
 pub mod Law
+pub mod SoFar
 pub mod Small

@@ -13,7 +13,8 @@ use Rattle.sg_graph.specs.Graph.{Entry, Ref, Mutator, Graph, grown, advanced}
 use Rattle.sg_graph.specs.Statements.{Does}
 use Rattle.sg_graph.specs.Book.{Book, IsPlaced, Books}
 use Rattle.sg_graph.specs.Pause.{is_pair}
-use Rattle.sg_order.specs.Rest.{kind_of_entry, IsRunnable}
+use Rattle.sg_order.specs.Rest.{kind_of_entry}
+use Rattle.sg_rules.specs.Resting.{IsRunnable}
 use Rattle.sg_words.proofs.Puts.{put-along}
 use Rattle.sg_order.proofs.Cases.{by_making}
 use Rattle.sg_order.proofs.Moves.{kinds_of}

@@ -15,7 +15,8 @@ use Rattle.sg_graph.specs.Epoch.{by_address}
 use Rattle.sg_graph.specs.Invariants.{IsPlain}
 use Rattle.sg_graph.specs.Heap.{Owner, IsKnownEntry, IsLaid}
 use Rattle.sg_rules.specs.Rules.{Constants, StackWord, Mid, Idle, Actor, within, over, over_with}
-use Rattle.sg_order.specs.Rest.{kind_of_entry, kinds_in, IsRunnable}
+use Rattle.sg_order.specs.Rest.{kind_of_entry, kinds_in}
+use Rattle.sg_rules.specs.Resting.{IsRunnable}
 use Rattle.sg_order.specs.Rest.{StandsAt}
 use Rattle.sg_words.proofs.Puts.{put-same, put-other, put-all}
 use Rattle.sg_order.proofs.Frame.{answers_push, given_push, stack_later}

@@ -21,7 +21,8 @@ use Rattle.sg_graph.specs.Pause.{is_pair}
 use Rattle.sg_graph.specs.Invariants.{IsPlain}
 use Rattle.sg_graph.specs.Heap.{Owner, Of, Frag, Buf, IsHeaded, IsKnown, IsKnownEntry, IsOfSort, Objects, Fields}
 use Rattle.sg_rules.specs.Rules.{Constants, Mid, Idle, Claim, StoreLength, StoreTag, Actor, before, within, over, owning, taken}
-use Rattle.sg_order.specs.Rest.{kind_of_entry, IsRunnable}
+use Rattle.sg_order.specs.Rest.{kind_of_entry}
+use Rattle.sg_rules.specs.Resting.{IsRunnable}
 use Rattle.sg_words.proofs.Puts.{put-at, put-same, put-other, put-all, put-along, within_range, range-in, range-below, range-above, range-keeps}
 use Rattle.sg_order.proofs.Events.{range-was}
 use Rattle.sg_order.proofs.Frame.{answers_later, answers_push, given_later, given_push, entry_later, offset_later, stack_later}

@@ -19,7 +19,8 @@ use Rattle.sg_words.specs.Lists.{Pairwise}
 use Rattle.sg_graph.specs.Invariants.{IsPlain}
 use Rattle.sg_graph.specs.Heap.{Owner, IsHeaded, IsKnown, IsKnownEntry, IsLaid}
 use Rattle.sg_rules.specs.Rules.{Constants, StackWord, Mid, Idle, TestTag, TestLength, Access, Look, Claim, StoreLength, StoreTag, HideLength, Ask, Left, Actor}
-use Rattle.sg_order.specs.Rest.{kinds_in, Holds, IsRunnable}
+use Rattle.sg_order.specs.Rest.{kinds_in, Holds}
+use Rattle.sg_rules.specs.Resting.{IsRunnable}
 use Rattle.sg_order.specs.Rest.{StandsAt}
 
 -- what no mutator's private state enters into: the words hold the graph, and the fragments are the book's

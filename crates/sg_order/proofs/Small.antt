@@ -10,7 +10,7 @@ use Rattle.sg_program.specs.declared.program.Program.{Program}
 use Rattle.sg_program.specs.Scripts.{shape_at, fields_of, made_fields}
 use Rattle.sg_program.specs.Limits.{MayHave}
 use Rattle.sg_program.specs.Invariants.{IsSmallClass, IsGood, IsBuilt}
-use Rattle.sg_order.specs.Rest.{IsRunnable}
+use Rattle.sg_rules.specs.Resting.{IsRunnable}
 
 few : (kind : Descriptor) (n : ℕ) → MayHave kind n → n ≤ 62
 few PtrFree n m = m

@@ -156,12 +156,3 @@ one_by_one p lay (e ∷ es) w g b said actors last wo legal follows =
     })
     legal.1
     (put-all (λ j a. Follows p lay a (part j es) (last j)) actors k a' mine.2 (λ j n. subst (λ q. Follows p lay (actors j) q (last j)) (part-other j e es n) (follows j))))
-
--- the steps of one mutator
-pub by_one_mutator : (p : Program) (lay : Constants) (k : ℕ) (ts : List Tick) (w : Words) (g : Graph) (b : Book) (said : ℕ → List Answer) (actors : ℕ → Actor) (a : Actor) → World p lay w g b said actors → Legal w ts →
-    Follows p lay (actors k) ts a → Explained p lay (by_one k ts) w g b said (put actors k a)
-by_one_mutator p lay k ts w g b said actors a wo legal follows =
-    one_by_one p lay (by_one k ts) w g b said actors (put actors k a) wo (subst (λ s. Legal w s) (sym (ticks-own k ts)) legal)
-    (put-all (λ j x. Follows p lay (actors j) (part j (by_one k ts)) x) actors k a
-    (subst (λ q. Follows p lay (actors k) q a) (sym (part-own k ts)) follows)
-    (λ j n. subst (λ q. Follows p lay (actors j) q (actors j)) (sym (part-none j k ts n)) refl))

@@ -5,15 +5,16 @@ use Rattle.sg_words.specs.Address.{byte_at}
 use Rattle.sg_words.specs.Words.{Words}
 use Rattle.sg_program.specs.declared.program.Statement.{Statement}
 use Rattle.sg_program.specs.declared.program.Program.{Program}
-use Rattle.sg_program.specs.Scripts.{words_for, made_fields}
+use Rattle.sg_program.specs.Scripts.{words_for}
 use Rattle.sg_program.specs.Kinds.{Kind, IsRef, IsInt, IsInner, Kinds}
-use Rattle.sg_program.specs.Invariants.{FindKinds, IsGood, IsBuilt}
+use Rattle.sg_program.specs.Invariants.{FindKinds}
 use Rattle.sg_graph.specs.Graph.{Entry, Ref, Int, Inner, Mutator, Graph}
 use Rattle.sg_graph.specs.Book.{Book, word_of}
 use Rattle.sg_words.specs.Lists.{Pairwise}
 use Rattle.sg_graph.specs.Invariants.{IsPlain}
 use Rattle.sg_graph.specs.Heap.{Owner, IsHeap}
 use Rattle.sg_rules.specs.Rules.{Constants, StackWord, Actor, Mid, Idle, Left}
+use Rattle.sg_rules.specs.Resting.{IsRunnable}
 
 abbrev pub kind_of_entry : Entry → Kind
 kind_of_entry (Ref n) = IsRef
@@ -35,12 +36,6 @@ StandsAt g b offset (Inner n o) = (b.stands n ≡ true) × (offset ≡ o) × (((
 pub record Holds (g : Graph) (b : Book) (word offset : ℕ) (entry : Entry) : Type 0 where
   pub word_is : word ≡ word_of b.address entry
   pub stands : StandsAt g b offset entry
-
--- a statement of the program that is run now: an object that it makes is small
-pub record IsRunnable (p : Program) (s : Statement) : Type 0 where
-  pub good : IsGood p s
-  pub run : IsBuilt p s
-  pub small : made_fields p s ≤ 62
 
 -- mutator k between two statements, with these before it: its registers and its stack hold what the graph says, and what they
 -- refer to stands; it has ended only where no statement is left; its buffer is the book's; the kinds of its operands are right,

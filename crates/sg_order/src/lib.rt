@@ -1,7 +1,7 @@
-//! What the atomic steps of mutators say of whole statements: the steps that each mutator takes, how the words stand to the
-//! heap of named objects, and the law of one order.
+//! What the atomic steps of mutators say of whole statements: how the words stand to the heap of named objects between two
+//! statements, and the laws of one order. No function does anything: each has a law for its contract.
 #![tactic(auto)]
 
 mod order;
 
-pub use order::one_order;
+pub use order::{first_opening, goes_so_far, one_order, opens_so_far, orders_so_far};
