@@ -67,6 +67,14 @@ module _ (left : Option (List ℕ)) (old new : Ends) where
       by_left None = tt
       by_left (Some input) = λ _. inl takes
 
+  -- and of the text of the run that hasn't begun
+  pub nothing_yet : ((piece : List ℕ) → TakesSome old.taken new.taken piece) → IfSome left (λ input. IsAccepted input → WritesFront Run input old new)
+  nothing_yet takes = by_left left
+    where
+      by_left : (left : Option (List ℕ)) → IfSome left (λ input. IsAccepted input → WritesFront Run input old new)
+      by_left None = tt
+      by_left (Some input) = λ a. (text [], (a.0, [], a.1, empty_run a.0, refl), takes (text []))
+
 -- where the input is accepted, nothing is asked for others
 pub accepted_else : (left : Option (List ℕ)) (p : Program) (X : List ℕ → Type 0) → IfSome left (λ input. IsAcceptedAs input p) → IfSome left (λ input. ¬ IsAccepted input → X input)
 accepted_else None p X found = found
