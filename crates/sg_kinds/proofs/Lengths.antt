@@ -7,11 +7,12 @@ use Rattle.sg_program.specs.declared.program.Statement.{Statement}
 use Rattle.sg_program.specs.declared.program.Item.{Item, roll-Item, map-Item, ind-Item, fold-roll-Item}
 use Rattle.sg_program.specs.declared.program.Item.TheOpen.{Item-F, One, Repeat}
 use Rattle.sg_program.specs.Scripts.{repeated, statements_of, texts_of, item_out, written_out, item_text, written}
+use Rattle.sg_program.specs.Limits.{most_times}
 use Rattle.sg_program.specs.Invariants.{times_step, item_times}
-use Rattle.sg_program.proofs.Runs.{all_first, all_second}
+use Rattle.sg_words.proofs.Everywhere.{all_front, all_back}
 
 abbrev IsTimes : ℕ → Type 0
-IsTimes n = (1 ≤ n) × (n ≤ 1048576)
+IsTimes n = (1 ≤ n) × (n ≤ most_times)
 
 abbrev IsLonger : Item → Type 0
 IsLonger item = AllByRecursion IsTimes (item_times item) → length (item_text item) ≤ length (item_out item)
@@ -28,8 +29,8 @@ longer_body : (body : List ((item : Item) × IsLonger item)) → AllByRecursion 
 longer_body [] h = omega arith
 longer_body (e ∷ body) h =
     let rest = map item_of body in
-    let first = e.1 (all_first IsTimes (item_times e.0) (flat_map item_times rest) h) in
-    let behind = longer_body body (all_second IsTimes (item_times e.0) (flat_map item_times rest) h) in
+    let first = e.1 (all_front IsTimes (item_times e.0) (flat_map item_times rest) h) in
+    let behind = longer_body body (all_back IsTimes (item_times e.0) (flat_map item_times rest) h) in
     omega (arith, length-append (item_text e.0) (written rest), length-append (item_out e.0) (written_out rest))
 
 longer_layer : (y : Item-F ((item : Item) × IsLonger item)) → IsLonger (roll-Item (map-Item _ _ item_of y))
@@ -51,6 +52,6 @@ longer_item = ind-Item IsLonger (λ x y is. subst (λ z. IsLonger (roll-Item z))
 pub longer : (items : List Item) → AllByRecursion IsTimes (flat_map item_times items) → length (written items) ≤ length (written_out items)
 longer [] h = omega arith
 longer (item ∷ items) h =
-    let first = longer_item item (all_first IsTimes (item_times item) (flat_map item_times items) h) in
-    let behind = longer items (all_second IsTimes (item_times item) (flat_map item_times items) h) in
+    let first = longer_item item (all_front IsTimes (item_times item) (flat_map item_times items) h) in
+    let behind = longer items (all_back IsTimes (item_times item) (flat_map item_times items) h) in
     omega (arith, length-append (item_text item) (written items), length-append (item_out item) (written_out items))

@@ -3,15 +3,23 @@ use Rattle.std.proofs.Common.{◌≡◌, ℕ, zero, suc, ◌+◌, ◌-◌, ◌<�
 use Rattle.std.specs.List.{AllByRecursion}
 use Rattle.std.proofs.lemmas.List.{length-append, append-nil, take_more, take_all, take-append-drop}
 use Rattle.std.proofs.lemmas.Grind.{flat_map-append}
+use Rattle.std.proofs.lemmas.List.Folds.{flat_map-map}
 use Rattle.sg_program.specs.declared.program.Statement.{Statement}
-use Rattle.sg_program.specs.declared.program.Item.{Item, out-Item}
+use Rattle.sg_program.specs.declared.program.Item.{Item, out-Item, map-Item, fold_out-Item}
 use Rattle.sg_program.specs.declared.program.Item as V
 use Rattle.sg_program.specs.declared.program.Item.TheVariants.{outs-One, outs-Repeat}
 use Rattle.sg_program.specs.declared.program.Item.TheOpen.{One, Repeat}
-use Rattle.sg_program.specs.Scripts.{item_text, written}
+use Rattle.sg_program.specs.Scripts.{texts_of, item_text, written}
 use Rattle.sg_program.specs.Kinds.{Kinds, Needs, kinds_after, AreSame, Leads, Done, Does, Repeats, Misuses, Here, Behind, Inside, AtItsEnd, BehindIt}
-use Rattle.sg_program.proofs.Items.{text_one, text_repeat}
-use Rattle.sg_program.proofs.Runs.{all_append, all_first, all_second}
+use Rattle.sg_words.proofs.Everywhere.{all_append, all_front, all_back}
+
+-- What an item has in the text.
+text_one : (item : Item) (s : Statement) → out-Item item ≡ One s → item_text item ≡ s ∷ []
+text_one item s e = fold_out-Item (List Statement) texts_of item ∙ ap (λ x. texts_of (map-Item Item (List Statement) item_text x)) e
+
+text_repeat : (item : Item) (times : ℕ) (body : List Item) → out-Item item ≡ Repeat times body → item_text item ≡ written body
+text_repeat item times body e =
+    fold_out-Item (List Statement) texts_of item ∙ ap (λ x. texts_of (map-Item Item (List Statement) item_text x)) e ∙ flat_map-map (λ ys. ys) item_text body
 
 -- One after another.
 pub leads_on : (k : Kinds) (xs : List Item) (i : Kinds) (ys : List Item) (j : Kinds) → Leads k xs i → Leads i ys j → Leads k (xs ++ ys) j
@@ -101,8 +109,8 @@ no_way _ _ _ n (Repeats k item times body i rest j e inside same leads) (BehindI
 pub item_all : (P : Statement → Type 0) (items : List Item) (i : ℕ) (d : Item) → i < length items → AllByRecursion P (written items) →
     AllByRecursion P (written (get_or items i d ∷ []))
 item_all P [] i d l h = absurd (omega arith)
-item_all P (item ∷ items) zero d l h = all_append P (item_text item) [] (all_first P (item_text item) (written items) h) tt
-item_all P (item ∷ items) (suc i) d l h = item_all P items i d (omega arith) (all_second P (item_text item) (written items) h)
+item_all P (item ∷ items) zero d l h = all_append P (item_text item) [] (all_front P (item_text item) (written items) h) tt
+item_all P (item ∷ items) (suc i) d l h = item_all P items i d (omega arith) (all_back P (item_text item) (written items) h)
 
 pub item_length : (items : List Item) (i : ℕ) (d : Item) → i < length items →
     length (written (take i items)) + length (written (get_or items i d ∷ [])) ≤ length (written items)

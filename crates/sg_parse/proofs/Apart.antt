@@ -1,21 +1,19 @@
 -- A text that is refused reads as no program, and what reads as a program is a text.
-use Rattle.std.proofs.Common.{◌≢◌, ℕ, suc, List, [], ◌∷◌, take, drop, inl, inr, refl, sym, subst, arith}
-use Rattle.std.specs.List.{AllByRecursion}
+use Rattle.std.proofs.Common.{◌≡◌, ◌≢◌, ℕ, suc, List, [], ◌∷◌, take, drop, inl, inr, refl, sym, subst, arith}
 use Rattle.std.proofs.lemmas.List.{take-append-drop}
 use Rattle.sg_program.specs.declared.program.Item.{Item}
 use Rattle.sg_program.specs.declared.program.Script.{Script}
 use Rattle.sg_program.specs.declared.program.Program.{Program}
-use Rattle.sg_words.specs.Lists.{Pairwise}
+use Rattle.sg_text.specs.Words.{lines_of}
+use Rattle.sg_text.specs.Lines.{Sentence}
+use Rattle.sg_text.specs.Numbered.{Numbered, sentences}
+use Rattle.sg_text.specs.Laws.{HaveOneSaying}
+use Rattle.sg_grammar.specs.Text.{AreItems, NoItem, OneSays, OneMakes, NoRepeat, OneRepeat, AreScripts, IsProgram, IsAnyName, IsText, MayGoOn, StandsFor, IsFirstRefused}
 use Rattle.sg_parse.specs.declared.refusal.Refusal.{Refusal}
 use Rattle.sg_parse.specs.declared.refusal.Refusal.TheVariants.{TooLong, Syntax, Class, Limit, Later, Memory}
 use Rattle.sg_parse.specs.declared.refusal.Which.{Which}
-use Rattle.sg_parse.specs.Words.{lines_of}
-use Rattle.sg_parse.specs.Lines.{Sentence, IsLine}
-use Rattle.sg_parse.specs.Text.{AreItems, NoItem, OneSays, OneMakes, NoRepeat, OneRepeat, AreScripts, IsProgram, IsAnyName, IsText, MayGoOn, StandsFor, IsFirstRefused, Reads, HasOneReading}
 use Rattle.sg_parse.specs.Faults.{IsFirstFault, HasNone, IsMisnamed, IsLimitFault, BreaksSome, KeepsLimits, IsLater}
 use Rattle.sg_parse.specs.Accepted.{IsReadAs, IsRefusedBy}
-use Rattle.sg_parse.proofs.OneSentence.{one_saying}
-use Rattle.sg_parse.proofs.Uniqueness.{one_program}
 
 module _ (names : List ℕ → ℕ → Type 0) where
   any-items : (lines : List Sentence) (items : List Item) → AreItems names lines items → AreItems IsAnyName lines items
@@ -40,8 +38,8 @@ module _ (names : List ℕ → ℕ → Type 0) where
     are_scripts = any-scripts is.scripts p.mutators is.are_scripts;
   }
 
-pub text-of : (bytes : List ℕ) (p : Program) → Reads bytes p → IsText (lines_of bytes)
-text-of bytes p reads = (reads.0, reads.1, (p, any-program (StandsFor p.classes) reads.0 p reads.2))
+text_of : (bytes : List ℕ) (p : Program) → IsReadAs bytes p → IsText (lines_of bytes)
+text_of bytes p read = (read.found, (read.says, (p, any-program (StandsFor p.classes) (sentences read.found) p read.is)))
 
 -- a text is a prefix of itself at each of its lines
 text-goes-on : (lines : List (List ℕ)) (j : ℕ) → IsText lines → MayGoOn (take j lines)
@@ -51,33 +49,19 @@ pub no-text-refused : (lines : List (List ℕ)) (k : ℕ) → IsFirstRefused lin
 no-text-refused lines k (inl r) text = r.4 (text-goes-on lines (suc r.0) text)
 no-text-refused lines k (inr r) text = r.2 text
 
-pub first-and-none : (Fault : List Sentence → Sentence → Type 0) (lines : List (List ℕ)) (k : ℕ) → IsFirstFault Fault lines k → HasNone Fault lines → ⊥
-first-and-none Fault lines k first none = none k first.before first.line first.at first.fault
+pub first-and-none : (Fault : List Sentence → Sentence → Type 0) (found other : List Numbered) (k : ℕ) → found ≡ other → IsFirstFault Fault found k → HasNone Fault other → ⊥
+first-and-none Fault found other k e first none = (subst (HasNone Fault) (sym e) none) first.index first.one first.there first.fault
 
-pub limit-and-none : (lines : List (List ℕ)) (k : ℕ) (which : Which) → IsLimitFault lines k which → KeepsLimits lines → ⊥
-limit-and-none lines k which (inl f) keeps = first-and-none BreaksSome lines k f.0 keeps.each
-limit-and-none lines k which (inr f) keeps = keeps.some f.1
+pub limit-and-none : (found other : List Numbered) (last k : ℕ) (which : Which) → found ≡ other → IsLimitFault found last k which → KeepsLimits other → ⊥
+limit-and-none found other last k which e (inl f) keeps = first-and-none BreaksSome found other k e f.0 keeps.each
+limit-and-none found other last k which e (inr f) keeps = (subst KeepsLimits (sym e) keeps).some f.1
 
 -- who is refused, but for want of memory, reads as no program
-pub refused-apart : (bytes : List ℕ) (refusal : Refusal) (q : Program) → IsRefusedBy bytes refusal → refusal ≢ Memory → IsReadAs bytes q → ⊥
-refused-apart bytes TooLong q long other read = let short = read.short in omega (arith, long)
-refused-apart bytes (Syntax line) q r other read = no-text-refused (lines_of bytes) line r.1 (text-of bytes q read.reads)
-refused-apart bytes (Class line) q r other read = first-and-none IsMisnamed (lines_of bytes) line r.2 read.named
-refused-apart bytes (Limit line which) q r other read = limit-and-none (lines_of bytes) line which r.3 read.limits
-refused-apart bytes (Later line) q r other read = first-and-none IsLater (lines_of bytes) line r.4 read.now
-refused-apart bytes Memory q r other read = other refl
-
--- no text reads as two programs
-pub has-one-reading : HasOneReading
-has-one-reading = record {
-  one = λ bytes p q r s.
-      one_program r.0 p q r.2
-      (subst (λ (l : List Sentence). IsProgram (StandsFor q.classes) l q) (one_saying (lines_of bytes) s.0 r.0 s.1 r.1) s.2);
-}
-
--- each sentence is that of some words
-pub all-said : (words : List (List (List ℕ))) (s : List Sentence) → Pairwise IsLine words s → AllByRecursion (λ (line : Sentence). (ws : List (List ℕ)) × IsLine ws line) s
-all-said [] [] p = tt
-all-said [] (x ∷ s) p = absurd p
-all-said (w ∷ ws) [] p = absurd p
-all-said (w ∷ ws) (x ∷ s) p = ((w, p.0), all-said ws s p.1)
+pub refused-apart : HaveOneSaying → (bytes : List ℕ) (refusal : Refusal) (q : Program) → IsRefusedBy bytes refusal → refusal ≢ Memory → IsReadAs bytes q → ⊥
+refused-apart law bytes TooLong q long other read = let short = read.short in omega (arith, long)
+refused-apart law bytes (Syntax line) q r other read = no-text-refused (lines_of bytes) line r.1 (text_of bytes q read)
+refused-apart law bytes (Class line) q (short, (found, text, first)) other read = first-and-none IsMisnamed found read.found line (law.one (lines_of bytes) found read.found text.0 read.says) first read.named
+refused-apart law bytes (Limit line which) q (short, (found, text, fault)) other read =
+    limit-and-none found read.found _ line which (law.one (lines_of bytes) found read.found text.0 read.says) fault.1 read.limits
+refused-apart law bytes (Later line) q (short, (found, text, fault)) other read = first-and-none IsLater found read.found line (law.one (lines_of bytes) found read.found text.0 read.says) fault.2 read.now
+refused-apart law bytes Memory q r other read = other refl

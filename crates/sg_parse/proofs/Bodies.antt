@@ -12,11 +12,11 @@ use Rattle.sg_program.specs.declared.program.Statement.{Statement}
 use Rattle.sg_program.specs.declared.program.Item.{Item, out-Item, roll-Item, roll-out-Item}
 use Rattle.sg_program.specs.declared.program.Item.TheOpen.{One, Repeat}
 use Rattle.sg_parse.specs.declared.scripts.Body.{Body}
-use Rattle.sg_parse.specs.declared.line.Line.{Line}
-use Rattle.sg_parse.specs.declared.line.Line.TheVariants.{Head, Setting, Class as ClassLine, Mutator, Repeat as RepeatLine, End, Make, At, Do}
-use Rattle.sg_parse.specs.Reading.{sentence_of}
-use Rattle.sg_parse.specs.Lines.{Maker, made_by, Sentence, Heads, Sets, Declares, Begins, Repeats, Ends, Makes, Says}
-use Rattle.sg_parse.specs.Text.{AreItems, NoItem, OneSays, OneMakes, NoRepeat, OneRepeat, StandsFor}
+use Rattle.sg_text.specs.declared.line.Line.{Line}
+use Rattle.sg_text.specs.declared.line.Line.TheVariants.{Head, Setting, Class as ClassLine, Mutator, Repeat as RepeatLine, End, Make, At, Do}
+use Rattle.sg_text.specs.Reading.{sentence_of}
+use Rattle.sg_text.specs.Lines.{Maker, made_by, Sentence, Heads, Sets, Declares, Begins, Repeats, Ends, Makes, Says}
+use Rattle.sg_grammar.specs.Text.{AreItems, NoItem, OneSays, OneMakes, NoRepeat, OneRepeat, StandsFor}
 use Rattle.sg_parse.specs.Building.{IsSmall, AreSmall, IsStatement, IsBody}
 
 pub same_item : (a b : Item) → out-Item a ≡ out-Item b → a ≡ b

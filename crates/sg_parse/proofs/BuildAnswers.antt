@@ -8,15 +8,18 @@ use Rattle.sg_program.specs.declared.program.Config.{Config}
 use Rattle.sg_program.specs.declared.program.Class.{Class}
 use Rattle.sg_program.specs.declared.program.Script.{Script}
 use Rattle.sg_program.specs.declared.program.Program.{Program}
+use Rattle.sg_grammar.specs.Laws.{HaveOneProgram}
+use Rattle.sg_program.specs.Laws.{ItemsUnfold}
 use Rattle.sg_parse.specs.declared.refusal.Which.{Which}
-use Rattle.sg_parse.specs.declared.line.Line.{Line}
+use Rattle.sg_text.specs.declared.line.Line.{Line}
 use Rattle.sg_parse.specs.declared.scripts.Scripts.{Scripts}
 use Rattle.sg_parse.specs.declared.scripts.Scripts.TheVariants.{Read, Heavy}
 use Rattle.sg_parse.specs.declared.build.Built.TheVariants.{Program as Made, Over, NoMutator}
-use Rattle.sg_parse.specs.Lines.{Sentence, Begins}
-use Rattle.sg_parse.specs.Text.{IsWhole, IsProgram, StandsFor}
+use Rattle.sg_text.specs.Lines.{Sentence, Begins}
+use Rattle.sg_grammar.specs.Text.{IsWhole, IsProgram, StandsFor}
 use Rattle.sg_parse.specs.Faults.{classes_in, IsMisnamed}
-use Rattle.sg_parse.specs.Reading.{sentence_of, HasNoneIn}
+use Rattle.sg_text.specs.Reading.{sentence_of}
+use Rattle.sg_parse.specs.Indices.{HasNoneIn}
 use Rattle.sg_parse.specs.Building.{IsSmall, AreRead, AreLines, IsToldWithin, IsBuilt, config_of, total_of, finals_of}
 use Rattle.sg_parse.specs.LineLimits.{HasNoLineFault, IsLineFault}
 use Rattle.sg_parse.proofs.NamedProgram.{named_program}
@@ -88,15 +91,15 @@ situation lines classes fault end start whole named names f e low above here =
     }
 
 -- a script breaks a limit
-pub answer_heavy : (lines : List Line) (classes : List Class) (fault : Option (ℕ × Which)) (end start : ℕ) (s : Situation lines classes fault end start) (o : Scripts) (index : ℕ) (which : Which) → o ≡ Heavy index which →
+pub answer_heavy : (law : HaveOneProgram) → (lines : List Line) (classes : List Class) (fault : Option (ℕ × Which)) (end start : ℕ) (s : Situation lines classes fault end start) (o : Scripts) (index : ℕ) (which : Which) → o ≡ Heavy index which →
     AreRead classes (says (take (end - start) (drop start lines))) o → IsToldWithin (length (take (end - start) (drop start lines))) o → IsBuilt (says lines) (Over (start + index) which)
-answer_heavy lines classes fault end start s o index which e read told =
+answer_heavy law lines classes fault end start s o index which e read told =
     let read1 : AreRead classes (says (take (end - start) (drop start lines))) (Heavy index which) = subst (AreRead classes (says (take (end - start) (drop start lines)))) e read in
     let told1 : index < length (take (end - start) (drop start lines)) = subst (IsToldWithin (length (take (end - start) (drop start lines)))) e told in
     let l = length-map (take (end - start) (drop start lines)) sentence_of in
     let few = few_started (says lines) s.program s.is end start (says (take (end - start) (drop start lines))) s.begun s.within s.none (omega arith) in
     let few2 = few.2 in let low = s.low in
-    heavy_over (says lines) s.program s.is end start index which s.none few.1 (omega arith)
+    heavy_over law (says lines) s.program s.is end start index which s.none few.1 (omega arith)
     (heavy_read (says lines) s.program s.is classes (says (take (end - start) (drop start lines))) index which s.begun.more s.same s.begun.parts few.0 s.small read1)
 
 pub index_fits : (lines : List Line) (end start : ℕ) (o : Scripts) (index : ℕ) (which : Which) → o ≡ Heavy index which → IsToldWithin (length (take (end - start) (drop start lines))) o → start ≤ length (take end lines) → end ≤ length lines →
@@ -106,11 +109,11 @@ index_fits lines end start o index which e told low within =
     let l = length-take-le end lines within in let d = length-drop start lines in let t = length-take-le (end - start) (drop start lines) (omega arith) in omega arith
 
 -- a line breaks a limit
-pub answer_fault : (lines : List Line) (classes : List Class) (fault : Option (ℕ × Which)) (end start : ℕ) (s : Situation lines classes fault end start) (o : Scripts) (scripts : List Script) (index : ℕ) (which : Which) → o ≡ Read scripts →
+pub answer_fault : (law : HaveOneProgram) → (lines : List Line) (classes : List Class) (fault : Option (ℕ × Which)) (end start : ℕ) (s : Situation lines classes fault end start) (o : Scripts) (scripts : List Script) (index : ℕ) (which : Which) → o ≡ Read scripts →
     AreRead classes (says (take (end - start) (drop start lines))) o → fault ≡ Some (index, which) → IsBuilt (says lines) (Over index which)
-answer_fault lines classes fault end start s o scripts index which e read f =
+answer_fault law lines classes fault end start s o scripts index which e read f =
     let read1 : AreRead classes (says (take (end - start) (drop start lines))) (Read scripts) = subst (AreRead classes (says (take (end - start) (drop start lines)))) e read in
-    let keep = keep_read (says lines) s.program s.is classes end start (says (take (end - start) (drop start lines))) scripts s.same s.begun s.within s.none s.small read1 in
+    let keep = keep_read law (says lines) s.program s.is classes end start (says (take (end - start) (drop start lines))) scripts s.same s.begun s.within s.none s.small read1 in
     let at : end ≡ index = subst (λ x. EndOf lines x end) f s.end_is in
     fault_over (says lines) index which (subst (IsLineFault (says lines)) f s.fault_is) (subst (KeepBelow (says lines)) at keep)
 
@@ -124,9 +127,9 @@ pub record Fine (lines : List Line) (classes : List Class) (end start : ℕ) (sc
   pub statements : total_of scripts ≤ 1048576
   pub finals : finals_of scripts ≤ 1024
 
-pub fine : (lines : List Line) (classes : List Class) (fault : Option (ℕ × Which)) (end start : ℕ) (s : Situation lines classes fault end start) (o : Scripts) (scripts : List Script) → o ≡ Read scripts →
+pub fine : (law : HaveOneProgram) → (lines : List Line) (classes : List Class) (fault : Option (ℕ × Which)) (end start : ℕ) (s : Situation lines classes fault end start) (o : Scripts) (scripts : List Script) → o ≡ Read scripts →
     AreRead classes (says (take (end - start) (drop start lines))) o → fault ≡ None → Fine lines classes end start scripts
-fine lines classes fault end start s o scripts e read f =
+fine law lines classes fault end start s o scripts e read f =
     let read1 : AreRead classes (says (take (end - start) (drop start lines))) (Read scripts) = subst (AreRead classes (says (take (end - start) (drop start lines)))) e read in
     let at : end ≡ length lines = subst (λ x. EndOf lines x end) f s.end_is in
     let last : end ≡ length (says lines) = at ∙ sym (length-map lines sentence_of) in
@@ -134,7 +137,7 @@ fine lines classes fault end start s o scripts e read f =
     let begun : Started (above_of s.is) s.is.scripts (length (says lines)) start (says (take (end - start) (drop start lines))) =
     subst (λ n. Started (above_of s.is) s.is.scripts n start (says (take (end - start) (drop start lines)))) last s.begun in
     let r = all_read (says lines) s.program s.is classes start (says (take (end - start) (drop start lines))) scripts s.same begun none s.small read1 in
-    let keep = keep_read (says lines) s.program s.is classes end start (says (take (end - start) (drop start lines))) scripts s.same s.begun s.within s.none s.small read1 in
+    let keep = keep_read law (says lines) s.program s.is classes end start (says (take (end - start) (drop start lines))) scripts s.same s.begun s.within s.none s.small read1 in
     record {
       program = s.program;
       is = s.is;
@@ -148,6 +151,6 @@ fine lines classes fault end start s o scripts e read f =
 pub answer_none : (lines : List Line) (classes : List Class) (end start : ℕ) (scripts : List Script) → Fine lines classes end start scripts → scripts ≡ [] → IsBuilt (says lines) NoMutator
 answer_none lines classes end start scripts f e = no_mutator (says lines) f.program f.is (f.mutators ∙ e) f.none f.keep
 
-pub answer_made : (lines : List Line) (classes : List Class) (end start : ℕ) (scripts : List Script) (config : Config) (declared : List Class) → Fine lines classes end start scripts → HasNoneIn IsMisnamed (says lines) → AreLines (says lines) →
+pub answer_made : (law : HaveOneProgram) → (unfolds : ItemsUnfold) → (lines : List Line) (classes : List Class) (end start : ℕ) (scripts : List Script) (config : Config) (declared : List Class) → Fine lines classes end start scripts → HasNoneIn IsMisnamed (says lines) → AreLines (says lines) →
     config ≡ config_of (says lines) → declared ≡ classes_in (says lines) → scripts ≢ [] → IsBuilt (says lines) (Made (record { config = config; classes = declared; mutators = scripts }))
-answer_made lines classes end start scripts config declared f named said e g some = made (says lines) f.program f.is config declared scripts named said e g f.mutators some f.none f.keep f.statements f.finals
+answer_made law unfolds lines classes end start scripts config declared f named said e g some = made law unfolds (says lines) f.program f.is config declared scripts named said e g f.mutators some f.none f.keep f.statements f.finals

@@ -10,11 +10,11 @@ use Rattle.sg_program.specs.declared.program.Script.{Script}
 use Rattle.sg_program.specs.declared.program.Program.{Program}
 use Rattle.sg_words.specs.Lists.{Pairwise}
 use Rattle.sg_program.specs.Scripts.{statements_in, finals_in, is_final, written_out}
-use Rattle.sg_parse.specs.Lines.{Sentence, Heads, Begins, Ends}
-use Rattle.sg_parse.specs.Text.{AreItems, AreScripts, IsClass, IsSetting, IsProgram, StandsFor}
+use Rattle.sg_text.specs.Lines.{Sentence, Heads, Begins, Ends}
+use Rattle.sg_grammar.specs.Text.{AreItems, AreScripts, IsClass, IsSetting, IsProgram, StandsFor}
 use Rattle.sg_parse.specs.Faults.{classes_in, is_begin, is_opening, is_ending}
 use Rattle.sg_parse.specs.Building.{AreFront, total_of, finals_of}
-use Rattle.sg_parse.proofs.Uniqueness.{IsFunctional, one_body, functional}
+use Rattle.sg_grammar.specs.Laws.{HaveOneProgram}
 use Rattle.sg_parse.proofs.NamedProgram.{classes_are}
 use Rattle.sg_parse.proofs.LineFaults.{take_next}
 use Rattle.sg_parse.proofs.ScriptLemmas.{same_script}
@@ -88,22 +88,22 @@ tail_is : (x y : Sentence) (l m : List Sentence) → x ∷ l ≡ y ∷ m → l �
 tail_is x y l m e = cc
 
 -- scripts that stand within the lines that were read are the first ones
-front_of : (names : List ℕ → ℕ → Type 0) → IsFunctional names → (a front : List Script) (l done todo r : List Sentence) (until : ℕ) → AreScripts names l a → AreScripts names done front → l ++ r ≡ done ++ todo →
-    ((body tail : List Sentence) (items : List Item) → todo ≡ Begins ∷ body ++ Ends ∷ tail → AreItems names body items → until ≤ length done + (length body + 1)) → length l ≤ until →
+front_of : (law : HaveOneProgram) (classes : List Class) (a front : List Script) (l done todo r : List Sentence) (until : ℕ) → AreScripts (StandsFor classes) l a → AreScripts (StandsFor classes) done front → l ++ r ≡ done ++ todo →
+    ((body tail : List Sentence) (items : List Item) → todo ≡ Begins ∷ body ++ Ends ∷ tail → AreItems (StandsFor classes) body items → until ≤ length done + (length body + 1)) → length l ≤ until →
     (k : List Script) × (front ≡ a ++ k)
-front_of names f [] front l done todo r until p q e next short = (front, refl)
-front_of names f (x ∷ a) [] l done todo r until p q e next short =
+front_of law classes [] front l done todo r until p q e next short = (front, refl)
+front_of law classes (x ∷ a) [] l done todo r until p q e next short =
     let there : todo ≡ Begins ∷ p.0 ++ Ends ∷ (p.1 ++ r) =
     sym (ap (λ w. w ++ todo) q) ∙ sym e ∙ ap (λ w. w ++ r) p.2 ∙ ap (λ w. Begins ∷ w) (append_assoc p.0 (Ends ∷ p.1) r) in
     let n = next p.0 (p.1 ++ r) x.items there p.3 in
     let l0 = ap length q in let l1 = ap length p.2 in let l2 = length-append p.0 (Ends ∷ p.1) in absurd (omega arith)
-front_of names f (x ∷ a) (y ∷ front) l done todo r until p q e next short =
+front_of law classes (x ∷ a) (y ∷ front) l done todo r until p q e next short =
     let both : Begins ∷ (p.0 ++ Ends ∷ (p.1 ++ r)) ≡ Begins ∷ (q.0 ++ Ends ∷ (q.1 ++ todo)) =
     sym (ap (λ w. w ++ r) p.2 ∙ ap (λ w. Begins ∷ w) (append_assoc p.0 (Ends ∷ p.1) r)) ∙ e ∙ ap (λ w. w ++ todo) q.2 ∙ ap (λ w. Begins ∷ w) (append_assoc q.0 (Ends ∷ q.1) todo) in
-    let h = one_body names f (p.1 ++ r) (q.1 ++ todo) p.3 q.3 (tail_is _ _ _ _ both) in
+    let h = law.body classes p.0 q.0 (p.1 ++ r) (q.1 ++ todo) x.items y.items p.3 q.3 (tail_is _ _ _ _ both) in
     let l1 = ap length p.2 in let l2 = length-append p.0 (Ends ∷ p.1) in
     let m1 = ap length q.2 in let m2 = length-append q.0 (Ends ∷ q.1) in let m3 = ap length h.lines in
-    let rest = front_of names f a front p.1 q.1 todo r (until - (length p.0 + 2)) p.4 q.4 h.rest (λ body tail items t i. let n = next body tail items t i in omega arith) (omega arith) in
+    let rest = front_of law classes a front p.1 q.1 todo r (until - (length p.0 + 2)) p.4 q.4 h.rest (λ body tail items t i. let n = next body tail items t i in omega arith) (omega arith) in
     (rest.0, ap (λ k. y ∷ k) rest.1 ∙ ap (λ z. z ∷ (a ++ rest.0)) (sym (same_script x y h.items)))
 
 -- up to line n no program has more than the limits of what is counted
@@ -112,9 +112,9 @@ KeepBelow lines n =
     (j : ℕ) (line : Sentence) → j < n → slice_get lines j ≡ Some line → line ≡ Ends → (p : Program) → IsProgram (StandsFor p.classes) (take j lines ++ Ends ∷ []) p →
     (statements_in p ≤ 1048576) × (finals_in p ≤ 1024)
 
-pub keep_front : (lines : List Sentence) (p : Program) (is : IsProgram (StandsFor p.classes) lines p) (scripts : List Script) (until : ℕ) → AreFront p.classes is.scripts p.mutators scripts until →
+pub keep_front : (law : HaveOneProgram) → (lines : List Sentence) (p : Program) (is : IsProgram (StandsFor p.classes) lines p) (scripts : List Script) (until : ℕ) → AreFront p.classes is.scripts p.mutators scripts until →
     KeepBelow lines (length (above_of is) + until)
-keep_front lines p is scripts until front = λ j line below at ends q of.
+keep_front law lines p is scripts until front = λ j line below at ends q of.
     let whole : (take j lines ++ Ends ∷ []) ++ drop (j + 1) lines ≡ lines =
     ap (λ w. w ++ drop (j + 1) lines) (ap (λ x. take j lines ++ x ∷ []) (sym ends) ∙ sym (take_next lines j line at)) ∙ take-append-drop (j + 1) lines in
     elim (scripts_some (StandsFor q.classes) of.scripts q.mutators of.are_scripts) [
@@ -129,7 +129,7 @@ keep_front lines p is scripts until front = λ j line below at ends q of.
           let l0 = ap length of.in_order in let l1 = length-append (above_of of) of.scripts in let l2 = length-append (take j lines) (Ends ∷ []) in
           let l3 = length-take-le j lines (let w = slice_get_within lines j line at in let v : j ≤ length lines = omega arith in v) in let l4 = ap length cut.0 in
           let short : length of.scripts ≤ until = omega arith in
-          let k = front_of (StandsFor p.classes) (functional p.classes) q.mutators scripts of.scripts front.done front.todo (drop (j + 1) lines) until moved front.first (cut.1 ∙ front.parts) front.next short in
+          let k = front_of law p.classes q.mutators scripts of.scripts front.done front.todo (drop (j + 1) lines) until moved front.first (cut.1 ∙ front.parts) front.next short in
           let s = ap total_of k.1 in let s1 = sum_by-append (λ (script : Script). length (written_out script.items)) q.mutators k.0 in let s2 = front.statements in
           let f = ap finals_of k.1 in let f1 = sum_by-append (λ (script : Script). count_by is_final (written_out script.items)) q.mutators k.0 in let f2 = front.finals in
           (omega arith, omega arith)

@@ -3,14 +3,15 @@ use Rattle.std.proofs.Common.{◌≡◌, Bor, ℕ, ◌+◌, ◌<◌, Some, List,
 use Rattle.std.proofs.lemmas.List.Sums.{fold-append}
 use Rattle.sg_program.specs.declared.program.Config.{Config}
 use Rattle.sg_program.specs.declared.program.Class.{Class}
-use Rattle.sg_parse.specs.declared.line.Form.{Form}
-use Rattle.sg_parse.specs.declared.line.Line.{Line}
-use Rattle.sg_parse.specs.declared.line.Line.TheVariants.{Head, Setting, Class as ClassLine, Mutator, Repeat, End, Make, At, Do}
-use Rattle.sg_parse.specs.Lines.{Sentence, Begins}
+use Rattle.sg_text.specs.declared.line.Form.{Form}
+use Rattle.sg_text.specs.declared.line.Line.{Line}
+use Rattle.sg_text.specs.declared.line.Line.TheVariants.{Head, Setting, Class as ClassLine, Mutator, Repeat, End, Make, At, Do}
+use Rattle.sg_text.specs.Lines.{Sentence, Begins}
 use Rattle.sg_parse.specs.Faults.{classes_in, class_in}
 use Rattle.sg_desc.specs.declared.shapes.Shape.{Shape}
-use Rattle.sg_parse.specs.Reading.{sentence_of, shape_in}
-use Rattle.sg_parse.specs.Building.{config_with, first_config, config_of}
+use Rattle.sg_text.specs.Reading.{sentence_of, shape_in}
+use Rattle.sg_parse.specs.Building.{config_with, config_of}
+use Rattle.sg_grammar.specs.Text.{defaults}
 use Rattle.sg_parse.proofs.LineFaults.{read_at, take_next, classes-push}
 
 abbrev pub record_of : List ℕ → Shape → Class
@@ -36,7 +37,7 @@ mutator_only lines i d there other e =
 
 pub config_more : (lines : List Sentence) (i : ℕ) (line : Sentence) (before after : Config) → slice_get lines i ≡ Some line → before ≡ config_of (take i lines) → after ≡ config_with before line → after ≡ config_of (take (i + 1) lines)
 config_more lines i line before after at was is =
-    is ∙ ap (λ c. config_with c line) was ∙ sym (ap config_of (take_next lines i line at) ∙ fold-append config_with first_config (take i lines) (line ∷ []))
+    is ∙ ap (λ c. config_with c line) was ∙ sym (ap config_of (take_next lines i line at) ∙ fold-append config_with defaults (take i lines) (line ∷ []))
 
 pub class_more : (lines : List Sentence) (i : ℕ) (line : Sentence) (before after : List Class) → slice_get lines i ≡ Some line → before ≡ classes_in (take i lines) → after ≡ before ++ class_in line → after ≡ classes_in (take (i + 1) lines)
 class_more lines i line before after at was is =

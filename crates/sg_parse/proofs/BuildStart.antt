@@ -8,11 +8,12 @@ use Rattle.std.proofs.Math.Seq.{take-append_seam, drop-append_seam}
 use Rattle.sg_program.specs.declared.program.Class.{Class}
 use Rattle.sg_program.specs.declared.program.Script.{Script}
 use Rattle.sg_program.specs.declared.program.Program.{Program}
+use Rattle.sg_grammar.specs.Laws.{HaveOneProgram}
 use Rattle.sg_parse.specs.declared.refusal.Which.{Which}
 use Rattle.sg_parse.specs.declared.refusal.Which.TheVariants.{Statements, Finals}
 use Rattle.sg_parse.specs.declared.scripts.Scripts.TheVariants.{Read, Heavy}
-use Rattle.sg_parse.specs.Lines.{Sentence, Heads, Begins}
-use Rattle.sg_parse.specs.Text.{AreScripts, IsProgram, StandsFor}
+use Rattle.sg_text.specs.Lines.{Sentence, Heads, Begins}
+use Rattle.sg_grammar.specs.Text.{AreScripts, IsProgram, StandsFor}
 use Rattle.sg_parse.specs.Faults.{classes_in, class_in, is_ending, Breaks, BreaksSome}
 use Rattle.sg_parse.specs.Building.{IsSmall, AreFront, IsHeavy, AreRead}
 use Rattle.sg_parse.specs.LineLimits.{HasNoLineFault}
@@ -153,14 +154,14 @@ heavy_read lines p is classes found index which more same parts few small read =
     subst (λ l. IsHeavy p.classes l p.mutators index which) parts
     (read1 more p.mutators (few, small) (subst (λ l. AreScripts (StandsFor p.classes) l p.mutators) (sym parts) is.are_scripts)).1
 
-pub keep_read : (lines : List Sentence) (p : Program) (is : IsProgram (StandsFor p.classes) lines p) (classes : List Class) (end start : ℕ) (found : List Sentence) (scripts : List Script) → classes ≡ p.classes →
+pub keep_read : (law : HaveOneProgram) → (lines : List Sentence) (p : Program) (is : IsProgram (StandsFor p.classes) lines p) (classes : List Class) (end start : ℕ) (found : List Sentence) (scripts : List Script) → classes ≡ p.classes →
     Started (above_of is) is.scripts end start found → end ≤ length lines → HasNoLineFault lines end → AllByRecursion IsSmall found → AreRead classes found (Read scripts) → KeepBelow lines end
-keep_read lines p is classes end start found scripts same s within none small read = elim s.place [
+keep_read law lines p is classes end start found scripts same s within none small read = elim s.place [
   | inl at ↦
       let a0 = at.0 in let a1 = at.1 in let a2 = at.2 in
       let few = few_of lines p is end within (omega arith) none in
       let front = front_read lines p is classes found scripts s.more same s.parts few small read in
-      let keep = keep_front lines p is scripts (length found) front in
+      let keep = keep_front law lines p is scripts (length found) front in
       (λ j line below there ends q of. keep j line (omega arith) there ends q of)
   | inr at ↦
       let a0 = at.0 in

@@ -10,18 +10,19 @@ use Rattle.sg_program.specs.declared.program.Item.{Item}
 use Rattle.sg_program.specs.declared.program.Script.{Script}
 use Rattle.sg_program.specs.declared.program.Program.{Program}
 use Rattle.sg_program.specs.Scripts.{statements_in}
-use Rattle.sg_program.proofs.Weights.{count-append, count-cons}
+use Rattle.sg_words.proofs.Everywhere.{count-append, count-cons}
 use Rattle.sg_parse.specs.declared.refusal.Which.{Which}
 use Rattle.sg_parse.specs.declared.refusal.Which.TheVariants.{Nursery, Blocks, Pages, Buffer, Workers, Cement, Classes, Fields, Vector, Global, Weak, Times, Nesting, Statements, Finals, Mutators}
 use Rattle.sg_parse.specs.declared.scripts.Scripts.TheVariants.{Read}
 use Rattle.sg_parse.specs.declared.build.Built.TheVariants.{Program as Made, Over, NoMutator}
-use Rattle.sg_parse.specs.Lines.{Sentence, Begins, Repeats, Ends, Says, Makes}
-use Rattle.sg_parse.specs.Text.{AreItems, NoItem, OneSays, OneMakes, NoRepeat, OneRepeat, AreScripts, IsProgram, StandsFor}
+use Rattle.sg_text.specs.Lines.{Sentence, Begins, Repeats, Ends, Says, Makes}
+use Rattle.sg_grammar.specs.Text.{AreItems, NoItem, OneSays, OneMakes, NoRepeat, OneRepeat, AreScripts, IsProgram, StandsFor}
 use Rattle.sg_parse.specs.Faults.{classes_in, is_opening, is_ending, open_behind, BreaksFirst, BreaksSome, IsMisnamed}
-use Rattle.sg_parse.specs.Reading.{HasNoneIn}
+use Rattle.sg_parse.specs.Indices.{HasNoneIn}
 use Rattle.sg_parse.specs.Building.{IsSmall, AreFront, IsHeavy, IsTooMuch, AreRead, AreLines, IsBuilt, config_of, total_of, finals_of}
 use Rattle.sg_parse.specs.LineLimits.{HasNoLineFault, IsLineFault}
-use Rattle.sg_parse.proofs.Uniqueness.{one_program}
+use Rattle.sg_grammar.specs.Laws.{HaveOneProgram}
+use Rattle.sg_program.specs.Laws.{ItemsUnfold}
 use Rattle.sg_parse.proofs.NamedProgram.{classes_are}
 use Rattle.sg_parse.proofs.SettingsOf.{config_is}
 use Rattle.sg_parse.proofs.WithinLimits.{within_limits}
@@ -70,28 +71,28 @@ one_open names above done body scripts items a d b =
 
 -- ---- a limit of what is counted is broken
 
-heavy_first : (which : Which) (before : List Sentence) (p : Program) → open_behind before ≡ 1 → IsProgram (StandsFor p.classes) (before ++ Ends ∷ []) p → IsTooMuch which p.mutators → BreaksFirst which before Ends
-heavy_first Nursery before p o is m = absurd m
-heavy_first Blocks before p o is m = absurd m
-heavy_first Pages before p o is m = absurd m
-heavy_first Buffer before p o is m = absurd m
-heavy_first Workers before p o is m = absurd m
-heavy_first Cement before p o is m = absurd m
-heavy_first Classes before p o is m = absurd m
-heavy_first Fields before p o is m = absurd m
-heavy_first Vector before p o is m = absurd m
-heavy_first Global before p o is m = absurd m
-heavy_first Weak before p o is m = absurd m
-heavy_first Times before p o is m = absurd m
-heavy_first Nesting before p o is m = absurd m
-heavy_first Mutators before p o is m = absurd m
-heavy_first Statements before p o is m = statements_first before Ends (refl, o, (p, is, m))
-heavy_first Finals before p o is m = finals_first before Ends (refl, o, (p, is, m.1))
-    (λ b. let same = one_program (before ++ Ends ∷ []) b.2.0 p b.2.1 is in let k = ap statements_in same in let m0 = m.0 in let b3 = b.2.2 in omega arith)
+heavy_first : (law : HaveOneProgram) → (which : Which) (before : List Sentence) (p : Program) → open_behind before ≡ 1 → IsProgram (StandsFor p.classes) (before ++ Ends ∷ []) p → IsTooMuch which p.mutators → BreaksFirst which before Ends
+heavy_first law Nursery before p o is m = absurd m
+heavy_first law Blocks before p o is m = absurd m
+heavy_first law Pages before p o is m = absurd m
+heavy_first law Buffer before p o is m = absurd m
+heavy_first law Workers before p o is m = absurd m
+heavy_first law Cement before p o is m = absurd m
+heavy_first law Classes before p o is m = absurd m
+heavy_first law Fields before p o is m = absurd m
+heavy_first law Vector before p o is m = absurd m
+heavy_first law Global before p o is m = absurd m
+heavy_first law Weak before p o is m = absurd m
+heavy_first law Times before p o is m = absurd m
+heavy_first law Nesting before p o is m = absurd m
+heavy_first law Mutators before p o is m = absurd m
+heavy_first law Statements before p o is m = statements_first before Ends (refl, o, (p, is, m))
+heavy_first law Finals before p o is m = finals_first before Ends (refl, o, (p, is, m.1))
+    (λ b. let same = law.program (before ++ Ends ∷ []) b.2.0 p b.2.1 is in let k = ap statements_in same in let m0 = m.0 in let b3 = b.2.2 in omega arith)
 
-pub heavy_breaks : (lines : List Sentence) (p : Program) (is : IsProgram (StandsFor p.classes) lines p) (index : ℕ) (which : Which) → IsHeavy p.classes is.scripts p.mutators index which →
+pub heavy_breaks : (law : HaveOneProgram) → (lines : List Sentence) (p : Program) (is : IsProgram (StandsFor p.classes) lines p) (index : ℕ) (which : Which) → IsHeavy p.classes is.scripts p.mutators index which →
     (slice_get lines (length (above_of is) + index) ≡ Some Ends) × BreaksFirst which (take (length (above_of is) + index) lines) Ends
-heavy_breaks lines p is index which h =
+heavy_breaks law lines p is index which h =
     let front = h.front in
     let done : List Sentence = front.done in
     let body : List Sentence = h.body in
@@ -116,7 +117,7 @@ heavy_breaks lines p is index which h =
       are_classes = is.are_classes;
       are_scripts = scripts_append (StandsFor p.classes) front.done (Begins ∷ (h.body ++ Ends ∷ [])) h.scripts (h.script ∷ []) front.first (one_script (StandsFor p.classes) h.body h.script h.items);
     } in
-    let first = heavy_first which (above_of is ++ (front.done ++ Begins ∷ h.body)) q (one_open (StandsFor p.classes) (above_of is) front.done h.body h.scripts h.script.items (above_plain is) front.first h.items) of h.much in
+    let first = heavy_first law which (above_of is ++ (front.done ++ Begins ∷ h.body)) q (one_open (StandsFor p.classes) (above_of is) front.done h.body h.scripts h.script.items (above_plain is) front.first h.items) of h.much in
     (there, subst (λ b. BreaksFirst which b Ends) (sym up) first)
 
 -- ---- what the building answers
@@ -127,13 +128,13 @@ fault_over lines end which f keep =
     let first = found_broken (take end lines) f.0.0 which f.0.2 in
     (((f.0.0, f.0.1, (which, first.0)), λ j other below at. none_breaks lines end f.1 keep j other below at), (f.0.0, f.0.1, first))
 
-pub heavy_over : (lines : List Sentence) (p : Program) (is : IsProgram (StandsFor p.classes) lines p) (end start index : ℕ) (which : Which) → HasNoLineFault lines end → start ≡ length (above_of is) → start + index ≤ end →
+pub heavy_over : (law : HaveOneProgram) → (lines : List Sentence) (p : Program) (is : IsProgram (StandsFor p.classes) lines p) (end start index : ℕ) (which : Which) → HasNoLineFault lines end → start ≡ length (above_of is) → start + index ≤ end →
     IsHeavy p.classes is.scripts p.mutators index which → IsBuilt lines (Over (start + index) which)
-heavy_over lines p is end start index which none begin within h =
+heavy_over law lines p is end start index which none begin within h =
     let same : start + index ≡ length (above_of is) + index = ap (λ n. n + index) begin in
     subst (λ n. IsBuilt lines (Over n which)) (sym same)
-    (let b = heavy_breaks lines p is index which h in
-    let keep = keep_front lines p is h.scripts index h.front in
+    (let b = heavy_breaks law lines p is index which h in
+    let keep = keep_front law lines p is h.scripts index h.front in
     let fine = no_fault_below lines (length (above_of is) + index) end (omega arith) none in
     (((Ends, b.0, (which, b.1.0)), λ j other below at. none_breaks lines (length (above_of is) + index) fine keep j other below at), (Ends, b.0, b.1)))
 
@@ -161,10 +162,10 @@ all_read lines p is classes start found scripts same s none small read =
 none_in : (lines : List Sentence) → HasNoLineFault lines (length lines) → KeepBelow lines (length lines) → HasNoneIn BreaksSome lines
 none_in lines none keep = λ j line at. none_breaks lines (length lines) none keep j line (slice_get_within lines j line at) at
 
-pub keep_all : (lines : List Sentence) (p : Program) (is : IsProgram (StandsFor p.classes) lines p) (scripts : List Script) (until : ℕ) → AreFront p.classes is.scripts p.mutators scripts until → p.mutators ≡ scripts → length is.scripts ≤ until →
+pub keep_all : (law : HaveOneProgram) → (lines : List Sentence) (p : Program) (is : IsProgram (StandsFor p.classes) lines p) (scripts : List Script) (until : ℕ) → AreFront p.classes is.scripts p.mutators scripts until → p.mutators ≡ scripts → length is.scripts ≤ until →
     KeepBelow lines (length lines)
-keep_all lines p is scripts until front same l =
-    let keep = keep_front lines p is scripts until front in
+keep_all law lines p is scripts until front same l =
+    let keep = keep_front law lines p is scripts until front in
     let k = ap length is.in_order in let k1 = length-append (above_of is) is.scripts in
     λ j line below there ends q of. keep j line (omega arith) there ends q of
 
@@ -183,10 +184,10 @@ not_none : (scripts : List Script) → scripts ≢ [] → 1 ≤ length scripts
 not_none [] n = absurd (n refl)
 not_none (x ∷ scripts) n = omega arith
 
-pub made : (lines : List Sentence) (p : Program) (is : IsProgram (StandsFor p.classes) lines p) (config : Config) (classes : List Class) (mutators : List Script) → HasNoneIn IsMisnamed lines → AreLines lines →
+pub made : (law : HaveOneProgram) → (unfolds : ItemsUnfold) → (lines : List Sentence) (p : Program) (is : IsProgram (StandsFor p.classes) lines p) (config : Config) (classes : List Class) (mutators : List Script) → HasNoneIn IsMisnamed lines → AreLines lines →
     config ≡ config_of lines → classes ≡ classes_in lines → p.mutators ≡ mutators → mutators ≢ [] → HasNoLineFault lines (length lines) → KeepBelow lines (length lines) → total_of mutators ≤ 1048576 → finals_of mutators ≤ 1024 →
     IsBuilt lines (Made (record { config = config; classes = classes; mutators = mutators }))
-made lines p is config classes mutators named said e f g some none keep statements finals =
+made law unfolds lines p is config classes mutators named said e f g some none keep statements finals =
     let same_config : p.config ≡ config = sym (e ∙ config_is (StandsFor p.classes) lines p is) in
     let same_classes : p.classes ≡ classes = classes_are (StandsFor p.classes) lines p is ∙ sym f in
     let q : Program = record { config = config; classes = classes; mutators = mutators } in
@@ -199,4 +200,4 @@ made lines p is config classes mutators named said e f g some none keep statemen
     ] in
     let least : 1 ≤ length mutators = not_none mutators some in
     subst (λ (x : Program). IsBuilt lines (Made x)) same
-    (is, none_broken, within_limits lines p is none_broken named said (omega arith) (omega arith) (omega arith), begin)
+    (is, none_broken, within_limits law unfolds lines p is none_broken named said (omega arith) (omega arith) (omega arith), begin)

@@ -8,11 +8,12 @@ use Rattle.std.proofs.lemmas.List.{append-nil, take_more, take_all, length-map}
 use Rattle.std.proofs.lemmas.List.Sums.{count_by_more_yes, count_by_more_no}
 use Rattle.std.proofs.lemmas.Option.{slice_get-map, slice_get_within, slice_get-get_or, same_Some, get_or_from_slice_get}
 use Rattle.sg_program.specs.declared.program.Class.{Class}
-use Rattle.sg_parse.specs.declared.line.Line.{Line}
-use Rattle.sg_parse.specs.Lines.{Sentence}
+use Rattle.sg_text.specs.declared.line.Line.{Line}
+use Rattle.sg_text.specs.Lines.{Sentence}
 use Rattle.sg_parse.specs.Faults.{class_in, classes_in, is_begin, IsMisnamed}
 use Rattle.sg_parse.specs.Names.{Misnames}
-use Rattle.sg_parse.specs.Reading.{sentence_of, IsFirstIn, HasNoneIn}
+use Rattle.sg_text.specs.Reading.{sentence_of}
+use Rattle.sg_parse.specs.Indices.{IsFirstIn, HasNoneIn}
 
 -- none of the first i sentences has the fault
 abbrev pub HasNoneBelow : (List Sentence → Sentence → Type 0) → List Sentence → ℕ → Type 0

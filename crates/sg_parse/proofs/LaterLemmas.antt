@@ -8,12 +8,13 @@ use Rattle.sg_desc.specs.Shapes.{is_vector}
 use Rattle.sg_program.specs.declared.program.Class.{Class}
 use Rattle.sg_program.specs.declared.program.Statement.{Statement}
 use Rattle.sg_program.specs.declared.program.Statement.TheVariants.{GPut, GGet, WSet, WGet, Final, NextFin, Collect, Sections}
-use Rattle.sg_parse.specs.declared.line.Line.{Line}
-use Rattle.sg_parse.specs.Lines.{Maker, AsNew, AsVector, AsMature, Sentence, Heads, Sets, Declares, Begins, Repeats, Ends, Makes, Says}
-use Rattle.sg_parse.specs.Text.{IsClassName, StandsFor}
+use Rattle.sg_text.specs.declared.line.Line.{Line}
+use Rattle.sg_text.specs.Lines.{Maker, AsNew, AsVector, AsMature, Sentence, Heads, Sets, Declares, Begins, Repeats, Ends, Makes, Says}
+use Rattle.sg_grammar.specs.Text.{IsClassName, StandsFor}
 use Rattle.sg_parse.specs.Faults.{class_in, classes_in, is_begin, wants_vector, IsFit, IsMisnamed, IsPairClass, IsLater, Another, GlobalPut, GlobalGet, Old, Major, Told, Wide, LinkSet, LinkGet, Registers, Ready, PairOf}
 use Rattle.sg_parse.specs.Names.{AreDistinct, IsMadeLater, IsDoneLater, IsLaterBy}
-use Rattle.sg_parse.specs.Reading.{sentence_of, HasNoneIn, IsFirstIn}
+use Rattle.sg_text.specs.Reading.{sentence_of}
+use Rattle.sg_parse.specs.Indices.{HasNoneIn, IsFirstIn}
 use Rattle.sg_parse.proofs.Naming.{class_name, name_of_class}
 use Rattle.sg_parse.proofs.Firsts.{HasNoneBelow, Begun, sentence_at, none_more, none_all, first_here, begun_next}
 

@@ -7,12 +7,14 @@ use Rattle.std.proofs.lemmas.Bool.Decides.{nat_tests}
 use Rattle.sg_desc.specs.declared.shapes.Descriptor.{Descriptor}
 use Rattle.sg_desc.specs.declared.shapes.Descriptor.TheVariants.{PtrFree, Run, Bitmap, VectorRefs, VectorPlain, Ephemeron}
 use Rattle.sg_desc.specs.declared.shapes.Shape.{Shape}
-use Rattle.sg_program.specs.Limits.{MayHave, IsNurserySize}
+use Rattle.sg_program.specs.Limits.{MayHave, IsNurserySize, most_nursery, most_blocks, most_pages, least_buffer, most_buffer, most_workers, most_cement, most_classes, most_fields, most_vector, last_place, most_times, most_nesting, most_mutators}
 use Rattle.sg_program.specs.declared.program.Statement.{Statement}
 use Rattle.sg_program.specs.declared.program.Statement.TheVariants.{New, NewV, Mature, Put, Get, PutD, GetD, Num, Move, Hide, Unhide, Drop, Push, Pop, GPut, GGet, WSet, WGet, Final, NextFin, Same, Collect, Sections}
 use Rattle.sg_parse.specs.declared.refusal.Which.{Which}
 use Rattle.sg_parse.specs.declared.refusal.Which.TheVariants.{Nursery, Blocks, Pages, Buffer, Workers, Cement, Classes, Fields, Vector, Global, Weak, Times, Nesting, Statements, Finals, Mutators}
-use Rattle.sg_parse.specs.Lines.{Maker, AsNew, AsVector, AsMature, Sentence, Heads, Sets, Declares, Begins, Repeats, Ends, Makes, Says}
+use Rattle.sg_text.specs.declared.line.Setting.{Setting}
+use Rattle.sg_text.specs.declared.line.Setting.TheVariants.{Nursery as TheNursery, Blocks as TheBlocks, Pages as ThePages, Buffer as TheBuffer, Workers as TheWorkers, Cement as TheCement}
+use Rattle.sg_text.specs.Lines.{Maker, AsNew, AsVector, AsMature, Sentence, Heads, Sets, Declares, Begins, Repeats, Ends, Makes, Says}
 use Rattle.sg_parse.specs.Faults.{classes_in, class_in, open_behind, is_begin, Breaks, BreaksFirst, place}
 use Rattle.sg_parse.specs.Building.{HasSmallPlace, IsSmall}
 use Rattle.sg_parse.specs.LineLimits.{is_within, is_nursery_size, may_have, unless, setting_fault, class_fault, repeat_fault, maker_fault, statement_fault, fault_behind}
@@ -36,8 +38,16 @@ group_of_statement (WSet w r long) = 10
 group_of_statement (WGet r w) = 10
 group_of_statement s = 20
 
+abbrev setting_place : Setting → ℕ
+setting_place TheNursery = 0
+setting_place TheBlocks = 1
+setting_place ThePages = 2
+setting_place TheBuffer = 3
+setting_place TheWorkers = 4
+setting_place TheCement = 5
+
 abbrev group_of : Sentence → ℕ
-group_of (Sets at n) = at
+group_of (Sets setting n) = setting_place setting
 group_of (Declares name shape) = 6
 group_of (Makes maker r name) = 8
 group_of (Says s) = group_of_statement s
@@ -183,18 +193,6 @@ pick : {P : Type 0} (t : Bool) (x y o : Option Which) → cond t x y ≡ o → (
 pick true x y o e f g = f refl e
 pick false x y o e f g = g refl e
 
-six : {P : Type 0} (t0 t1 t2 t3 t4 t5 : Bool) (x0 x1 x2 x3 x4 x5 : Option Which) (w : Which) →
-    cond t0 x0 (cond t1 x1 (cond t2 x2 (cond t3 x3 (cond t4 x4 (cond t5 x5 None))))) ≡ Some w →
-    (t0 ≡ true → x0 ≡ Some w → P) → (t1 ≡ true → x1 ≡ Some w → P) → (t2 ≡ true → x2 ≡ Some w → P) →
-    (t3 ≡ true → x3 ≡ Some w → P) → (t4 ≡ true → x4 ≡ Some w → P) → (t5 ≡ true → x5 ≡ Some w → P) → P
-six true t1 t2 t3 t4 t5 x0 x1 x2 x3 x4 x5 w q f0 f1 f2 f3 f4 f5 = f0 refl q
-six false true t2 t3 t4 t5 x0 x1 x2 x3 x4 x5 w q f0 f1 f2 f3 f4 f5 = f1 refl q
-six false false true t3 t4 t5 x0 x1 x2 x3 x4 x5 w q f0 f1 f2 f3 f4 f5 = f2 refl q
-six false false false true t4 t5 x0 x1 x2 x3 x4 x5 w q f0 f1 f2 f3 f4 f5 = f3 refl q
-six false false false false true t5 x0 x1 x2 x3 x4 x5 w q f0 f1 f2 f3 f4 f5 = f4 refl q
-six false false false false false true x0 x1 x2 x3 x4 x5 w q f0 f1 f2 f3 f4 f5 = f5 refl q
-six false false false false false false x0 x1 x2 x3 x4 x5 w q f0 f1 f2 f3 f4 f5 = absurd cc
-
 lt_true : (n high : ℕ) → nat_lt n high ≡ true → n < high
 lt_true n high e = grind (arith, nat_tests, common_steps)
 
@@ -206,35 +204,35 @@ pub none_broken : (which : Which) (before : List Sentence) (line : Sentence) →
 none_broken Nursery before line o q b =
     let k : unless (is_nursery_size b.0) Nursery ≡ None = subst (λ l. fault_behind before l ≡ None) b.1 q in b.2 (nursery_true b.0 (unless_none _ _ k))
 none_broken Blocks before line o q b =
-    let k : unless (is_within 1 4096 b.0) Blocks ≡ None = subst (λ l. fault_behind before l ≡ None) b.1 q in b.2 (within_true 1 4096 b.0 (unless_none _ _ k))
+    let k : unless (is_within 1 most_blocks b.0) Blocks ≡ None = subst (λ l. fault_behind before l ≡ None) b.1 q in b.2 (within_true 1 most_blocks b.0 (unless_none _ _ k))
 none_broken Pages before line o q b =
-    let k : unless (nat_le b.0 1024) Pages ≡ None = subst (λ l. fault_behind before l ≡ None) b.1 q in let h = le_true b.0 1024 (unless_none _ _ k) in let g = b.2 in omega arith
+    let k : unless (nat_le b.0 most_pages) Pages ≡ None = subst (λ l. fault_behind before l ≡ None) b.1 q in let h = le_true b.0 most_pages (unless_none _ _ k) in let g = b.2 in omega arith
 none_broken Buffer before line o q b =
-    let k : unless (is_within 16 1024 b.0) Buffer ≡ None = subst (λ l. fault_behind before l ≡ None) b.1 q in b.2 (within_true 16 1024 b.0 (unless_none _ _ k))
+    let k : unless (is_within least_buffer most_buffer b.0) Buffer ≡ None = subst (λ l. fault_behind before l ≡ None) b.1 q in b.2 (within_true least_buffer most_buffer b.0 (unless_none _ _ k))
 none_broken Workers before line o q b =
-    let k : unless (is_within 1 8 b.0) Workers ≡ None = subst (λ l. fault_behind before l ≡ None) b.1 q in b.2 (within_true 1 8 b.0 (unless_none _ _ k))
+    let k : unless (is_within 1 most_workers b.0) Workers ≡ None = subst (λ l. fault_behind before l ≡ None) b.1 q in b.2 (within_true 1 most_workers b.0 (unless_none _ _ k))
 none_broken Cement before line o q b =
-    let k : unless (is_within 1 1000 b.0) Cement ≡ None = subst (λ l. fault_behind before l ≡ None) b.1 q in b.2 (within_true 1 1000 b.0 (unless_none _ _ k))
+    let k : unless (is_within 1 most_cement b.0) Cement ≡ None = subst (λ l. fault_behind before l ≡ None) b.1 q in b.2 (within_true 1 most_cement b.0 (unless_none _ _ k))
 none_broken Classes before line o q b =
     let k : class_fault (length (classes_in before)) b.1 ≡ None = subst (λ l. fault_behind before l ≡ None) b.2 q in
-    pick (nat_le 256 (length (classes_in before))) (Some Classes) (unless (may_have b.1.kind b.1.fields) Fields) None k (λ t e. absurd cc) (λ f e. let h = le_false 256 (length (classes_in before)) f in let g = b.3 in omega arith)
+    pick (nat_le most_classes (length (classes_in before))) (Some Classes) (unless (may_have b.1.kind b.1.fields) Fields) None k (λ t e. absurd cc) (λ f e. let h = le_false most_classes (length (classes_in before)) f in let g = b.3 in omega arith)
 none_broken Fields before line o q b =
     let k : class_fault (length (classes_in before)) b.1 ≡ None = subst (λ l. fault_behind before l ≡ None) b.2 q in
-    pick (nat_le 256 (length (classes_in before))) (Some Classes) (unless (may_have b.1.kind b.1.fields) Fields) None k (λ t e. absurd cc) (λ f e. b.3 (may_true b.1.kind b.1.fields (unless_none _ _ e)))
+    pick (nat_le most_classes (length (classes_in before))) (Some Classes) (unless (may_have b.1.kind b.1.fields) Fields) None k (λ t e. absurd cc) (λ f e. b.3 (may_true b.1.kind b.1.fields (unless_none _ _ e)))
 none_broken Vector before line o q b =
-    let k : unless (nat_le b.0 131070) Vector ≡ None = subst (λ l. fault_behind before l ≡ None) b.3 q in let h = le_true b.0 131070 (unless_none _ _ k) in let g = b.4 in omega arith
+    let k : unless (nat_le b.0 most_vector) Vector ≡ None = subst (λ l. fault_behind before l ≡ None) b.3 q in let h = le_true b.0 most_vector (unless_none _ _ k) in let g = b.4 in omega arith
 none_broken Global before line o q b =
-    let k : unless (nat_le b.0 63) Global ≡ None = elim b.2 [ inl e ↦ subst (λ l. fault_behind before l ≡ None) e q | inr e ↦ subst (λ l. fault_behind before l ≡ None) e q ] in
-    let h = le_true b.0 63 (unless_none _ _ k) in let g = b.3 in omega arith
+    let k : unless (nat_le b.0 last_place) Global ≡ None = elim b.2 [ inl e ↦ subst (λ l. fault_behind before l ≡ None) e q | inr e ↦ subst (λ l. fault_behind before l ≡ None) e q ] in
+    let h = le_true b.0 last_place (unless_none _ _ k) in let g = b.3 in omega arith
 none_broken Weak before line o q b =
-    let k : unless (nat_le b.0 63) Weak ≡ None = elim b.3 [ inl e ↦ subst (λ l. fault_behind before l ≡ None) e q | inr e ↦ subst (λ l. fault_behind before l ≡ None) e q ] in
-    let h = le_true b.0 63 (unless_none _ _ k) in let g = b.4 in omega arith
+    let k : unless (nat_le b.0 last_place) Weak ≡ None = elim b.3 [ inl e ↦ subst (λ l. fault_behind before l ≡ None) e q | inr e ↦ subst (λ l. fault_behind before l ≡ None) e q ] in
+    let h = le_true b.0 last_place (unless_none _ _ k) in let g = b.4 in omega arith
 none_broken Times before line o q b =
     let k : repeat_fault (open_behind before) b.0 ≡ None = subst (λ l. fault_behind before l ≡ None) b.1 q in
-    pick (is_within 1 1048576 b.0) (unless (nat_lt (open_behind before) 5) Nesting) (Some Times) None k (λ t e. b.2 (within_true 1 1048576 b.0 t)) (λ f e. absurd cc)
+    pick (is_within 1 most_times b.0) (unless (nat_le (open_behind before) most_nesting) Nesting) (Some Times) None k (λ t e. b.2 (within_true 1 most_times b.0 t)) (λ f e. absurd cc)
 none_broken Nesting before line o q b =
     let k : repeat_fault (open_behind before) b.0 ≡ None = subst (λ l. fault_behind before l ≡ None) b.1 q in
-    pick (is_within 1 1048576 b.0) (unless (nat_lt (open_behind before) 5) Nesting) (Some Times) None k (λ t e. let h = lt_true (open_behind before) 5 (unless_none _ _ e) in let g = b.2 in omega arith) (λ f e. absurd cc)
+    pick (is_within 1 most_times b.0) (unless (nat_le (open_behind before) most_nesting) Nesting) (Some Times) None k (λ t e. let h = le_true (open_behind before) most_nesting (unless_none _ _ e) in let g = b.2 in omega arith) (λ f e. absurd cc)
 none_broken Statements before line o q b = o OfStatements
 none_broken Finals before line o q b = o OfFinals
 none_broken Mutators before line o q b =
@@ -245,68 +243,54 @@ none_broken Mutators before line o q b =
 told : (first : Which) (before : List Sentence) (line : Sentence) (which : Which) → which ≡ first → BreaksFirst first before line → BreaksFirst which before line
 told first before line which e b = subst (λ w. BreaksFirst w before line) (sym e) b
 
-of_setting : (first : Which) (before : List Sentence) (k at n : ℕ) (test : Bool) (which : Which) → at ≡ k → unless test first ≡ Some which →
-    (test ≡ false → BreaksFirst first before (Sets k n)) → BreaksFirst which before (Sets at n)
-of_setting first before k at n test which e q f =
-    let u = unless_some test first which q in
-    subst (λ x. BreaksFirst which before (Sets x n)) (sym e) (told first before (Sets k n) which u.1 (f u.0))
+of_setting : (first : Which) (before : List Sentence) (setting : Setting) (n : ℕ) (test : Bool) (which : Which) → unless test first ≡ Some which →
+    (test ≡ false → BreaksFirst first before (Sets setting n)) → BreaksFirst which before (Sets setting n)
+of_setting first before setting n test which q f = let u = unless_some test first which q in told first before (Sets setting n) which u.1 (f u.0)
 
-at_is : (a b : ℕ) → (a == b) ≡ true → a ≡ b
-at_is a b e = grind (arith, nat_tests, common_steps)
-
-setting_broken : (before : List Sentence) (at n : ℕ) (which : Which) → setting_fault at n ≡ Some which → BreaksFirst which before (Sets at n)
-setting_broken before at n which q =
-    six (at == 0) (at == 1) (at == 2) (at == 3) (at == 4) (at == 5)
-    (unless (is_nursery_size n) Nursery)
-    (unless (is_within 1 4096 n) Blocks)
-    (unless (nat_le n 1024) Pages)
-    (unless (is_within 16 1024 n) Buffer)
-    (unless (is_within 1 8 n) Workers)
-    (unless (is_within 1 1000 n) Cement)
-    which q
-    (λ t e. of_setting Nursery before 0 at n (is_nursery_size n) which (at_is at 0 t) e (λ f. first_of_group Nursery before (Sets 0 n) refl (n, refl, nursery_false n f)))
-    (λ t e. of_setting Blocks before 1 at n (is_within 1 4096 n) which (at_is at 1 t) e (λ f. first_of_group Blocks before (Sets 1 n) refl (n, refl, within_false 1 4096 n f)))
-    (λ t e. of_setting Pages before 2 at n (nat_le n 1024) which (at_is at 2 t) e (λ f. first_of_group Pages before (Sets 2 n) refl (n, refl, le_false n 1024 f)))
-    (λ t e. of_setting Buffer before 3 at n (is_within 16 1024 n) which (at_is at 3 t) e (λ f. first_of_group Buffer before (Sets 3 n) refl (n, refl, within_false 16 1024 n f)))
-    (λ t e. of_setting Workers before 4 at n (is_within 1 8 n) which (at_is at 4 t) e (λ f. first_of_group Workers before (Sets 4 n) refl (n, refl, within_false 1 8 n f)))
-    (λ t e. of_setting Cement before 5 at n (is_within 1 1000 n) which (at_is at 5 t) e (λ f. first_of_group Cement before (Sets 5 n) refl (n, refl, within_false 1 1000 n f)))
+setting_broken : (before : List Sentence) (setting : Setting) (n : ℕ) (which : Which) → setting_fault setting n ≡ Some which → BreaksFirst which before (Sets setting n)
+setting_broken before TheNursery n which q = of_setting Nursery before TheNursery n (is_nursery_size n) which q (λ f. first_of_group Nursery before (Sets TheNursery n) refl (n, refl, nursery_false n f))
+setting_broken before TheBlocks n which q = of_setting Blocks before TheBlocks n (is_within 1 most_blocks n) which q (λ f. first_of_group Blocks before (Sets TheBlocks n) refl (n, refl, within_false 1 most_blocks n f))
+setting_broken before ThePages n which q = of_setting Pages before ThePages n (nat_le n most_pages) which q (λ f. first_of_group Pages before (Sets ThePages n) refl (n, refl, le_false n most_pages f))
+setting_broken before TheBuffer n which q = of_setting Buffer before TheBuffer n (is_within least_buffer most_buffer n) which q (λ f. first_of_group Buffer before (Sets TheBuffer n) refl (n, refl, within_false least_buffer most_buffer n f))
+setting_broken before TheWorkers n which q = of_setting Workers before TheWorkers n (is_within 1 most_workers n) which q (λ f. first_of_group Workers before (Sets TheWorkers n) refl (n, refl, within_false 1 most_workers n f))
+setting_broken before TheCement n which q = of_setting Cement before TheCement n (is_within 1 most_cement n) which q (λ f. first_of_group Cement before (Sets TheCement n) refl (n, refl, within_false 1 most_cement n f))
 
 class_broken : (before : List Sentence) (name : List ℕ) (shape : Shape) (which : Which) → class_fault (length (classes_in before)) shape ≡ Some which → BreaksFirst which before (Declares name shape)
 class_broken before name shape which q =
-    pick (nat_le 256 (length (classes_in before))) (Some Classes) (unless (may_have shape.kind shape.fields) Fields) (Some which) q
+    pick (nat_le most_classes (length (classes_in before))) (Some Classes) (unless (may_have shape.kind shape.fields) Fields) (Some which) q
     (λ t e. let same : which ≡ Classes = cc in
-    told Classes before (Declares name shape) which same (first_of_group Classes before (Declares name shape) refl (name, shape, refl, le_true 256 (length (classes_in before)) t)))
+    told Classes before (Declares name shape) which same (first_of_group Classes before (Declares name shape) refl (name, shape, refl, le_true most_classes (length (classes_in before)) t)))
     (λ f e. let u = unless_some (may_have shape.kind shape.fields) Fields which e in
     told Fields before (Declares name shape) which u.1
     (second_of_group Classes Fields before (Declares name shape) refl refl (name, shape, refl, may_false shape.kind shape.fields u.0)
-    (λ b. let h = le_false 256 (length (classes_in before)) f in let g = b.3 in omega arith)))
+    (λ b. let h = le_false most_classes (length (classes_in before)) f in let g = b.3 in omega arith)))
 
 repeat_broken : (before : List Sentence) (times : ℕ) (which : Which) → repeat_fault (open_behind before) times ≡ Some which → BreaksFirst which before (Repeats times)
 repeat_broken before times which q =
-    pick (is_within 1 1048576 times) (unless (nat_lt (open_behind before) 5) Nesting) (Some Times) (Some which) q
-    (λ t e. let u = unless_some (nat_lt (open_behind before) 5) Nesting which e in
+    pick (is_within 1 most_times times) (unless (nat_le (open_behind before) most_nesting) Nesting) (Some Times) (Some which) q
+    (λ t e. let u = unless_some (nat_le (open_behind before) most_nesting) Nesting which e in
     told Nesting before (Repeats times) which u.1
-    (second_of_group Times Nesting before (Repeats times) refl refl (times, refl, lt_false (open_behind before) 5 u.0)
-    (λ b. let d = b.1 in let same : times ≡ b.0 = cc in b.2 (subst (λ n. (1 ≤ n) × (n ≤ 1048576)) same (within_true 1 1048576 times t)))))
+    (second_of_group Times Nesting before (Repeats times) refl refl (times, refl, le_false (open_behind before) most_nesting u.0)
+    (λ b. let d = b.1 in let same : times ≡ b.0 = cc in b.2 (subst (λ n. (1 ≤ n) × (n ≤ most_times)) same (within_true 1 most_times times t)))))
     (λ f e. let same : which ≡ Times = cc in
-    told Times before (Repeats times) which same (first_of_group Times before (Repeats times) refl (times, refl, within_false 1 1048576 times f)))
+    told Times before (Repeats times) which same (first_of_group Times before (Repeats times) refl (times, refl, within_false 1 most_times times f)))
 
 maker_broken : (before : List Sentence) (maker : Maker) (r : ℕ) (name : List ℕ) (which : Which) → maker_fault maker ≡ Some which → BreaksFirst which before (Makes maker r name)
 maker_broken before AsNew r name which q = absurd cc
 maker_broken before (AsVector count) r name which q =
     let u = unless_some _ Vector which q in
-    told Vector before (Makes (AsVector count) r name) which u.1 (first_of_group Vector before (Makes (AsVector count) r name) refl (count, r, name, refl, le_false count 131070 u.0))
+    told Vector before (Makes (AsVector count) r name) which u.1 (first_of_group Vector before (Makes (AsVector count) r name) refl (count, r, name, refl, le_false count most_vector u.0))
 maker_broken before AsMature r name which q = absurd cc
 
 statement_broken : (before : List Sentence) (s : Statement) (which : Which) → statement_fault s ≡ Some which → BreaksFirst which before (Says s)
 statement_broken before (GPut g r) which q =
-    let u = unless_some _ Global which q in told Global before (Says (GPut g r)) which u.1 (first_of_group Global before (Says (GPut g r)) refl (g, r, inl refl, le_false g 63 u.0))
+    let u = unless_some _ Global which q in told Global before (Says (GPut g r)) which u.1 (first_of_group Global before (Says (GPut g r)) refl (g, r, inl refl, le_false g last_place u.0))
 statement_broken before (GGet r g) which q =
-    let u = unless_some _ Global which q in told Global before (Says (GGet r g)) which u.1 (first_of_group Global before (Says (GGet r g)) refl (g, r, inr refl, le_false g 63 u.0))
+    let u = unless_some _ Global which q in told Global before (Says (GGet r g)) which u.1 (first_of_group Global before (Says (GGet r g)) refl (g, r, inr refl, le_false g last_place u.0))
 statement_broken before (WSet w r long) which q =
-    let u = unless_some _ Weak which q in told Weak before (Says (WSet w r long)) which u.1 (first_of_group Weak before (Says (WSet w r long)) refl (w, r, long, inl refl, le_false w 63 u.0))
+    let u = unless_some _ Weak which q in told Weak before (Says (WSet w r long)) which u.1 (first_of_group Weak before (Says (WSet w r long)) refl (w, r, long, inl refl, le_false w last_place u.0))
 statement_broken before (WGet r w) which q =
-    let u = unless_some _ Weak which q in told Weak before (Says (WGet r w)) which u.1 (first_of_group Weak before (Says (WGet r w)) refl (w, r, false, inr refl, le_false w 63 u.0))
+    let u = unless_some _ Weak which q in told Weak before (Says (WGet r w)) which u.1 (first_of_group Weak before (Says (WGet r w)) refl (w, r, false, inr refl, le_false w last_place u.0))
 statement_broken before (New r class) which q = absurd cc
 statement_broken before (NewV r class count) which q = absurd cc
 statement_broken before (Mature r class) which q = absurd cc
@@ -341,45 +325,33 @@ found_broken before (Says s) which q = statement_broken before s which q
 
 -- ---- lines without a fault have small numbers
 
-setting_small : (at n : ℕ) → setting_fault at n ≡ None → at < 6 → n ≤ 65536
-setting_small at n q low = elim (cases_eq at 0) [
-  | inl e ↦ let k : unless (is_nursery_size n) Nursery ≡ None = subst (λ x. setting_fault x n ≡ None) e q in (nursery_true n (unless_none _ _ k)).1
-  | inr o0 ↦ elim (cases_eq at 1) [
-    | inl e ↦ let k : unless (is_within 1 4096 n) Blocks ≡ None = subst (λ x. setting_fault x n ≡ None) e q in let h = within_true 1 4096 n (unless_none _ _ k) in let h1 = h.1 in omega arith
-    | inr o1 ↦ elim (cases_eq at 2) [
-      | inl e ↦ let k : unless (nat_le n 1024) Pages ≡ None = subst (λ x. setting_fault x n ≡ None) e q in let h = le_true n 1024 (unless_none _ _ k) in omega arith
-      | inr o2 ↦ elim (cases_eq at 3) [
-        | inl e ↦ let k : unless (is_within 16 1024 n) Buffer ≡ None = subst (λ x. setting_fault x n ≡ None) e q in let h = within_true 16 1024 n (unless_none _ _ k) in let h1 = h.1 in omega arith
-        | inr o3 ↦ elim (cases_eq at 4) [
-          | inl e ↦ let k : unless (is_within 1 8 n) Workers ≡ None = subst (λ x. setting_fault x n ≡ None) e q in let h = within_true 1 8 n (unless_none _ _ k) in let h1 = h.1 in omega arith
-          | inr o4 ↦
-              let e : at ≡ 5 = omega arith in
-              let k : unless (is_within 1 1000 n) Cement ≡ None = subst (λ x. setting_fault x n ≡ None) e q in let h = within_true 1 1000 n (unless_none _ _ k) in let h1 = h.1 in omega arith
-        ]
-      ]
-    ]
-  ]
-]
+setting_small : (setting : Setting) (n : ℕ) → setting_fault setting n ≡ None → n ≤ most_nursery
+setting_small TheNursery n q = (nursery_true n (unless_none _ Nursery q)).1
+setting_small TheBlocks n q = let h = (within_true 1 most_blocks n (unless_none _ Blocks q)).1 in omega arith
+setting_small ThePages n q = let h = le_true n most_pages (unless_none _ Pages q) in omega arith
+setting_small TheBuffer n q = let h = (within_true least_buffer most_buffer n (unless_none _ Buffer q)).1 in omega arith
+setting_small TheWorkers n q = let h = (within_true 1 most_workers n (unless_none _ Workers q)).1 in omega arith
+setting_small TheCement n q = let h = (within_true 1 most_cement n (unless_none _ Cement q)).1 in omega arith
 
-class_small : (classes : ℕ) (shape : Shape) → class_fault classes shape ≡ None → (classes < 256) × MayHave shape.kind shape.fields
+class_small : (classes : ℕ) (shape : Shape) → class_fault classes shape ≡ None → (classes < most_classes) × MayHave shape.kind shape.fields
 class_small classes shape q =
-    pick (nat_le 256 classes) (Some Classes) (unless (may_have shape.kind shape.fields) Fields) None q (λ t e. absurd cc)
-    (λ f e. (le_false 256 classes f, may_true shape.kind shape.fields (unless_none _ _ e)))
+    pick (nat_le most_classes classes) (Some Classes) (unless (may_have shape.kind shape.fields) Fields) None q (λ t e. absurd cc)
+    (λ f e. (le_false most_classes classes f, may_true shape.kind shape.fields (unless_none _ _ e)))
 
-repeat_small : (behind times : ℕ) → repeat_fault behind times ≡ None → times ≤ 1048576
+repeat_small : (behind times : ℕ) → repeat_fault behind times ≡ None → times ≤ most_times
 repeat_small behind times q =
-    pick (is_within 1 1048576 times) (unless (nat_lt behind 5) Nesting) (Some Times) None q (λ t e. (within_true 1 1048576 times t).1) (λ f e. absurd cc)
+    pick (is_within 1 most_times times) (unless (nat_le behind most_nesting) Nesting) (Some Times) None q (λ t e. (within_true 1 most_times times t).1) (λ f e. absurd cc)
 
 maker_small : (maker : Maker) (r : ℕ) (name : List ℕ) → maker_fault maker ≡ None → IsSmall (Makes maker r name)
 maker_small AsNew r name q = tt
-maker_small (AsVector count) r name q = le_true count 131070 (unless_none _ _ q)
+maker_small (AsVector count) r name q = le_true count most_vector (unless_none _ _ q)
 maker_small AsMature r name q = tt
 
 statement_small : (s : Statement) → statement_fault s ≡ None → HasSmallPlace s
-statement_small (GPut g r) q = le_true g 63 (unless_none _ _ q)
-statement_small (GGet r g) q = le_true g 63 (unless_none _ _ q)
-statement_small (WSet w r long) q = le_true w 63 (unless_none _ _ q)
-statement_small (WGet r w) q = le_true w 63 (unless_none _ _ q)
+statement_small (GPut g r) q = le_true g last_place (unless_none _ _ q)
+statement_small (GGet r g) q = le_true g last_place (unless_none _ _ q)
+statement_small (WSet w r long) q = le_true w last_place (unless_none _ _ q)
+statement_small (WGet r w) q = le_true w last_place (unless_none _ _ q)
 statement_small (New r class) q = tt
 statement_small (NewV r class count) q = tt
 statement_small (Mature r class) q = tt
@@ -410,7 +382,7 @@ line_small before Ends q = tt
 line_small before (Makes maker r name) q = maker_small maker r name q
 line_small before (Says s) q = statement_small s q
 
-pub class_room : (before : List Sentence) (line : Sentence) → fault_behind before line ≡ None → length (classes_in before) ≤ 256 → length (classes_in before) + length (class_in line) ≤ 256
+pub class_room : (before : List Sentence) (line : Sentence) → fault_behind before line ≡ None → length (classes_in before) ≤ most_classes → length (classes_in before) + length (class_in line) ≤ most_classes
 class_room before Heads q l = omega arith
 class_room before (Sets at n) q l = omega arith
 class_room before (Declares name shape) q l = let c = class_small (length (classes_in before)) shape q in let c0 = c.0 in omega arith

@@ -8,12 +8,13 @@ use Rattle.sg_program.specs.declared.program.Item.TheOpen.{One, Repeat}
 use Rattle.sg_program.specs.declared.program.Item.TheViews.{out-roll-Item}
 use Rattle.sg_program.specs.declared.program.Script.{Script}
 use Rattle.sg_program.specs.declared.program.Program.{Program}
-use Rattle.sg_parse.specs.Lines.{made_by, Sentence, Begins, Repeats, Ends, Makes}
-use Rattle.sg_parse.specs.Text.{AreItems, NoItem, OneSays, OneMakes, NoRepeat, OneRepeat, AreScripts, IsProgram, IsAnyName, IsWhole, StandsFor}
+use Rattle.sg_text.specs.Lines.{made_by, Sentence, Begins, Repeats, Ends, Makes}
+use Rattle.sg_grammar.specs.Text.{AreItems, NoItem, OneSays, OneMakes, NoRepeat, OneRepeat, AreScripts, IsProgram, IsAnyName, IsWhole, StandsFor}
 use Rattle.sg_parse.specs.Faults.{class_in, classes_in, IsMisnamed}
-use Rattle.sg_parse.specs.Reading.{HasNoneIn}
+use Rattle.sg_parse.specs.Indices.{HasNoneIn}
 use Rattle.sg_parse.proofs.LaterLemmas.{made_named}
-use Rattle.sg_parse.proofs.Run.{all_front, all_back, head_of, classes_of_head}
+use Rattle.sg_parse.proofs.Run.{head_of, classes_of_head}
+use Rattle.sg_words.proofs.Everywhere.{all_front, all_back}
 
 -- what holds of each sentence at its place holds of all
 pub all_at : {A : Type 0} (P : A → Type 0) (xs : List A) → ((i : ℕ) (x : A) → slice_get xs i ≡ Some x → P x) → AllByRecursion P xs

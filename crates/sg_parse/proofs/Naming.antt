@@ -14,11 +14,11 @@ use Rattle.sg_desc.specs.declared.shapes.Descriptor.TheVariants.{Ephemeron}
 use Rattle.sg_desc.specs.declared.shapes.Shape.{Shape}
 use Rattle.sg_desc.specs.Shapes.{is_vector}
 use Rattle.sg_program.specs.declared.program.Class.{Class}
-use Rattle.sg_parse.specs.declared.line.Form.{Form}
-use Rattle.sg_parse.specs.Lines.{Maker, Sentence, Declares, Makes}
-use Rattle.sg_parse.specs.Text.{IsClassName, StandsFor}
+use Rattle.sg_text.specs.declared.line.Form.{Form}
+use Rattle.sg_text.specs.Lines.{Maker, Sentence, Declares, Makes}
+use Rattle.sg_grammar.specs.Text.{IsClassName, StandsFor}
 use Rattle.sg_parse.specs.Faults.{wants_vector, IsFit, IsPairClass}
-use Rattle.sg_parse.specs.Reading.{shape_in}
+use Rattle.sg_text.specs.Reading.{shape_in}
 use Rattle.sg_parse.specs.Names.{class_of, AreDistinct, IsNamed, Misnames}
 
 -- ---- entries of the map

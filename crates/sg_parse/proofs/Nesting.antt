@@ -13,10 +13,10 @@ use Rattle.sg_program.specs.declared.program.Script.{Script}
 use Rattle.sg_words.specs.Lists.{Pairwise}
 use Rattle.sg_program.specs.Invariants.{depth_step, item_depth}
 use Rattle.sg_parse.specs.declared.refusal.Which.TheVariants.{Classes, Nesting, Mutators}
-use Rattle.sg_parse.specs.Lines.{made_by, Sentence, Begins, Repeats, Ends, Makes, Says}
-use Rattle.sg_parse.specs.Text.{AreItems, NoItem, OneSays, OneMakes, NoRepeat, OneRepeat, AreScripts, IsClass, IsSetting}
+use Rattle.sg_text.specs.Lines.{made_by, Sentence, Begins, Repeats, Ends, Makes, Says}
+use Rattle.sg_grammar.specs.Text.{AreItems, NoItem, OneSays, OneMakes, NoRepeat, OneRepeat, AreScripts, IsClass, IsSetting}
 use Rattle.sg_parse.specs.Faults.{class_in, classes_in, is_opening, is_ending, is_begin, open_behind, BreaksSome}
-use Rattle.sg_parse.specs.Reading.{HasNoneIn}
+use Rattle.sg_parse.specs.Indices.{HasNoneIn}
 use Rattle.sg_parse.proofs.LineFaults.{classes-push, count-push}
 use Rattle.sg_parse.proofs.Run.{none_split}
 

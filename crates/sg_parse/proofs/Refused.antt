@@ -1,53 +1,85 @@
 -- Why a text isn't read, by what the scan and the order of its sentences say.
-use Rattle.std.proofs.Common.{◌≡◌, ℕ, zero, suc, ◌<◌, Option, Some, None, List, [], ◌∷◌, length, take, map, slice_get, refl, sym, ap, subst, arith}
-use Rattle.std.proofs.lemmas.List.{length-map}
-use Rattle.sg_parse.specs.declared.line.Line.{Line}
-use Rattle.sg_parse.specs.Lines.{Sentence}
-use Rattle.sg_parse.specs.Text.{IsWhole, CanGoOn, IsFirstRefused}
-use Rattle.sg_parse.specs.Reading.{sentence_of, IsScan, IsPrefix}
-use Rattle.sg_parse.proofs.OneSentence.{one_list}
-use Rattle.sg_parse.proofs.Glue.{refused-misplaced, refused-bad, refused-end, whole-prefix}
+use Rattle.std.proofs.Common.{◌≡◌, ℕ, zero, suc, ◌<◌, ◌≤◌, Some, List, [], ◌∷◌, ◌++◌, length, take, map, slice_get, refl, sym, ap, ◌∙◌, subst, inr, arith}
+use Rattle.std.proofs.lemmas.List.{append-nil}
+use Rattle.std.proofs.lemmas.Option.{none-some, same_Some}
+use Rattle.sg_text.specs.Lines.{Sentence}
+use Rattle.sg_text.specs.Numbered.{Numbered, sentences}
+use Rattle.sg_text.specs.Reading.{numbered, AreRead, IsScan}
+use Rattle.sg_text.specs.declared.scanner.Extent.{Extent}
+use Rattle.sg_text.specs.declared.scanner.Extent.TheVariants.{Whole, Above}
+use Rattle.sg_text.specs.Laws.{HaveOneSaying}
+use Rattle.sg_grammar.specs.Text.{IsWhole, IsPrefix, CanGoOn, IsFirstRefused}
+use Rattle.sg_parse.proofs.Glue.{at, refused_misplaced, misplaced_above, refused_line, refused_end}
+
+-- ---- sentences and their numbers
 
 pub there-is : {A : Type 0} (xs : List A) (i : ℕ) → i < length xs → (x : A) × (slice_get xs i ≡ Some x)
 there-is [] i l = absurd (omega (arith, l))
 there-is (x ∷ xs) zero l = (x, refl)
 there-is (x ∷ xs) (suc i) l = there-is xs i (omega (arith, l))
 
+pub sentences_numbered : (numbers : List ℕ) (said : List Sentence) → length numbers ≡ length said → sentences (numbered numbers said) ≡ said
+sentences_numbered [] [] e = refl
+sentences_numbered [] (s ∷ said) e = absurd (omega (arith, e))
+sentences_numbered (n ∷ numbers) [] e = absurd (omega (arith, e))
+sentences_numbered (n ∷ numbers) (s ∷ said) e = ap (λ (l : List Sentence). s ∷ l) (sentences_numbered numbers said (omega (arith, e)))
+
+pub front_numbered : (i : ℕ) (numbers : List ℕ) (said : List Sentence) → length numbers ≡ length said → sentences (take i (numbered numbers said)) ≡ take i said
+front_numbered zero numbers said e = refl
+front_numbered (suc i) [] [] e = refl
+front_numbered (suc i) [] (s ∷ said) e = absurd (omega (arith, e))
+front_numbered (suc i) (n ∷ numbers) [] e = absurd (omega (arith, e))
+front_numbered (suc i) (n ∷ numbers) (s ∷ said) e = ap (λ (l : List Sentence). s ∷ l) (front_numbered i numbers said (omega (arith, e)))
+
+pub get_numbered : (numbers : List ℕ) (said : List Sentence) (i k : ℕ) (s : Sentence) → slice_get numbers i ≡ Some k → slice_get said i ≡ Some s → slice_get (numbered numbers said) i ≡ Some (at k s)
+get_numbered [] said i k s e f = absurd (none-some k e)
+get_numbered (n ∷ numbers) [] i k s e f = absurd (none-some s f)
+get_numbered (n ∷ numbers) (t ∷ said) zero k s e f =
+    let number : n ≡ k = same_Some n k e in
+    let sentence : t ≡ s = same_Some t s f in
+    ap (λ (x : ℕ). Some (at x t)) number ∙ ap (λ (x : Sentence). Some (at k x)) sentence
+get_numbered (n ∷ numbers) (t ∷ said) (suc i) k s e f = get_numbered numbers said i k s e f
+
+pub sentence_numbered : (numbers : List ℕ) (said : List Sentence) (i : ℕ) (one : Numbered) → slice_get (numbered numbers said) i ≡ Some one → slice_get said i ≡ Some one.sentence
+sentence_numbered [] said i one e = absurd (none-some one e)
+sentence_numbered (n ∷ numbers) [] i one e = absurd (none-some one e)
+sentence_numbered (n ∷ numbers) (t ∷ said) zero one e = ap (λ (x : Numbered). Some x.sentence) (same_Some (at n t) one e)
+sentence_numbered (n ∷ numbers) (t ∷ said) (suc i) one e = sentence_numbered numbers said i one e
+
+-- ---- the first line that the grammar refuses
+
 -- there is a number for each sentence
-pub as-many-numbers : (text : List (List ℕ)) (numbers : List ℕ) (s : List Sentence) (bad : Option ℕ) → IsScan text numbers s bad → length numbers ≡ length s
-as-many-numbers text numbers s None read = read.as_many
-as-many-numbers text numbers s (Some b) (m, line, number, there, none, read) = read.as_many
+pub as_many_numbers : (text : List (List ℕ)) (numbers : List ℕ) (said : List Sentence) (extent : Extent) → IsScan text numbers said extent → length numbers ≡ length said
+as_many_numbers text numbers said (Whole count) scan = scan.1.as_many
+as_many_numbers text numbers said (Above wrong) (j, line, number, there, none, read) = read.as_many
 
-pub numbers-reach : (text : List (List ℕ)) (numbers : List ℕ) (lines now : List Line) (bad : Option ℕ) (i : ℕ) → IsScan text numbers (map sentence_of lines) bad → now ≡ lines → i < length now → i < length numbers
-numbers-reach text numbers lines now bad i scan same l =
-    let m = as-many-numbers text numbers (map sentence_of lines) bad scan in
-    let k : length now ≡ length lines = ap length same in
-    omega (arith, length-map lines sentence_of)
+whole_prefix : (s : List Sentence) → IsWhole s → IsPrefix s
+whole_prefix s whole = inr (0, subst IsWhole (sym (append-nil s)) whole)
 
-pub at-misplaced : (text : List (List ℕ)) (numbers : List ℕ) (lines now : List Line) (bad : Option ℕ) (i k : ℕ) → IsScan text numbers (map sentence_of lines) bad → now ≡ lines →
-    slice_get numbers i ≡ Some k → i < length now → IsPrefix (take i (map sentence_of now)) → ¬ CanGoOn (take (suc i) (map sentence_of now)) → IsFirstRefused text k
-at-misplaced text numbers lines now bad i k scan same e l prefix none =
-    let k' : length now ≡ length lines = ap length same in
-    let within : i < length (map sentence_of lines) = omega (arith, length-map lines sentence_of) in
-    let line = there-is (map sentence_of lines) i within in
-    refused-misplaced one_list text numbers (map sentence_of lines) bad i k line.0 scan e line.1
-    (subst (λ (z : List Line). IsPrefix (take i (map sentence_of z))) same prefix)
-    (subst (λ (z : List Line). ¬ CanGoOn (take (suc i) (map sentence_of z))) same none)
+module _ (law : HaveOneSaying) where
+  pub at_misplaced : (text : List (List ℕ)) (numbers : List ℕ) (said : List Sentence) (extent : Extent) (i k : ℕ) → IsScan text numbers said extent →
+      slice_get numbers i ≡ Some k → i < length said → IsPrefix (take i said) → ¬ CanGoOn (take (suc i) said) → IsFirstRefused text k
+  at_misplaced text numbers said (Whole count) i k (counted, read) e l prefix none =
+      let s = there-is said i l in
+      refused_misplaced law text (numbered numbers said) i (at k s.0) read.say (get_numbered numbers said i k s.0 e s.1)
+      (subst IsPrefix (sym (front_numbered i numbers said read.as_many)) prefix)
+      (subst (λ (z : List Sentence). ¬ CanGoOn z) (sym (front_numbered (suc i) numbers said read.as_many)) none)
+  at_misplaced text numbers said (Above wrong) i k (m, line, number, there, wordless, read) e l prefix none =
+      let s = there-is said i l in
+      misplaced_above law text (numbered numbers said) m i (at k s.0) read.say (get_numbered numbers said i k s.0 e s.1)
+      (subst IsPrefix (sym (front_numbered i numbers said read.as_many)) prefix)
+      (subst (λ (z : List Sentence). ¬ CanGoOn z) (sym (front_numbered (suc i) numbers said read.as_many)) none)
 
-pub at-bad-whole : (text : List (List ℕ)) (numbers : List ℕ) (lines now : List Line) (bad : Option ℕ) (b : ℕ) → IsScan text numbers (map sentence_of lines) bad → bad ≡ Some b → now ≡ lines → IsWhole (map sentence_of now) → IsFirstRefused text b
-at-bad-whole text numbers lines now bad b scan is same whole =
-    refused-bad one_list text numbers (map sentence_of lines) b (subst (IsScan text numbers (map sentence_of lines)) is scan)
-    (whole-prefix one_list (map sentence_of lines) (subst (λ (z : List Line). IsWhole (map sentence_of z)) same whole))
+  pub at_wrong : (text : List (List ℕ)) (numbers : List ℕ) (said : List Sentence) (wrong : ℕ) → IsScan text numbers said (Above wrong) → IsPrefix said → IsFirstRefused text wrong
+  at_wrong text numbers said wrong (m, line, number, there, wordless, read) prefix =
+      subst (IsFirstRefused text) (sym number)
+      (refused_line law text (numbered numbers said) m line there wordless read.say (subst IsPrefix (sym (sentences_numbered numbers said read.as_many)) prefix))
 
-pub at-bad : (text : List (List ℕ)) (numbers : List ℕ) (lines now : List Line) (bad : Option ℕ) (b : ℕ) → IsScan text numbers (map sentence_of lines) bad → bad ≡ Some b → now ≡ lines → IsPrefix (map sentence_of now) → IsFirstRefused text b
-at-bad text numbers lines now bad b scan is same prefix =
-    refused-bad one_list text numbers (map sentence_of lines) b (subst (IsScan text numbers (map sentence_of lines)) is scan)
-    (subst (λ (z : List Line). IsPrefix (map sentence_of z)) same prefix)
+  pub at_wrong_whole : (text : List (List ℕ)) (numbers : List ℕ) (said : List Sentence) (wrong : ℕ) → IsScan text numbers said (Above wrong) → IsWhole said → IsFirstRefused text wrong
+  at_wrong_whole text numbers said wrong scan whole = at_wrong text numbers said wrong scan (whole_prefix said whole)
 
-pub at-end : (text : List (List ℕ)) (numbers : List ℕ) (lines now : List Line) (bad : Option ℕ) (count : ℕ) → IsScan text numbers (map sentence_of lines) bad → bad ≡ None → now ≡ lines → count ≡ length text →
-    IsPrefix (map sentence_of now) → ¬ IsWhole (map sentence_of now) → IsFirstRefused text count
-at-end text numbers lines now bad count scan is same counted prefix none =
-    subst (IsFirstRefused text) (sym counted)
-    (refused-end one_list text numbers (map sentence_of lines) (subst (IsScan text numbers (map sentence_of lines)) is scan)
-    (subst (λ (z : List Line). IsPrefix (map sentence_of z)) same prefix)
-    (subst (λ (z : List Line). ¬ IsWhole (map sentence_of z)) same none))
+  pub at_end : (text : List (List ℕ)) (numbers : List ℕ) (said : List Sentence) (count : ℕ) → IsScan text numbers said (Whole count) → IsPrefix said → ¬ IsWhole said → IsFirstRefused text count
+  at_end text numbers said count (counted, read) prefix bad =
+      let same : said ≡ sentences (numbered numbers said) = sym (sentences_numbered numbers said read.as_many) in
+      subst (IsFirstRefused text) (sym counted)
+      (refused_end law text (numbered numbers said) read.say (subst IsPrefix same prefix) (subst (λ (z : List Sentence). ¬ IsWhole z) same bad))

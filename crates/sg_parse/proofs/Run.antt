@@ -14,13 +14,14 @@ use Rattle.sg_program.specs.declared.program.Script.{Script}
 use Rattle.sg_program.specs.declared.program.Program.{Program}
 use Rattle.sg_words.specs.Lists.{Pairwise}
 use Rattle.sg_program.specs.Scripts.{shape_at, item_text, written}
-use Rattle.sg_program.proofs.Items.{text_one, text_repeat}
-use Rattle.sg_parse.specs.Lines.{Maker, AsNew, AsVector, AsMature, made_by, Sentence, Heads, Begins, Repeats, Ends, Makes, Says, IsLine}
-use Rattle.sg_parse.specs.Text.{AreItems, NoItem, OneSays, OneMakes, NoRepeat, OneRepeat, AreScripts, IsClass, IsSetting, IsProgram, StandsFor}
+use Rattle.sg_program.specs.Laws.{ItemsUnfold}
+use Rattle.sg_words.proofs.Everywhere.{all_append, all_front, all_back}
+use Rattle.sg_text.specs.Lines.{Maker, AsNew, AsVector, AsMature, made_by, Sentence, Heads, Begins, Repeats, Ends, Makes, Says, IsLine}
+use Rattle.sg_grammar.specs.Text.{AreItems, NoItem, OneSays, OneMakes, NoRepeat, OneRepeat, AreScripts, IsClass, IsSetting, IsProgram, StandsFor}
 use Rattle.sg_parse.specs.Faults.{class_in, classes_in, is_begin, IsPairClass, IsLater, Another}
 use Rattle.sg_program.specs.Invariants.{IsBuilt}
 use Rattle.sg_parse.specs.Names.{IsLaterBy}
-use Rattle.sg_parse.specs.Reading.{HasNoneIn}
+use Rattle.sg_parse.specs.Indices.{HasNoneIn}
 use Rattle.sg_parse.proofs.Naming.{name_of_class}
 use Rattle.sg_parse.proofs.LaterLemmas.{get_front, later_front}
 
@@ -29,18 +30,6 @@ use Rattle.sg_parse.proofs.LaterLemmas.{get_front, later_front}
 get_middle : {A : Type 0} (xs ys : List A) (x : A) → slice_get (xs ++ x ∷ ys) (length xs) ≡ Some x
 get_middle [] ys x = refl
 get_middle (z ∷ zs) ys x = get_middle zs ys x
-
-pub all_append : {A : Type 0} (P : A → Type 0) (xs ys : List A) → AllByRecursion P xs → AllByRecursion P ys → AllByRecursion P (xs ++ ys)
-all_append P [] ys a b = b
-all_append P (x ∷ xs) ys a b = (a.0, all_append P xs ys a.1 b)
-
-pub all_front : {A : Type 0} (P : A → Type 0) (xs ys : List A) → AllByRecursion P (xs ++ ys) → AllByRecursion P xs
-all_front P [] ys h = tt
-all_front P (x ∷ xs) ys h = (h.0, all_front P xs ys h.1)
-
-pub all_back : {A : Type 0} (P : A → Type 0) (xs ys : List A) → AllByRecursion P (xs ++ ys) → AllByRecursion P ys
-all_back P [] ys h = h
-all_back P (x ∷ xs) ys h = all_back P xs ys h.1
 
 pub none_split : (Fault : List Sentence → Sentence → Type 0) (lines before after : List Sentence) (line : Sentence) → HasNoneIn Fault lines → lines ≡ before ++ line ∷ after → ¬ Fault before line
 none_split Fault lines before after line none e fault =
@@ -91,22 +80,22 @@ inside p first body rest whole e fine =
     let all : AllByRecursion (IsFine p) (first ∷ body ++ Ends ∷ rest) = subst (AllByRecursion (IsFine p)) e fine in
     (all_front (IsFine p) body (Ends ∷ rest) all.1, (all_back (IsFine p) body (Ends ∷ rest) all.1).1)
 
-run_items : (p : Program) (lines : List Sentence) (items : List Item) → AreItems (StandsFor p.classes) lines items → AllByRecursion (IsFine p) lines → AllByRecursion (IsBuilt p) (written items)
-run_items p lines items NoItem fine = tt
-run_items p lines items (OneSays s rest item more out h) fine = run_more p (s ∷ []) item more (text_one item s out) (run_says p s fine.0, tt) (run_items p rest more h fine.1)
-run_items p lines items (OneMakes maker r class name rest item more stands out h) fine =
-    run_more p (made_by maker r class ∷ []) item more (text_one item (made_by maker r class) out) (run_makes p maker r class name stands fine.0, tt) (run_items p rest more h fine.1)
-run_items p lines items (NoRepeat times body rest whole more e b h) fine = run_items p rest more h (inside p (Repeats times) body rest whole e fine).1
-run_items p lines items (OneRepeat times body rest whole item inner more e b some out h) fine =
+run_items : (unfolds : ItemsUnfold) → (p : Program) (lines : List Sentence) (items : List Item) → AreItems (StandsFor p.classes) lines items → AllByRecursion (IsFine p) lines → AllByRecursion (IsBuilt p) (written items)
+run_items unfolds p lines items NoItem fine = tt
+run_items unfolds p lines items (OneSays s rest item more out h) fine = run_more p (s ∷ []) item more (unfolds.text_one item s out) (run_says p s fine.0, tt) (run_items unfolds p rest more h fine.1)
+run_items unfolds p lines items (OneMakes maker r class name rest item more stands out h) fine =
+    run_more p (made_by maker r class ∷ []) item more (unfolds.text_one item (made_by maker r class) out) (run_makes p maker r class name stands fine.0, tt) (run_items unfolds p rest more h fine.1)
+run_items unfolds p lines items (NoRepeat times body rest whole more e b h) fine = run_items unfolds p rest more h (inside p (Repeats times) body rest whole e fine).1
+run_items unfolds p lines items (OneRepeat times body rest whole item inner more e b some out h) fine =
     let parts = inside p (Repeats times) body rest whole e fine in
-    run_more p (written inner) item more (text_repeat item times inner out) (run_items p body inner b parts.0) (run_items p rest more h parts.1)
+    run_more p (written inner) item more (unfolds.text_repeat item times inner out) (run_items unfolds p body inner b parts.0) (run_items unfolds p rest more h parts.1)
 
-run_scripts : (p : Program) (lines : List Sentence) (scripts : List Script) → AreScripts (StandsFor p.classes) lines scripts → AllByRecursion (IsFine p) lines
+run_scripts : (unfolds : ItemsUnfold) → (p : Program) (lines : List Sentence) (scripts : List Script) → AreScripts (StandsFor p.classes) lines scripts → AllByRecursion (IsFine p) lines
     → AllByRecursion (λ (script : Script). AllByRecursion (IsBuilt p) (written script.items)) scripts
-run_scripts p lines [] h fine = tt
-run_scripts p lines (script ∷ scripts) h fine =
+run_scripts unfolds p lines [] h fine = tt
+run_scripts unfolds p lines (script ∷ scripts) h fine =
     let parts = inside p Begins h.0 h.1 lines h.2 fine in
-    (run_items p h.0 script.items h.3 parts.0, run_scripts p h.1 scripts h.4 parts.1)
+    (run_items unfolds p h.0 script.items h.3 parts.0, run_scripts unfolds p h.1 scripts h.4 parts.1)
 
 -- ---- the lines behind the classes
 
@@ -162,18 +151,12 @@ alone names lines before scripts (one ∷ two ∷ more) e h none =
     e ∙ ap (λ (l : List Sentence). before ++ l) (h.2 ∙ ap (λ (l : List Sentence). Begins ∷ body ++ Ends ∷ l) second.2 ∙ sym (append_assoc (Begins ∷ body) (Ends ∷ []) (Begins ∷ after))) ∙ sym (append_assoc before (Begins ∷ body ++ Ends ∷ []) (Begins ∷ after)) in
     absurd (none_split IsLater lines front after Begins none whole (Another begun))
 
-pub said_each : (words : List (List (List ℕ))) (lines : List Sentence) → Pairwise IsLine words lines → AllByRecursion IsSaid lines
-said_each [] [] h = tt
-said_each [] (line ∷ lines) h = absurd h
-said_each (w ∷ ws) [] h = absurd h
-said_each (w ∷ ws) (line ∷ lines) h = ((w, h.0), said_each ws lines h.1)
-
 -- The sentences have to be those of lines: no line says a statement that makes an object of a class by its number.
-pub run_now : (lines : List Sentence) (p : Program) → IsProgram (StandsFor p.classes) lines p → AllByRecursion IsSaid lines → HasNoneIn IsLater lines
+pub run_now : (unfolds : ItemsUnfold) → (lines : List Sentence) (p : Program) → IsProgram (StandsFor p.classes) lines p → AllByRecursion IsSaid lines → HasNoneIn IsLater lines
     → AllByRecursion (λ (script : Script). AllByRecursion (IsBuilt p) (written script.items)) p.mutators × (length p.mutators ≤ 1)
-run_now lines p program said none =
+run_now unfolds lines p program said none =
     let before : List Sentence = head_of program.settings program.classes in
     let told : AllByRecursion IsSaid (before ++ program.scripts) = subst (AllByRecursion IsSaid) program.in_order said in
     let classes : classes_in before ≡ p.classes ++ [] = classes_of_head program.settings program.classes p.classes program.are_settings.settings program.are_classes ∙ sym (append-nil p.classes) in
     let fine = fine_from p lines before program.scripts none (all_back IsSaid before program.scripts told) program.in_order [] classes in
-    (run_scripts p program.scripts p.mutators program.are_scripts fine, alone (StandsFor p.classes) lines before program.scripts p.mutators program.in_order program.are_scripts none)
+    (run_scripts unfolds p program.scripts p.mutators program.are_scripts fine, alone (StandsFor p.classes) lines before program.scripts p.mutators program.in_order program.are_scripts none)

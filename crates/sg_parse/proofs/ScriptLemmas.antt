@@ -9,8 +9,8 @@ use Rattle.sg_program.specs.declared.program.Script.{Script}
 use Rattle.sg_parse.specs.declared.refusal.Which.{Which}
 use Rattle.sg_parse.specs.declared.scripts.Body.{Body}
 use Rattle.sg_parse.specs.declared.scripts.Scripts.TheVariants.{Read, Heavy}
-use Rattle.sg_parse.specs.Lines.{Sentence, Begins, Ends}
-use Rattle.sg_parse.specs.Text.{AreItems, AreScripts, StandsFor}
+use Rattle.sg_text.specs.Lines.{Sentence, Begins, Ends}
+use Rattle.sg_grammar.specs.Text.{AreItems, AreScripts, StandsFor}
 use Rattle.sg_parse.specs.Building.{AreSmall, IsBody, IsTooMuch, AreRead, total_of, finals_of}
 use Rattle.sg_parse.proofs.Bodies.{behind, small_drop}
 

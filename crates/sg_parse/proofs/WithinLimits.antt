@@ -17,32 +17,36 @@ use Rattle.sg_program.specs.declared.program.Item.TheOpen.{One, Repeat}
 use Rattle.sg_program.specs.declared.program.Script.{Script}
 use Rattle.sg_program.specs.declared.program.Program.{Program}
 use Rattle.sg_words.specs.Lists.{Pairwise}
-use Rattle.sg_program.specs.Limits.{MayHave, IsNurserySize}
+use Rattle.sg_program.specs.Limits.{MayHave, IsNurserySize, least_nursery, most_nursery, most_blocks, most_pages, least_buffer, most_buffer, most_workers, most_cement}
 use Rattle.sg_program.specs.Invariants.{IsSmallClass, AreWithinLimits, HasOperands, FitsClass, IsGood, times_step, item_depth, item_times, IsGoodScript, IsWithinLimits}
 use Rattle.sg_program.specs.Scripts.{shape_at, kind_of, item_text, written, NamesClass, statements_in, finals_in}
-use Rattle.sg_program.proofs.Items.{text_one, text_repeat}
+use Rattle.sg_program.specs.Laws.{ItemsUnfold}
+use Rattle.sg_grammar.specs.Laws.{HaveOneProgram}
 use Rattle.sg_parse.specs.declared.refusal.Which.TheVariants.{Nursery, Blocks, Pages, Buffer, Workers, Cement, Fields, Vector, Global, Weak, Times, Statements, Finals}
-use Rattle.sg_parse.specs.Lines.{Maker, AsNew, AsVector, AsMature, made_by, Sentence, Heads, Sets, Declares, Begins, Repeats, Ends, Makes, Says}
-use Rattle.sg_parse.specs.Text.{AreItems, NoItem, OneSays, OneMakes, NoRepeat, OneRepeat, AreScripts, IsClass, settings_of, defaults, AreSettings, IsProgram, StandsFor}
+use Rattle.sg_text.specs.declared.line.Setting.{Setting}
+use Rattle.sg_text.specs.declared.line.Setting.TheVariants.{Nursery as TheNursery, Blocks as TheBlocks, Pages as ThePages, Buffer as TheBuffer, Workers as TheWorkers, Cement as TheCement}
+use Rattle.sg_text.specs.Lines.{Maker, AsNew, AsVector, AsMature, made_by, Sentence, Heads, Sets, Declares, Begins, Repeats, Ends, Makes, Says}
+use Rattle.sg_grammar.specs.Text.{value_in, defaults, AreItems, NoItem, OneSays, OneMakes, NoRepeat, OneRepeat, AreScripts, IsClass, AreSettings, IsProgram, StandsFor}
 use Rattle.sg_parse.specs.Faults.{classes_in, wants_vector, IsMisnamed, open_behind, BreaksSome}
-use Rattle.sg_parse.specs.Reading.{HasNoneIn}
+use Rattle.sg_parse.specs.Indices.{HasNoneIn}
 use Rattle.sg_parse.specs.Building.{AreLines}
 use Rattle.sg_parse.proofs.LaterLemmas.{front_class, made_fit}
 use Rattle.sg_parse.proofs.NamedProgram.{all_at, around, classes_are}
 use Rattle.sg_parse.proofs.Nesting.{keep_from, few_classes, few_mutators, IsDeep, deep_plain, deep_open, deep_end, nested_items, deep_settings, deep_classes, last_end}
-use Rattle.sg_parse.proofs.Run.{all_append, all_front, all_back, IsSaid, head_of}
-use Rattle.sg_parse.proofs.Uniqueness.{gives, one_class}
+use Rattle.sg_parse.proofs.Run.{IsSaid, head_of}
+use Rattle.sg_words.proofs.Everywhere.{all_append, all_front, all_back}
+use Rattle.sg_parse.proofs.SettingsOf.{gives}
 
 -- ---- what one line keeps
 
 -- the numbers of a line are within the limits
 pub record IsFine (line : Sentence) : Type 0 where
-  nursery : (n : ℕ) → line ≡ Sets 0 n → IsNurserySize n
-  blocks : (n : ℕ) → line ≡ Sets 1 n → (1 ≤ n) × (n ≤ 4096)
-  pages : (n : ℕ) → line ≡ Sets 2 n → n ≤ 1024
-  buffer : (n : ℕ) → line ≡ Sets 3 n → (16 ≤ n) × (n ≤ 1024)
-  workers : (n : ℕ) → line ≡ Sets 4 n → (1 ≤ n) × (n ≤ 8)
-  cement : (n : ℕ) → line ≡ Sets 5 n → (1 ≤ n) × (n ≤ 1000)
+  nursery : (n : ℕ) → line ≡ Sets TheNursery n → IsNurserySize n
+  blocks : (n : ℕ) → line ≡ Sets TheBlocks n → (1 ≤ n) × (n ≤ most_blocks)
+  pages : (n : ℕ) → line ≡ Sets ThePages n → n ≤ most_pages
+  buffer : (n : ℕ) → line ≡ Sets TheBuffer n → (least_buffer ≤ n) × (n ≤ most_buffer)
+  workers : (n : ℕ) → line ≡ Sets TheWorkers n → (1 ≤ n) × (n ≤ most_workers)
+  cement : (n : ℕ) → line ≡ Sets TheCement n → (1 ≤ n) × (n ≤ most_cement)
   fields : (name : List ℕ) (shape : Shape) → line ≡ Declares name shape → MayHave shape.kind shape.fields
   vector : (count r : ℕ) (name : List ℕ) → line ≡ Makes (AsVector count) r name → count ≤ 131070
   puts : (g r : ℕ) → line ≡ Says (GPut g r) → g ≤ 63
@@ -65,7 +69,7 @@ within low high n kept = elim (cases_lt n low) [
 
 nursery_size : (n : ℕ) → ¬ ¬ IsNurserySize n → IsNurserySize n
 nursery_size n kept =
-    let range = within 256 65536 n (λ bad. kept (λ k. bad (k.0, k.1))) in
+    let range = within least_nursery most_nursery n (λ bad. kept (λ k. bad (k.0, k.1))) in
     elim (cases_eq (n % 64) 0) [
       | inl even ↦ (range.0, range.1, even)
       | inr odd ↦ absurd (kept (λ k. odd k.2))
@@ -89,11 +93,11 @@ may_have Ephemeron fields kept = equal fields 2 kept
 fine_line : (before : List Sentence) (line : Sentence) → ¬ BreaksSome before line → IsFine line
 fine_line before line none = record {
   nursery = λ n e. nursery_size n (λ bad. none (Nursery, (n, e, bad)));
-  blocks = λ n e. within 1 4096 n (λ bad. none (Blocks, (n, e, bad)));
-  pages = λ n e. at_most 1024 n (λ bad. none (Pages, (n, e, bad)));
-  buffer = λ n e. within 16 1024 n (λ bad. none (Buffer, (n, e, bad)));
-  workers = λ n e. within 1 8 n (λ bad. none (Workers, (n, e, bad)));
-  cement = λ n e. within 1 1000 n (λ bad. none (Cement, (n, e, bad)));
+  blocks = λ n e. within 1 most_blocks n (λ bad. none (Blocks, (n, e, bad)));
+  pages = λ n e. at_most most_pages n (λ bad. none (Pages, (n, e, bad)));
+  buffer = λ n e. within least_buffer most_buffer n (λ bad. none (Buffer, (n, e, bad)));
+  workers = λ n e. within 1 most_workers n (λ bad. none (Workers, (n, e, bad)));
+  cement = λ n e. within 1 most_cement n (λ bad. none (Cement, (n, e, bad)));
   fields = λ name shape e. may_have shape.kind shape.fields (λ bad. none (Fields, (name, shape, e, bad)));
   vector = λ count r name e. at_most 131070 count (λ bad. none (Vector, (count, r, name, e, bad)));
   puts = λ g r e. at_most 63 g (λ bad. none (Global, (g, r, inl e, bad)));
@@ -115,39 +119,39 @@ all_get P [] h i x at = absurd cc
 all_get P (y ∷ ys) h zero x at = subst P (same_Some y x at) h.0
 all_get P (y ∷ ys) h (suc i) x at = all_get P ys h.1 i x at
 
-has_fit : (lines : List Sentence) (p : Program) → p.classes ≡ classes_in lines → HasNoneIn IsMisnamed lines → (i : ℕ) (line : Sentence) → slice_get lines i ≡ Some line → HasFit p line
-has_fit lines p same none i line at maker r name e c stands =
+has_fit : (law : HaveOneProgram) → (lines : List Sentence) (p : Program) → p.classes ≡ classes_in lines → HasNoneIn IsMisnamed lines → (i : ℕ) (line : Sentence) → slice_get lines i ≡ Some line → HasFit p line
+has_fit law lines p same none i line at maker r name e c stands =
     let fit = made_fit lines i maker r name none (at ∙ ap (λ (l : Sentence). Some l) e) in
-    let number : c ≡ fit.0 = one_class p.classes name c fit.0 stands (subst (λ (cs : List Class). StandsFor cs name fit.0) (sym same) fit.1) in
+    let number : c ≡ fit.0 = law.class p.classes name c fit.0 stands (subst (λ (cs : List Class). StandsFor cs name fit.0) (sym same) fit.1) in
     let there : slice_get p.classes c ≡ Some fit.2.class = ap (λ (cs : List Class). slice_get cs c) same ∙ ap (slice_get (classes_in lines)) number ∙ front_class lines i fit.0 fit.2.class fit.2.there in
     (slice_get_within p.classes c fit.2.class there, ap (λ (o : Option Class). is_vector (shape_at o).kind) there ∙ fit.2.fits)
 
-fine_lines : (lines : List Sentence) (p : Program) → p.classes ≡ classes_in lines → HasNoneIn BreaksSome lines → HasNoneIn IsMisnamed lines → AreLines lines → AllByRecursion (IsFineIn p) lines
-fine_lines lines p same kept named said =
-    all_at (IsFineIn p) lines (λ i line at. (all_get IsSaid lines said i line at, fine_line _ line (kept i line at), has_fit lines p same named i line at))
+fine_lines : (law : HaveOneProgram) → (lines : List Sentence) (p : Program) → p.classes ≡ classes_in lines → HasNoneIn BreaksSome lines → HasNoneIn IsMisnamed lines → AreLines lines → AllByRecursion (IsFineIn p) lines
+fine_lines law lines p same kept named said =
+    all_at (IsFineIn p) lines (λ i line at. (all_get IsSaid lines said i line at, fine_line _ line (kept i line at), has_fit law lines p same named i line at))
 
 -- ---- settings
 
 fine_held : (p : Program) (lines : List Sentence) (x : Sentence) → AllByRecursion (IsFineIn p) lines → Contains lines x → IsFine x
 fine_held p lines x fine held = (subst (IsFineIn p) held.2 (all_get (IsFineIn p) lines fine held.0 _ (slice_get-get_or lines held.0 x held.1))).1
 
-setting_within : (P : ℕ → Type 0) (at default v : ℕ) (lines : List Sentence) (config : Config) → AreSettings lines config → ((n : ℕ) → Contains lines (Sets at n) → P n)
-    → slice_get defaults at ≡ Some default → P default → slice_get (settings_of config) at ≡ Some v → P v
-setting_within P at default v lines config are each d usual is =
-    elim (gives at lines are.settings) [
-      | inl given ↦ subst P (same_Some given.0 v (sym (are.given at given.0 given.1) ∙ is)) (each given.0 given.1)
-      | inr none ↦ subst P (same_Some default v (sym d ∙ sym (are.else at none) ∙ is)) usual
+setting_within : (P : ℕ → Type 0) (setting : Setting) (lines : List Sentence) (config : Config) → AreSettings lines config → ((n : ℕ) → Contains lines (Sets setting n) → P n)
+    → P (value_in defaults setting) → P (value_in config setting)
+setting_within P setting lines config are each usual =
+    elim (gives setting lines are.settings) [
+      | inl given ↦ subst P (sym (are.given setting given.0 given.1)) (each given.0 given.1)
+      | inr none ↦ subst P (sym (are.else setting none)) usual
     ]
 
 settings_within : (p : Program) (lines : List Sentence) (config : Config) → AreSettings lines config → AllByRecursion (IsFineIn p) lines → AreWithinLimits config
 settings_within p lines config are fine =
     let held = λ (x : Sentence) (h : Contains lines x). fine_held p lines x fine h in
-    let nursery : IsNurserySize config.nursery = setting_within IsNurserySize 0 4096 config.nursery lines config are (λ n h. (held (Sets 0 n) h).nursery n refl) refl (omega arith, omega arith, refl) refl in
-    let blocks = setting_within (λ n. (1 ≤ n) × (n ≤ 4096)) 1 64 config.blocks lines config are (λ n h. (held (Sets 1 n) h).blocks n refl) refl (omega arith, omega arith) refl in
-    let pages = setting_within (λ n. n ≤ 1024) 2 64 config.pages lines config are (λ n h. (held (Sets 2 n) h).pages n refl) refl (omega arith) refl in
-    let buffer = setting_within (λ n. (16 ≤ n) × (n ≤ 1024)) 3 64 config.buffer lines config are (λ n h. (held (Sets 3 n) h).buffer n refl) refl (omega arith, omega arith) refl in
-    let workers = setting_within (λ n. (1 ≤ n) × (n ≤ 8)) 4 1 config.workers lines config are (λ n h. (held (Sets 4 n) h).workers n refl) refl (omega arith, omega arith) refl in
-    let cement = setting_within (λ n. (1 ≤ n) × (n ≤ 1000)) 5 4 config.cement lines config are (λ n h. (held (Sets 5 n) h).cement n refl) refl (omega arith, omega arith) refl in
+    let nursery : IsNurserySize config.nursery = setting_within IsNurserySize TheNursery lines config are (λ n h. (held (Sets TheNursery n) h).nursery n refl) (omega arith, omega arith, refl) in
+    let blocks = setting_within (λ n. (1 ≤ n) × (n ≤ most_blocks)) TheBlocks lines config are (λ n h. (held (Sets TheBlocks n) h).blocks n refl) (omega arith, omega arith) in
+    let pages = setting_within (λ n. n ≤ most_pages) ThePages lines config are (λ n h. (held (Sets ThePages n) h).pages n refl) (omega arith) in
+    let buffer = setting_within (λ n. (least_buffer ≤ n) × (n ≤ most_buffer)) TheBuffer lines config are (λ n h. (held (Sets TheBuffer n) h).buffer n refl) (omega arith, omega arith) in
+    let workers = setting_within (λ n. (1 ≤ n) × (n ≤ most_workers)) TheWorkers lines config are (λ n h. (held (Sets TheWorkers n) h).workers n refl) (omega arith, omega arith) in
+    let cement = setting_within (λ n. (1 ≤ n) × (n ≤ most_cement)) TheCement lines config are (λ n h. (held (Sets TheCement n) h).cement n refl) (omega arith, omega arith) in
     record {
       nursery_least = nursery.0;
       nursery_most = nursery.1;
@@ -228,15 +232,15 @@ good_makes p AsMature r class name stands fine =
 good_more : (p : Program) (text : List Statement) (item : Item) (items : List Item) → item_text item ≡ text → AllByRecursion (IsGood p) text → AllByRecursion (IsGood p) (written items) → AllByRecursion (IsGood p) (written (item ∷ items))
 good_more p text item items e one rest = all_append (IsGood p) (item_text item) (written items) (subst (AllByRecursion (IsGood p)) (sym e) one) rest
 
-good_items : (p : Program) (lines : List Sentence) (items : List Item) → AreItems (StandsFor p.classes) lines items → AllByRecursion (IsFineIn p) lines → AllByRecursion (IsGood p) (written items)
-good_items p _ _ NoItem fine = tt
-good_items p _ _ (OneSays s rest item more out h) fine = good_more p (s ∷ []) item more (text_one item s out) (good_says p s fine.0, tt) (good_items p rest more h fine.1)
-good_items p _ _ (OneMakes maker r class name rest item more stands out h) fine =
-    good_more p (made_by maker r class ∷ []) item more (text_one item (made_by maker r class) out) (good_makes p maker r class name stands fine.0, tt) (good_items p rest more h fine.1)
-good_items p lines _ (NoRepeat times body rest whole more e b h) fine = good_items p rest more h (around (IsFineIn p) (Repeats times) body rest lines e fine).1
-good_items p lines _ (OneRepeat times body rest whole item inner more e b some out h) fine =
+good_items : (unfolds : ItemsUnfold) → (p : Program) (lines : List Sentence) (items : List Item) → AreItems (StandsFor p.classes) lines items → AllByRecursion (IsFineIn p) lines → AllByRecursion (IsGood p) (written items)
+good_items unfolds p _ _ NoItem fine = tt
+good_items unfolds p _ _ (OneSays s rest item more out h) fine = good_more p (s ∷ []) item more (unfolds.text_one item s out) (good_says p s fine.0, tt) (good_items unfolds p rest more h fine.1)
+good_items unfolds p _ _ (OneMakes maker r class name rest item more stands out h) fine =
+    good_more p (made_by maker r class ∷ []) item more (unfolds.text_one item (made_by maker r class) out) (good_makes p maker r class name stands fine.0, tt) (good_items unfolds p rest more h fine.1)
+good_items unfolds p lines _ (NoRepeat times body rest whole more e b h) fine = good_items unfolds p rest more h (around (IsFineIn p) (Repeats times) body rest lines e fine).1
+good_items unfolds p lines _ (OneRepeat times body rest whole item inner more e b some out h) fine =
     let parts = around (IsFineIn p) (Repeats times) body rest lines e fine in
-    good_more p (written inner) item more (text_repeat item times inner out) (good_items p body inner b parts.0) (good_items p rest more h parts.1)
+    good_more p (written inner) item more (unfolds.text_repeat item times inner out) (good_items unfolds p body inner b parts.0) (good_items unfolds p rest more h parts.1)
 
 abbrev IsTimes : ℕ → Type 0
 IsTimes n = (1 ≤ n) × (n ≤ 1048576)
@@ -267,18 +271,18 @@ less_deep : (items : List Item) → AllByRecursion (λ item. item_depth item + 1
 less_deep [] h = tt
 less_deep (item ∷ items) h = (let deep = h.0 in omega (arith, deep), less_deep items h.1)
 
-good_scripts : (p : Program) (all lines : List Sentence) (scripts : List Script) → AreScripts (StandsFor p.classes) lines scripts → AllByRecursion (IsFineIn p) lines → IsDeep all 0 lines → AllByRecursion (IsGoodScript p) scripts
-good_scripts p all lines [] s fine deep = tt
-good_scripts p all lines (script ∷ scripts) s fine deep =
+good_scripts : (unfolds : ItemsUnfold) → (p : Program) (all lines : List Sentence) (scripts : List Script) → AreScripts (StandsFor p.classes) lines scripts → AllByRecursion (IsFineIn p) lines → IsDeep all 0 lines → AllByRecursion (IsGoodScript p) scripts
+good_scripts unfolds p all lines [] s fine deep = tt
+good_scripts unfolds p all lines (script ∷ scripts) s fine deep =
     let parts = around (IsFineIn p) Begins s.0 s.1 lines s.2 fine in
     let whole : IsDeep all 0 (Begins ∷ s.0 ++ Ends ∷ s.1) = subst (IsDeep all 0) s.2 deep in
     let nested = nested_items (StandsFor p.classes) all s.0 script.items s.3 1 (omega arith) (Ends ∷ s.1) (deep_open all 0 Begins (s.0 ++ Ends ∷ s.1) refl refl whole) in
     let one : IsGoodScript p script = record {
-      statements = good_items p s.0 script.items s.3 parts.0;
+      statements = good_items unfolds p s.0 script.items s.3 parts.0;
       times = times_items p (StandsFor p.classes) s.0 script.items s.3 parts.0;
       nesting = less_deep script.items nested.0;
     } in
-    (one, good_scripts p all s.1 scripts s.4 parts.1 (deep_end all 0 s.1 nested.1))
+    (one, good_scripts unfolds p all s.1 scripts s.4 parts.1 (deep_end all 0 s.1 nested.1))
 
 -- ---- the program
 
@@ -288,11 +292,11 @@ deep_scripts names lines p is none =
     let whole : IsDeep lines 0 (Heads ∷ (is.settings ++ (is.classes ++ is.scripts))) = subst (IsDeep lines 0) (is.in_order ∙ ap (λ (l : List Sentence). Heads ∷ l) (append_assoc is.settings is.classes is.scripts)) all in
     deep_classes lines is.classes is.scripts p.classes is.are_classes (deep_settings lines is.settings (is.classes ++ is.scripts) is.are_settings.settings (deep_plain lines 0 Heads (is.settings ++ (is.classes ++ is.scripts)) refl refl whole))
 
-pub within_limits : (lines : List Sentence) (p : Program) → IsProgram (StandsFor p.classes) lines p → HasNoneIn BreaksSome lines → HasNoneIn IsMisnamed lines → AreLines lines
+pub within_limits : (law : HaveOneProgram) → (unfolds : ItemsUnfold) → (lines : List Sentence) (p : Program) → IsProgram (StandsFor p.classes) lines p → HasNoneIn BreaksSome lines → HasNoneIn IsMisnamed lines → AreLines lines
     → statements_in p ≤ 1048576 → finals_in p ≤ 1024 → 1 ≤ length p.mutators → IsWithinLimits p
-within_limits lines p is none named said statements finals some =
+within_limits law unfolds lines p is none named said statements finals some =
     let head : List Sentence = head_of is.settings is.classes in
-    let fine : AllByRecursion (IsFineIn p) (head ++ is.scripts) = subst (AllByRecursion (IsFineIn p)) is.in_order (fine_lines lines p (classes_are (StandsFor p.classes) lines p is) none named said) in
+    let fine : AllByRecursion (IsFineIn p) (head ++ is.scripts) = subst (AllByRecursion (IsFineIn p)) is.in_order (fine_lines law lines p (classes_are (StandsFor p.classes) lines p is) none named said) in
     let first = (all_front (IsFineIn p) head is.scripts fine).1 in
     let in_head : lines ≡ (Heads ∷ is.settings) ++ (is.classes ++ is.scripts) = is.in_order ∙ append_assoc (Heads ∷ is.settings) is.classes is.scripts in
     let few = few_classes (Heads ∷ is.settings) is.scripts is.classes p.classes 0 is.are_classes (keep_from lines (Heads ∷ is.settings) (is.classes ++ is.scripts) none in_head) (omega arith) (omega arith) in
@@ -301,7 +305,7 @@ within_limits lines p is none named said statements finals some =
       settings = settings_within p is.settings p.config is.are_settings (all_front (IsFineIn p) is.settings is.classes first);
       classes = omega (arith, few);
       fields = classes_within p is.classes p.classes is.are_classes (all_back (IsFineIn p) is.settings is.classes first);
-      scripts = good_scripts p lines is.scripts p.mutators is.are_scripts (all_back (IsFineIn p) head is.scripts fine) (deep_scripts (StandsFor p.classes) lines p is none);
+      scripts = good_scripts unfolds p lines is.scripts p.mutators is.are_scripts (all_back (IsFineIn p) head is.scripts fine) (deep_scripts (StandsFor p.classes) lines p is none);
       statements = statements;
       finals = finals;
       mutators_least = some;

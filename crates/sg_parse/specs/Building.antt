@@ -1,5 +1,5 @@
 -- What the steps of the building answer: statements of lines, items of bodies, scripts, settings, classes, and the whole.
-use Rattle.std.specs.Prelude.{◌≡◌, ℕ, suc, ◌+◌, ◌<◌, ◌≤◌, ◌==◌, Option, Some, None, if◌then◌else◌, List, [], ◌∷◌, ◌++◌, length, take, slice_get}
+use Rattle.std.specs.Prelude.{◌≡◌, ℕ, suc, ◌+◌, ◌<◌, ◌≤◌, Option, Some, None, List, [], ◌∷◌, ◌++◌, length, take, slice_get}
 use Rattle.std.specs.List.{AllByRecursion, sum_by, count_by, fold}
 use Rattle.sg_program.specs.declared.program.Config.{Config}
 use Rattle.sg_program.specs.declared.program.Class.{Class}
@@ -8,7 +8,7 @@ use Rattle.sg_program.specs.declared.program.Statement.TheVariants.{GPut, GGet, 
 use Rattle.sg_program.specs.declared.program.Item.{Item}
 use Rattle.sg_program.specs.declared.program.Script.{Script}
 use Rattle.sg_program.specs.Scripts.{is_final, written_out}
-use Rattle.sg_program.specs.Limits.{MayHave}
+use Rattle.sg_program.specs.Limits.{MayHave, most_nursery, most_classes, most_vector, last_place, most_times, most_statements, most_finals}
 use Rattle.sg_program.specs.Invariants.{IsWithinLimits}
 use Rattle.sg_parse.specs.declared.refusal.Which.{Which}
 use Rattle.sg_parse.specs.declared.refusal.Which.TheVariants.{Statements, Finals}
@@ -17,35 +17,37 @@ use Rattle.sg_parse.specs.declared.scripts.Scripts.{Scripts}
 use Rattle.sg_parse.specs.declared.scripts.Scripts.TheVariants.{Read, Heavy}
 use Rattle.sg_parse.specs.declared.build.Built.{Built}
 use Rattle.sg_parse.specs.declared.build.Built.TheVariants.{Program as Made, Over, NoMutator}
-use Rattle.sg_parse.specs.Lines.{AsVector, made_by, Sentence, Sets, Declares, Begins, Repeats, Ends, Makes, Says, IsLine}
-use Rattle.sg_parse.specs.Text.{AreItems, AreScripts, IsProgram, StandsFor}
+use Rattle.sg_text.specs.declared.line.Setting.{Setting}
+use Rattle.sg_text.specs.declared.line.Setting.TheVariants.{Nursery, Blocks, Pages, Buffer, Workers, Cement}
+use Rattle.sg_text.specs.Lines.{AsVector, made_by, Sentence, Sets, Declares, Begins, Repeats, Ends, Makes, Says, IsLine}
+use Rattle.sg_grammar.specs.Text.{AreItems, AreScripts, defaults, IsProgram, StandsFor}
 use Rattle.sg_parse.specs.Faults.{BreaksFirst, BreaksSome}
-use Rattle.sg_parse.specs.Reading.{IsFirstIn, HasNoneIn}
+use Rattle.sg_parse.specs.Indices.{IsFirstIn, HasNoneIn}
 
 -- the numbers of the line fit the fields of a program
 abbrev pub HasSmallPlace : Statement → Type 0
-HasSmallPlace (GPut g r) = g ≤ 63
-HasSmallPlace (GGet r g) = g ≤ 63
-HasSmallPlace (WSet w r long) = w ≤ 63
-HasSmallPlace (WGet r w) = w ≤ 63
+HasSmallPlace (GPut g r) = g ≤ last_place
+HasSmallPlace (GGet r g) = g ≤ last_place
+HasSmallPlace (WSet w r long) = w ≤ last_place
+HasSmallPlace (WGet r w) = w ≤ last_place
 HasSmallPlace s = Unit {0}
 
 abbrev pub IsSmall : Sentence → Type 0
-IsSmall (Sets at n) = at < 6 → n ≤ 65536
+IsSmall (Sets setting n) = n ≤ most_nursery
 IsSmall (Declares name shape) = MayHave shape.kind shape.fields
-IsSmall (Repeats times) = times ≤ 1048576
-IsSmall (Makes (AsVector count) r name) = count ≤ 131070
+IsSmall (Repeats times) = times ≤ most_times
+IsSmall (Makes (AsVector count) r name) = count ≤ most_vector
 IsSmall (Says s) = HasSmallPlace s
 IsSmall line = Unit {0}
 
 -- there are few enough classes, and all numbers of the lines are small enough
 abbrev pub AreSmall : List Class → List Sentence → Type 0
-AreSmall classes lines = (length classes ≤ 256) × AllByRecursion IsSmall lines
+AreSmall classes lines = (length classes ≤ most_classes) × AllByRecursion IsSmall lines
 
 -- the statement of a line, where it has one
 abbrev pub IsStatement : List Class → Sentence → Option Statement → Type 0
 IsStatement classes (Says s) o = HasSmallPlace s → o ≡ Some s
-IsStatement classes (Makes maker r name) o = (c : ℕ) → length classes ≤ 256 → IsSmall (Makes maker r name) → StandsFor classes name c → o ≡ Some (made_by maker r c)
+IsStatement classes (Makes maker r name) o = (c : ℕ) → length classes ≤ most_classes → IsSmall (Makes maker r name) → StandsFor classes name c → o ≡ Some (made_by maker r c)
 IsStatement classes line o = Unit {0}
 
 -- Where the lines, with what follows them, begin with the body of a mutator or a repeat and with its end: these are the body's items,
@@ -74,15 +76,15 @@ pub record AreFront (classes : List Class) (lines : List Sentence) (all scripts 
   pub first : AreScripts (StandsFor classes) done scripts
   pub rest : AreScripts (StandsFor classes) todo left
   pub whole : all ≡ scripts ++ left
-  pub statements : total_of scripts ≤ 1048576
-  pub finals : finals_of scripts ≤ 1024
+  pub statements : total_of scripts ≤ most_statements
+  pub finals : finals_of scripts ≤ most_finals
   pub next : (body tail : List Sentence) (items : List Item) → todo ≡ Begins ∷ body ++ Ends ∷ tail → AreItems (StandsFor classes) body items →
       until ≤ length done + (length body + 1)
 
 -- the limit of what is counted that these scripts break
 abbrev pub IsTooMuch : Which → List Script → Type 0
-IsTooMuch Statements scripts = 1048576 < total_of scripts
-IsTooMuch Finals scripts = (total_of scripts ≤ 1048576) × (1024 < finals_of scripts)
+IsTooMuch Statements scripts = most_statements < total_of scripts
+IsTooMuch Finals scripts = (total_of scripts ≤ most_statements) × (most_finals < finals_of scripts)
 IsTooMuch which scripts = ⊥
 
 -- the script behind the first ones ends at this line, and with it this limit is broken
@@ -112,22 +114,20 @@ IsToldWithin n (Read scripts) = Unit {0}
 IsToldWithin n (Heavy index which) = index < n
 
 -- the settings after a line, and after lines
+abbrev pub config_set : Config → Setting → ℕ → Config
+config_set c Nursery n = record c { nursery = n }
+config_set c Blocks n = record c { blocks = n }
+config_set c Pages n = record c { pages = n }
+config_set c Buffer n = record c { buffer = n }
+config_set c Workers n = record c { workers = n }
+config_set c Cement n = record c { cement = n }
+
 abbrev pub config_with : Config → Sentence → Config
-config_with c (Sets at n) =
-    if at == 0 then record c { nursery = n }
-    else if at == 1 then record c { blocks = n }
-    else if at == 2 then record c { pages = n }
-    else if at == 3 then record c { buffer = n }
-    else if at == 4 then record c { workers = n }
-    else if at == 5 then record c { cement = n }
-    else c
+config_with c (Sets setting n) = config_set c setting n
 config_with c line = c
 
-abbrev pub first_config : Config
-first_config = record { nursery = 4096; blocks = 64; pages = 64; buffer = 64; workers = 1; cement = 4 }
-
 abbrev pub config_of : List Sentence → Config
-config_of lines = fold config_with first_config lines
+config_of lines = fold config_with defaults lines
 
 -- each sentence is that of some line
 abbrev pub AreLines : List Sentence → Type 0

@@ -7,35 +7,27 @@ use Rattle.sg_desc.specs.Shapes.{is_vector}
 use Rattle.sg_program.specs.declared.program.Class.{Class}
 use Rattle.sg_program.specs.declared.program.Statement.TheVariants.{GPut, GGet, WSet, WGet, Final, NextFin, Collect, Sections}
 use Rattle.sg_program.specs.declared.program.Program.{Program}
-use Rattle.sg_words.specs.Lists.{Pairwise}
-use Rattle.sg_program.specs.Limits.{MayHave, IsNurserySize}
+use Rattle.sg_program.specs.Limits.{MayHave, IsNurserySize, most_blocks, most_pages, least_buffer, most_buffer, most_workers, most_cement, most_classes, most_fields, most_vector, last_place, most_times, most_nesting, most_statements, most_finals, most_mutators}
 use Rattle.sg_program.specs.Scripts.{statements_in, finals_in}
 use Rattle.sg_parse.specs.declared.refusal.Which.{Which}
 use Rattle.sg_parse.specs.declared.refusal.Which.TheVariants.{Nursery, Blocks, Pages, Buffer, Workers, Cement, Classes, Fields, Vector, Global, Weak, Times, Nesting, Statements, Finals, Mutators}
-use Rattle.sg_parse.specs.Words.{words_of, content}
-use Rattle.sg_parse.specs.Lines.{Maker, AsNew, AsVector, AsMature, Sentence, Sets, Declares, Begins, Repeats, Ends, Makes, Says, IsLine}
-use Rattle.sg_parse.specs.Text.{IsProgram, IsClassName, StandsFor}
+use Rattle.sg_text.specs.declared.line.Setting.TheVariants.{Nursery as TheNursery, Blocks as TheBlocks, Pages as ThePages, Buffer as TheBuffer, Workers as TheWorkers, Cement as TheCement}
+use Rattle.sg_text.specs.Numbered.{Numbered, sentences}
+use Rattle.sg_text.specs.Lines.{Maker, AsNew, AsVector, AsMature, Sentence, Sets, Declares, Begins, Repeats, Ends, Makes, Says}
+use Rattle.sg_grammar.specs.Text.{IsProgram, IsClassName, StandsFor}
 
--- line k says this, behind lines that say `before`
-pub record IsAt (lines : List (List ℕ)) (k : ℕ) (before : List Sentence) (line : Sentence) : Type 0 where
+-- the first sentence with the fault, which is a fact of the sentences before it and of its own, stands on this line
+pub record IsFirstFault (Fault : List Sentence → Sentence → Type 0) (found : List Numbered) (line : ℕ) : Type 0 where
   pub index : ℕ
-  pub number : k ≡ suc index
-  pub text : List ℕ
-  pub there : slice_get lines index ≡ Some text
-  pub says : IsLine (words_of text) line
-  pub behind : Pairwise IsLine (content (take index lines)) before
+  pub one : Numbered
+  pub there : slice_get found index ≡ Some one
+  pub number : line ≡ one.number
+  pub fault : Fault (sentences (take index found)) one.sentence
+  pub first : (k : ℕ) (other : Numbered) → k < index → slice_get found k ≡ Some other → ¬ Fault (sentences (take k found)) other.sentence
 
--- line k is the first one with the fault, which is a fact of the sentences before a line and of its own
-pub record IsFirstFault (Fault : List Sentence → Sentence → Type 0) (lines : List (List ℕ)) (k : ℕ) : Type 0 where
-  pub before : List Sentence
-  pub line : Sentence
-  pub at : IsAt lines k before line
-  pub fault : Fault before line
-  pub first : (j : ℕ) (earlier : List Sentence) (other : Sentence) → j < k → IsAt lines j earlier other → ¬ Fault earlier other
-
--- no line has the fault
-abbrev pub HasNone : (List Sentence → Sentence → Type 0) → List (List ℕ) → Type 0
-HasNone Fault lines = (k : ℕ) (before : List Sentence) (line : Sentence) → IsAt lines k before line → ¬ Fault before line
+-- no sentence has the fault
+abbrev pub HasNone : (List Sentence → Sentence → Type 0) → List Numbered → Type 0
+HasNone Fault found = (k : ℕ) (other : Numbered) → slice_get found k ≡ Some other → ¬ Fault (sentences (take k found)) other.sentence
 
 abbrev pub class_in : Sentence → List Class
 class_in (Declares name shape) = record { name = name; shape = shape } ∷ []
@@ -88,22 +80,22 @@ EndsWithMore counted limit before line =
 
 -- the line breaks this limit
 abbrev pub Breaks : Which → List Sentence → Sentence → Type 0
-Breaks Nursery before line = (n : ℕ) × (line ≡ Sets 0 n) × ¬ IsNurserySize n
-Breaks Blocks before line = (n : ℕ) × (line ≡ Sets 1 n) × ¬ ((1 ≤ n) × (n ≤ 4096))
-Breaks Pages before line = (n : ℕ) × (line ≡ Sets 2 n) × (1024 < n)
-Breaks Buffer before line = (n : ℕ) × (line ≡ Sets 3 n) × ¬ ((16 ≤ n) × (n ≤ 1024))
-Breaks Workers before line = (n : ℕ) × (line ≡ Sets 4 n) × ¬ ((1 ≤ n) × (n ≤ 8))
-Breaks Cement before line = (n : ℕ) × (line ≡ Sets 5 n) × ¬ ((1 ≤ n) × (n ≤ 1000))
-Breaks Classes before line = (name : List ℕ) × (shape : Shape) × (line ≡ Declares name shape) × (256 ≤ length (classes_in before))
+Breaks Nursery before line = (n : ℕ) × (line ≡ Sets TheNursery n) × ¬ IsNurserySize n
+Breaks Blocks before line = (n : ℕ) × (line ≡ Sets TheBlocks n) × ¬ ((1 ≤ n) × (n ≤ most_blocks))
+Breaks Pages before line = (n : ℕ) × (line ≡ Sets ThePages n) × (most_pages < n)
+Breaks Buffer before line = (n : ℕ) × (line ≡ Sets TheBuffer n) × ¬ ((least_buffer ≤ n) × (n ≤ most_buffer))
+Breaks Workers before line = (n : ℕ) × (line ≡ Sets TheWorkers n) × ¬ ((1 ≤ n) × (n ≤ most_workers))
+Breaks Cement before line = (n : ℕ) × (line ≡ Sets TheCement n) × ¬ ((1 ≤ n) × (n ≤ most_cement))
+Breaks Classes before line = (name : List ℕ) × (shape : Shape) × (line ≡ Declares name shape) × (most_classes ≤ length (classes_in before))
 Breaks Fields before line = (name : List ℕ) × (shape : Shape) × (line ≡ Declares name shape) × ¬ MayHave shape.kind shape.fields
-Breaks Vector before line = (count r : ℕ) × (name : List ℕ) × (line ≡ Makes (AsVector count) r name) × (131070 < count)
-Breaks Global before line = (g r : ℕ) × ((line ≡ Says (GPut g r)) ⊎ (line ≡ Says (GGet r g))) × (63 < g)
-Breaks Weak before line = (w r : ℕ) × (long : Bool) × ((line ≡ Says (WSet w r long)) ⊎ (line ≡ Says (WGet r w))) × (63 < w)
-Breaks Times before line = (times : ℕ) × (line ≡ Repeats times) × ¬ ((1 ≤ times) × (times ≤ 1048576))
-Breaks Nesting before line = (times : ℕ) × (line ≡ Repeats times) × (5 ≤ open_behind before)
-Breaks Statements before line = EndsWithMore statements_in 1048576 before line
-Breaks Finals before line = EndsWithMore finals_in 1024 before line
-Breaks Mutators before line = (line ≡ Begins) × (16 ≤ count_by is_begin before)
+Breaks Vector before line = (count r : ℕ) × (name : List ℕ) × (line ≡ Makes (AsVector count) r name) × (most_vector < count)
+Breaks Global before line = (g r : ℕ) × ((line ≡ Says (GPut g r)) ⊎ (line ≡ Says (GGet r g))) × (last_place < g)
+Breaks Weak before line = (w r : ℕ) × (long : Bool) × ((line ≡ Says (WSet w r long)) ⊎ (line ≡ Says (WGet r w))) × (last_place < w)
+Breaks Times before line = (times : ℕ) × (line ≡ Repeats times) × ¬ ((1 ≤ times) × (times ≤ most_times))
+Breaks Nesting before line = (times : ℕ) × (line ≡ Repeats times) × (most_nesting < open_behind before)
+Breaks Statements before line = EndsWithMore statements_in most_statements before line
+Breaks Finals before line = EndsWithMore finals_in most_finals before line
+Breaks Mutators before line = (line ≡ Begins) × (most_mutators ≤ count_by is_begin before)
 
 -- the place of a limit in the table: where one line breaks several, the first one is told
 abbrev pub place : Which → ℕ
@@ -132,21 +124,21 @@ BreaksFirst which before line = Breaks which before line × ((other : Which) →
 abbrev pub BreaksSome : List Sentence → Sentence → Type 0
 BreaksSome before line = (which : Which) × Breaks which before line
 
--- no line begins a mutator
-abbrev pub HasNoMutator : List (List ℕ) → Type 0
-HasNoMutator lines = (k : ℕ) (before : List Sentence) → ¬ IsAt lines k before Begins
+-- no sentence begins a mutator
+abbrev pub HasNoMutator : List Numbered → Type 0
+HasNoMutator found = (k : ℕ) (one : Numbered) → slice_get found k ≡ Some one → ¬ (one.sentence ≡ Begins)
 
--- line k is the first one that breaks a limit, and this is the first limit that it breaks; or no line does, there is no
--- mutator, and k is the last line
-abbrev pub IsLimitFault : List (List ℕ) → ℕ → Which → Type 0
-IsLimitFault lines k which =
-    ((fault : IsFirstFault BreaksSome lines k) × BreaksFirst which fault.before fault.line)
-    ⊎ (HasNone BreaksSome lines × HasNoMutator lines × (k ≡ length lines) × (which ≡ Mutators))
+-- this line is the first one that breaks a limit, and this the first limit that it breaks; or no line does, there is no mutator, and
+-- this is the last line
+abbrev pub IsLimitFault : List Numbered → ℕ → ℕ → Which → Type 0
+IsLimitFault found last line which =
+    ((fault : IsFirstFault BreaksSome found line) × BreaksFirst which (sentences (take fault.index found)) fault.one.sentence)
+    ⊎ (HasNone BreaksSome found × HasNoMutator found × (line ≡ last) × (which ≡ Mutators))
 
 -- no limit is broken
-pub record KeepsLimits (lines : List (List ℕ)) : Type 0 where
-  pub each : HasNone BreaksSome lines
-  pub some : ¬ HasNoMutator lines
+pub record KeepsLimits (found : List Numbered) : Type 0 where
+  pub each : HasNone BreaksSome found
+  pub some : ¬ HasNoMutator found
 
 -- the class of this name is one of pairs
 abbrev pub IsPairClass : List Class → List ℕ → Type 0
@@ -161,7 +153,7 @@ pub data IsLater (before : List Sentence) : Sentence → Type 0 where
   Old : (r : ℕ) (name : List ℕ) → IsLater before (Makes AsMature r name)
   Major : IsLater before (Says (Collect true))
   Told : IsLater before (Says Sections)
-  Wide : (count r : ℕ) (name : List ℕ) → 62 < count → IsLater before (Makes (AsVector count) r name)
+  Wide : (count r : ℕ) (name : List ℕ) → most_fields < count → IsLater before (Makes (AsVector count) r name)
   LinkSet : (w r : ℕ) (long : Bool) → IsLater before (Says (WSet w r long))
   LinkGet : (r w : ℕ) → IsLater before (Says (WGet r w))
   Registers : (r : ℕ) → IsLater before (Says (Final r))

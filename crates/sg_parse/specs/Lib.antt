@@ -1,12 +1,7 @@
-pub mod Words
-pub mod Lines
-pub mod Text
 pub mod Faults
 pub mod Accepted
-pub mod Reading
-pub mod Order
+pub mod Invariants
+pub mod Indices
 pub mod Names
 pub mod LineLimits
 pub mod Building
-pub mod Steps
-pub mod Sentences

@@ -8,19 +8,22 @@ use Rattle.sg_program.specs.declared.program.Statement.{Statement}
 use Rattle.sg_program.specs.declared.program.Statement.TheVariants.{GPut, GGet, WSet, WGet}
 use Rattle.sg_parse.specs.declared.refusal.Which.{Which}
 use Rattle.sg_parse.specs.declared.refusal.Which.TheVariants.{Nursery, Blocks, Pages, Buffer, Workers, Cement, Classes, Fields, Vector, Global, Weak, Times, Nesting, Mutators}
-use Rattle.sg_parse.specs.Lines.{Maker, AsVector, Sentence, Sets, Declares, Begins, Repeats, Makes, Says}
+use Rattle.sg_program.specs.Limits.{least_nursery, most_nursery, nursery_step, most_blocks, most_pages, least_buffer, most_buffer, most_workers, most_cement, most_classes, most_fields, most_mask, most_vector, last_place, most_times, most_nesting, most_mutators}
+use Rattle.sg_text.specs.declared.line.Setting.{Setting}
+use Rattle.sg_text.specs.declared.line.Setting.TheVariants.{Nursery as TheNursery, Blocks as TheBlocks, Pages as ThePages, Buffer as TheBuffer, Workers as TheWorkers, Cement as TheCement}
+use Rattle.sg_text.specs.Lines.{Maker, AsVector, Sentence, Sets, Declares, Begins, Repeats, Makes, Says}
 use Rattle.sg_parse.specs.Faults.{classes_in, open_behind, is_begin}
 
 abbrev pub is_within : ℕ → ℕ → ℕ → Bool
 is_within low high n = nat_le low n && nat_le n high
 
 abbrev pub is_nursery_size : ℕ → Bool
-is_nursery_size n = nat_le 256 n && nat_le n 65536 && (n % 64 == 0)
+is_nursery_size n = nat_le least_nursery n && nat_le n most_nursery && (n % nursery_step == 0)
 
 abbrev pub may_have : Descriptor → ℕ → Bool
-may_have PtrFree fields = nat_le fields 62
-may_have (Run first count) fields = nat_le 1 count && nat_le (first + count) fields && nat_le fields 62
-may_have (Bitmap bits) fields = nat_le fields 60
+may_have PtrFree fields = nat_le fields most_fields
+may_have (Run first count) fields = nat_le 1 count && nat_le (first + count) fields && nat_le fields most_fields
+may_have (Bitmap bits) fields = nat_le fields most_mask
 may_have VectorRefs fields = fields == 0
 may_have VectorPlain fields = fields == 0
 may_have Ephemeron fields = fields == 2
@@ -29,39 +32,37 @@ may_have Ephemeron fields = fields == 2
 abbrev pub unless : Bool → Which → Option Which
 unless test which = if test then None else Some which
 
-abbrev pub setting_fault : ℕ → ℕ → Option Which
-setting_fault at n =
-    if at == 0 then unless (is_nursery_size n) Nursery
-    else if at == 1 then unless (is_within 1 4096 n) Blocks
-    else if at == 2 then unless (nat_le n 1024) Pages
-    else if at == 3 then unless (is_within 16 1024 n) Buffer
-    else if at == 4 then unless (is_within 1 8 n) Workers
-    else if at == 5 then unless (is_within 1 1000 n) Cement
-    else None
+abbrev pub setting_fault : Setting → ℕ → Option Which
+setting_fault TheNursery n = unless (is_nursery_size n) Nursery
+setting_fault TheBlocks n = unless (is_within 1 most_blocks n) Blocks
+setting_fault ThePages n = unless (nat_le n most_pages) Pages
+setting_fault TheBuffer n = unless (is_within least_buffer most_buffer n) Buffer
+setting_fault TheWorkers n = unless (is_within 1 most_workers n) Workers
+setting_fault TheCement n = unless (is_within 1 most_cement n) Cement
 
 abbrev pub class_fault : ℕ → Shape → Option Which
-class_fault classes shape = if nat_le 256 classes then Some Classes else unless (may_have shape.kind shape.fields) Fields
+class_fault classes shape = if nat_le most_classes classes then Some Classes else unless (may_have shape.kind shape.fields) Fields
 
 abbrev pub repeat_fault : ℕ → ℕ → Option Which
-repeat_fault behind times = if is_within 1 1048576 times then unless (nat_lt behind 5) Nesting else Some Times
+repeat_fault behind times = if is_within 1 most_times times then unless (nat_le behind most_nesting) Nesting else Some Times
 
 abbrev pub maker_fault : Maker → Option Which
-maker_fault (AsVector count) = unless (nat_le count 131070) Vector
+maker_fault (AsVector count) = unless (nat_le count most_vector) Vector
 maker_fault maker = None
 
 abbrev pub statement_fault : Statement → Option Which
-statement_fault (GPut g r) = unless (nat_le g 63) Global
-statement_fault (GGet r g) = unless (nat_le g 63) Global
-statement_fault (WSet w r long) = unless (nat_le w 63) Weak
-statement_fault (WGet r w) = unless (nat_le w 63) Weak
+statement_fault (GPut g r) = unless (nat_le g last_place) Global
+statement_fault (GGet r g) = unless (nat_le g last_place) Global
+statement_fault (WSet w r long) = unless (nat_le w last_place) Weak
+statement_fault (WGet r w) = unless (nat_le w last_place) Weak
 statement_fault s = None
 
 -- the first limit that the line breaks by itself, where so many classes are declared above it, so many bodies are open, and so
 -- many mutators are begun
 abbrev pub line_fault : ℕ → ℕ → ℕ → Sentence → Option Which
-line_fault classes behind begun (Sets at n) = setting_fault at n
+line_fault classes behind begun (Sets setting n) = setting_fault setting n
 line_fault classes behind begun (Declares name shape) = class_fault classes shape
-line_fault classes behind begun Begins = unless (nat_lt begun 16) Mutators
+line_fault classes behind begun Begins = unless (nat_lt begun most_mutators) Mutators
 line_fault classes behind begun (Repeats times) = repeat_fault behind times
 line_fault classes behind begun (Makes maker r name) = maker_fault maker
 line_fault classes behind begun (Says s) = statement_fault s

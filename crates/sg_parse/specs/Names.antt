@@ -1,17 +1,19 @@
 -- The classes of a text by their names, as the code holds them.
 use Rattle.std.specs.Prelude.{◌≡◌, ℕ, ◌<◌, ◌⊎◌, Bool, IsTrue, Some, List, map, slice_get}
+use Rattle.sg_program.specs.Limits.{most_fields}
 use Rattle.sg_desc.specs.declared.shapes.Shape.{Shape}
 use Rattle.sg_program.specs.declared.program.Class.{Class}
 use Rattle.sg_program.specs.declared.program.Statement.{Statement}
 use Rattle.sg_program.specs.declared.program.Statement.TheVariants.{GPut, GGet, WSet, WGet, Final, NextFin, Collect, Sections}
-use Rattle.sg_parse.specs.declared.line.Form.{Form}
+use Rattle.sg_text.specs.declared.line.Form.{Form}
 use Rattle.sg_parse.specs.declared.names.Names.{Names}
-use Rattle.sg_parse.specs.Lines.{Maker, AsNew, AsVector, AsMature, Sentence, Declares, Begins, Makes, Says}
-use Rattle.sg_parse.specs.Text.{IsClassName, StandsFor}
+use Rattle.sg_text.specs.Lines.{Maker, AsNew, AsVector, AsMature, Sentence, Declares, Begins, Makes, Says}
+use Rattle.sg_grammar.specs.Text.{IsClassName, StandsFor}
 use Rattle.sg_parse.specs.declared.names.Named.{Named}
 use Rattle.sg_parse.specs.declared.names.Named.TheVariants.{Classes, Misnamed}
 use Rattle.sg_parse.specs.Faults.{classes_in, IsFit, IsMisnamed, IsPairClass}
-use Rattle.sg_parse.specs.Reading.{shape_in, IsFirstIn, HasNoneIn}
+use Rattle.sg_text.specs.Reading.{shape_in}
+use Rattle.sg_parse.specs.Indices.{IsFirstIn, HasNoneIn}
 
 -- the class of this name and form
 abbrev pub class_of : List ℕ → Form → Class
@@ -47,7 +49,7 @@ IsNaming lines (Misnamed index) = IsFirstIn IsMisnamed lines index
 -- a line that makes an object so isn't run yet
 abbrev pub IsMadeLater : List Class → Maker → List ℕ → Type 0
 IsMadeLater classes AsNew name = IsPairClass classes name
-IsMadeLater classes (AsVector count) name = 62 < count
+IsMadeLater classes (AsVector count) name = most_fields < count
 IsMadeLater classes AsMature name = Unit {0}
 
 -- a statement that names no class isn't run yet

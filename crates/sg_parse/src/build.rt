@@ -1,22 +1,21 @@
 //! The program of a text, and the first line that breaks a limit.
 ghost use Rattle.std.specs.Prelude.{◌≡◌, ℕ, ◌^◌, ◌<◌, ◌≤◌, Some, slice_get, map, length, IfOk};
 ghost use Rattle.std.specs.List.{AllByRecursion};
-ghost use Rattle.sg_program.specs.Limits.{MayHave};
-ghost use Rattle.sg_parse.specs.Building.{IsSmall, AreLines, config_with, config_of, IsBuilt};
+ghost use Rattle.sg_parse.specs.Building.{IsSmall, AreLines, config_set, config_with, config_of, IsBuilt};
 ghost use Rattle.sg_parse.specs.Faults.{classes_in, IsMisnamed};
-ghost use Rattle.sg_parse.specs.Lines.{Begins};
+ghost use Rattle.sg_text.specs.Lines.{Begins};
 ghost use Rattle.sg_parse.specs.Names.{AreNames};
-ghost use Rattle.sg_parse.specs.Reading.{shape_in, sentence_of, HasNoneIn};
-ghost use Rattle.sg_parse.specs.Text.{IsWhole};
+ghost use Rattle.sg_text.specs.Reading.{sentence_of};
+ghost use Rattle.sg_parse.specs.Indices.{HasNoneIn};
+ghost use Rattle.sg_grammar.specs.Text.{IsWhole};
 
 use crate::limits::line_fault;
-use crate::line::{Form, Line};
 use crate::names::Names;
 use crate::refusal::Which;
 use crate::scripts::{Scripts, read_scripts};
-use crate::words::mask_bits;
-use sg_desc::{Descriptor, Shape};
-use sg_program::{Class, Config, Name, Program};
+use sg_grammar::one_program;
+use sg_program::{Class, Config, Name, Program, items_unfold};
+use sg_text::{Line, Setting};
 use sg_words::List;
 use std::alloc::{AllocError, Global};
 
@@ -31,24 +30,31 @@ pub(crate) enum Built {
     NoMutator,
 }
 
+/// The settings, one of which is changed.
+fn config_set(config: Config, setting: Setting, n: u32) -> Config
+    ensures { result ≡ config_set config setting n }
+{
+    let mut config = config;
+    match setting {
+        Setting::Nursery => config.nursery = n,
+        Setting::Blocks => config.blocks = n,
+        Setting::Pages => config.pages = n,
+        Setting::Buffer => config.buffer = n,
+        Setting::Workers => config.workers = n,
+        Setting::Cement => config.cement = n,
+    }
+    config
+}
+
 /// The settings, one of which may be changed by the line.
 fn config_with(config: Config, line: &Line<'_>) -> Config
     requires { IsSmall (sentence_of line.now) }
     ensures { result ≡ config_with config (sentence_of line.now) }
 {
-    let mut config = config;
-    if let Line::Setting { at, n } = *line {
-        match at {
-            0 => config.nursery = n as u32,
-            1 => config.blocks = n as u32,
-            2 => config.pages = n as u32,
-            3 => config.buffer = n as u32,
-            4 => config.workers = n as u32,
-            5 => config.cement = n as u32,
-            _ => {}
-        }
+    match *line {
+        Line::Setting { setting, n } => config_set(config, setting, n as u32),
+        _ => config,
     }
-    config
 }
 
 /// The settings that lines give.
@@ -70,48 +76,6 @@ fn config(lines: &[Line<'_>]) -> Config
     config
 }
 
-/// The shape of a class within the limits.
-fn shape(form: &Form<'_>) -> Shape
-    requires { MayHave (shape_in form.now).kind (shape_in form.now).fields }
-    ensures { result ≡ shape_in form.now }
-{
-    match *form {
-        Form::Plain { fields } => Shape {
-            fields: fields as u32,
-            kind: Descriptor::PtrFree,
-        },
-        Form::Run {
-            fields,
-            first,
-            count,
-        } => Shape {
-            fields: fields as u32,
-            kind: Descriptor::Run {
-                first: first as u32,
-                count: count as u32,
-            },
-        },
-        Form::Map { mask } => Shape {
-            fields: mask.len() as u32,
-            kind: Descriptor::Bitmap {
-                bits: mask_bits(mask),
-            },
-        },
-        Form::Refs => Shape {
-            fields: 0,
-            kind: Descriptor::VectorRefs,
-        },
-        Form::Words => Shape {
-            fields: 0,
-            kind: Descriptor::VectorPlain,
-        },
-        Form::Pair => Shape {
-            fields: 2,
-            kind: Descriptor::Ephemeron,
-        },
-    }
-}
-
 /// The classes that lines declare.
 fn classes(alloc: Global, lines: &[Line<'_>]) -> Result<List<Class>, AllocError>
     requires { AllByRecursion IsSmall (map sentence_of lines.now) }
@@ -125,7 +89,7 @@ fn classes(alloc: Global, lines: &[Line<'_>]) -> Result<List<Class>, AllocError>
                 name: Name {
                     bytes: List::from_vec(bytes),
                 },
-                shape: shape(form),
+                shape: form.shape(),
             })?;
         }
     }
@@ -158,6 +122,9 @@ pub(crate) fn build(
     requires said { AreLines (map sentence_of lines.now) }
     ensures { IfOk result (IsBuilt (map sentence_of lines.now)) }
 {
+    // Two laws: these calls do nothing.
+    one_program();
+    items_unfold();
     let fault = line_fault(lines);
     let end = match fault {
         Some((index, _)) => index,

@@ -4,11 +4,12 @@ ghost use Rattle.std.specs.List.{count_by};
 ghost use Rattle.sg_desc.specs.declared.shapes.Descriptor.TheVariants.{Ephemeron};
 ghost use Rattle.sg_parse.specs.Faults.{is_begin, classes_in, IsLater, IsMisnamed, IsPairClass};
 ghost use Rattle.sg_parse.specs.Names.{classes_of, AreNames, IsMadeLater, IsDoneLater, IsLaterBy};
-ghost use Rattle.sg_parse.specs.Reading.{maker_of, shape_in, sentence_of, HasNoneIn, IsFirstIn};
+ghost use Rattle.sg_text.specs.Reading.{maker_of, shape_in, sentence_of};
+ghost use Rattle.sg_parse.specs.Indices.{HasNoneIn, IsFirstIn};
 
-use crate::line::{Form, Line, Maker};
 use crate::names::Names;
-use sg_program::Statement;
+use sg_program::{Statement, limits};
+use sg_text::{Form, Line, Maker};
 
 /// Whether a class of this form is one of pairs.
 fn has_pairs(form: &Form<'_>) -> bool
@@ -38,7 +39,7 @@ fn is_made_later(maker: &Maker, name: &[u8], names: &Names<'_>) -> bool
 {
     match maker {
         Maker::Fixed => is_pair(names, name),
-        Maker::Vector { count } => *count > 62,
+        Maker::Vector { count } => *count > limits::MOST_FIELDS,
         Maker::Mature => true,
     }
 }
@@ -83,7 +84,7 @@ fn is_begin(line: &Line<'_>) -> bool
     }
 }
 
-/// The first line that isn't run yet.
+/// The first line that isn't run yet. Linear in the lines, with the cost of looking up names.
 pub(crate) fn later(lines: &[Line<'_>], names: &Names<'_>) -> Option<usize>
     requires names { AreNames names.now (classes_in (map sentence_of lines.now)) }
     requires named { HasNoneIn IsMisnamed (map sentence_of lines.now) }

@@ -6,18 +6,13 @@
 mod build;
 mod later;
 mod limits;
-mod line;
-mod lines;
 mod names;
-mod order;
 mod program;
 mod refusal;
-mod scan;
 mod scripts;
-mod sentence;
 #[cfg(test)]
 mod tests;
-mod words;
 
-pub use program::{one_reading, one_refusal, parse};
+pub use program::{one_refusal, parse};
 pub use refusal::{Refusal, Which};
+pub use sg_grammar::one_reading;

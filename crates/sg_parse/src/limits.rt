@@ -2,11 +2,11 @@
 ghost use Rattle.std.specs.Prelude.{◌≡◌, ◌+◌, ◌-◌, ◌^◌, ◌<◌, ◌&&◌, nat_le, cond, map, length};
 ghost use Rattle.sg_parse.specs.Faults.{class_in, is_opening, is_ending, is_begin};
 ghost use Rattle.sg_parse.specs.LineLimits.{is_within, is_nursery_size, may_have, unless, setting_fault, maker_fault, statement_fault, line_fault, IsLineFault};
-ghost use Rattle.sg_parse.specs.Reading.{maker_of, shape_in, at_cell, sentence_of};
+ghost use Rattle.sg_text.specs.Reading.{maker_of, shape_in, at_cell, sentence_of};
 
-use crate::line::{Cell, Form, Line, Maker};
 use crate::refusal::Which;
-use sg_program::Statement;
+use sg_program::{Statement, limits};
+use sg_text::{Cell, Form, Line, Maker, Setting};
 
 /// How many lines of some kinds stand above a line.
 #[derive(Clone, Copy, Debug, PartialEq, Eq)]
@@ -20,7 +20,7 @@ struct Above {
 fn is_nursery_size(n: u64) -> bool
     ensures { result ≡ is_nursery_size n }
 {
-    256 <= n && n <= 65536 && n % 64 == 0
+    limits::LEAST_NURSERY <= n && n <= limits::MOST_NURSERY && n % limits::NURSERY_STEP == 0
 }
 
 fn is_within(low: u64, high: u64, n: u64) -> bool
@@ -34,13 +34,13 @@ fn may_have(form: &Form<'_>) -> bool
     ensures { result ≡ may_have (shape_in form.now).kind (shape_in form.now).fields }
 {
     match *form {
-        Form::Plain { fields } => fields <= 62,
+        Form::Plain { fields } => fields <= limits::MOST_FIELDS,
         Form::Run {
             fields,
             first,
             count,
-        } => 1 <= count && fields <= 62 && count <= fields && first <= fields - count,
-        Form::Map { mask } => mask.len() <= 60,
+        } => 1 <= count && fields <= limits::MOST_FIELDS && count <= fields && first <= fields - count,
+        Form::Map { mask } => mask.len() <= limits::MOST_MASK,
         Form::Refs | Form::Words | Form::Pair => true,
     }
 }
@@ -53,17 +53,18 @@ fn unless(keeps: bool, which: Which) -> Option<Which>
 }
 
 /// The limit that a setting breaks.
-fn setting_fault(at: usize, n: u64) -> Option<Which>
-    ensures { result ≡ setting_fault at n }
+fn setting_fault(setting: Setting, n: u64) -> Option<Which>
+    ensures { result ≡ setting_fault setting n }
 {
-    match at {
-        0 => unless(is_nursery_size(n), Which::Nursery),
-        1 => unless(is_within(1, 4096, n), Which::Blocks),
-        2 => unless(n <= 1024, Which::Pages),
-        3 => unless(is_within(16, 1024, n), Which::Buffer),
-        4 => unless(is_within(1, 8, n), Which::Workers),
-        5 => unless(is_within(1, 1000, n), Which::Cement),
-        _ => None,
+    match setting {
+        Setting::Nursery => unless(is_nursery_size(n), Which::Nursery),
+        Setting::Blocks => unless(is_within(1, limits::MOST_BLOCKS, n), Which::Blocks),
+        Setting::Pages => unless(n <= limits::MOST_PAGES, Which::Pages),
+        Setting::Buffer => {
+            unless(is_within(limits::LEAST_BUFFER, limits::MOST_BUFFER, n), Which::Buffer)
+        }
+        Setting::Workers => unless(is_within(1, limits::MOST_WORKERS, n), Which::Workers),
+        Setting::Cement => unless(is_within(1, limits::MOST_CEMENT, n), Which::Cement),
     }
 }
 
@@ -72,7 +73,7 @@ fn maker_fault(maker: &Maker) -> Option<Which>
     ensures { result ≡ maker_fault (maker_of maker.now) }
 {
     match *maker {
-        Maker::Vector { count } if count > 131_070 => Some(Which::Vector),
+        Maker::Vector { count } if count > limits::MOST_VECTOR => Some(Which::Vector),
         _ => None,
     }
 }
@@ -81,7 +82,7 @@ fn maker_fault(maker: &Maker) -> Option<Which>
 fn cell_fault(cell: &Cell, r: u8, place: u64) -> Option<Which>
     ensures { result ≡ statement_fault (at_cell cell.now r place) }
 {
-    if place <= 63 {
+    if place <= limits::LAST_PLACE {
         return None;
     }
     match cell {
@@ -95,8 +96,8 @@ fn statement_fault(statement: &Statement) -> Option<Which>
     ensures { result ≡ statement_fault statement.now }
 {
     match *statement {
-        Statement::GPut { g, .. } | Statement::GGet { g, .. } if g > 63 => Some(Which::Global),
-        Statement::WSet { w, .. } | Statement::WGet { w, .. } if w > 63 => Some(Which::Weak),
+        Statement::GPut { g, .. } | Statement::GGet { g, .. } if u64::from(g) > limits::LAST_PLACE => Some(Which::Global),
+        Statement::WSet { w, .. } | Statement::WGet { w, .. } if u64::from(w) > limits::LAST_PLACE => Some(Which::Weak),
         _ => None,
     }
 }
@@ -108,14 +109,14 @@ impl Above {
     {
         match line {
             Line::Head | Line::End => None,
-            Line::Setting { at, n } => setting_fault(*at, *n),
-            Line::Class { .. } if 256 <= self.classes => Some(Which::Classes),
+            Line::Setting { setting, n } => setting_fault(*setting, *n),
+            Line::Class { .. } if limits::MOST_CLASSES <= self.classes => Some(Which::Classes),
             Line::Class { form, .. } if !may_have(form) => Some(Which::Fields),
             Line::Class { .. } => None,
-            Line::Mutator if 16 <= self.begun => Some(Which::Mutators),
+            Line::Mutator if limits::MOST_MUTATORS <= self.begun => Some(Which::Mutators),
             Line::Mutator => None,
-            Line::Repeat { times } if !is_within(1, 1_048_576, *times) => Some(Which::Times),
-            Line::Repeat { .. } if 5 <= self.opened.saturating_sub(self.ended) => Some(
+            Line::Repeat { times } if !is_within(1, limits::MOST_TIMES, *times) => Some(Which::Times),
+            Line::Repeat { .. } if limits::MOST_NESTING < self.opened.saturating_sub(self.ended) => Some(
                 Which::Nesting,
             ),
             Line::Repeat { .. } => None,

@@ -3,11 +3,11 @@ ghost use Rattle.std.specs.Prelude.{◌≡◌, ℕ, Some, true, false, ◌++◌,
 ghost use Rattle.sg_desc.specs.Shapes.{is_vector};
 ghost use Rattle.sg_parse.specs.Faults.{wants_vector, class_in};
 ghost use Rattle.sg_parse.specs.Names.{class_of, classes_of, AreDistinct, Misnames, IsNamed, IsNaming};
-ghost use Rattle.sg_parse.specs.Reading.{maker_of, shape_in, sentence_of};
-ghost use Rattle.sg_parse.specs.Text.{IsClassName, StandsFor};
+ghost use Rattle.sg_text.specs.Reading.{maker_of, shape_in, sentence_of};
+ghost use Rattle.sg_grammar.specs.Text.{IsClassName, StandsFor};
 
-use crate::line::{Form, Line, Maker};
 use indexmap::IndexMap;
+use sg_text::{Form, Line, Maker};
 use std::alloc::{AllocError, Global};
 
 /// The classes of a text by their names, in the order of their lines.

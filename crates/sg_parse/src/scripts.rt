@@ -1,14 +1,14 @@
 //! The scripts of a text.
 ghost use Rattle.std.specs.Prelude.{◌≡◌, ℕ, ◌^◌, ◌<◌, ◌≤◌, map, length, IfOk, IfSome};
 ghost use Rattle.sg_parse.specs.Building.{IsStatement, IsBody, AreRead, IsToldWithin};
-ghost use Rattle.sg_parse.specs.Lines.{made_by};
+ghost use Rattle.sg_text.specs.Lines.{made_by};
 ghost use Rattle.sg_parse.specs.Names.{classes_of};
-ghost use Rattle.sg_parse.specs.Reading.{maker_of, at_cell, sentence_of};
+ghost use Rattle.sg_text.specs.Reading.{maker_of, at_cell, sentence_of};
 
-use crate::line::{Cell, Line, Maker};
 use crate::names::Names;
 use crate::refusal::Which;
-use sg_program::{Item, Script, Statement, script_finals, script_total};
+use sg_program::{Item, Script, Statement, limits, script_finals, script_total};
+use sg_text::{Cell, Line, Maker};
 use sg_words::List;
 use sqlite_items::Items;
 use std::alloc::{AllocError, Global};
@@ -153,13 +153,13 @@ pub(crate) fn read_scripts(
         let script = Script { items: body.items };
         statements = statements.saturating_add(script_total(&script));
         finals = finals.saturating_add(script_finals(&script));
-        if statements > 1_048_576 {
+        if statements > limits::MOST_STATEMENTS {
             return Ok(Scripts::Heavy {
                 index: at - 1,
                 which: Which::Statements,
             });
         }
-        if finals > 1024 {
+        if finals > limits::MOST_FINALS {
             return Ok(Scripts::Heavy {
                 index: at - 1,
                 which: Which::Finals,

@@ -1,36 +1,25 @@
 -- What holds of each statement that is written holds of each that is done, and a script without misuse finds, with its repeats
 -- written out, the kinds that it needs.
 use Rattle.std.proofs.Common.{◌≡◌, ℕ, zero, suc, ◌<◌, ◌≤◌, List, [], ◌∷◌, ◌++◌, map, length, sym, refl, ap, ◌∙◌, subst, arith, if◌then◌else◌, ◌==◌}
-use Rattle.std.specs.List.{AllByRecursion}
+use Rattle.std.specs.List.{AllByRecursion, Contains}
 use Rattle.std.proofs.lemmas.List.{append_assoc, append-nil}
 use Rattle.std.proofs.lemmas.List.Concat.{flat_map-cons}
 use Rattle.std.proofs.lemmas.List.Folds.{flat_map-map}
 use Rattle.sg_words.specs.Words.{put}
+use Rattle.sg_words.proofs.Everywhere.{all_append, all_front, all_back, all_contained, contained}
 use Rattle.sg_program.specs.declared.program.Statement.{Statement}
 use Rattle.sg_program.specs.declared.program.Statement.TheVariants.{New, NewV, Mature, Put, Get, PutD, GetD, Num, Move, Hide, Unhide, Drop, Push, Pop, GPut, GGet, WSet, WGet, Final, NextFin, Same, Collect, Sections}
 use Rattle.sg_program.specs.declared.program.Item.{Item, roll-Item, map-Item, ind-Item, fold-roll-Item}
 use Rattle.sg_program.specs.declared.program.Item.TheOpen.{Item-F, One, Repeat}
 use Rattle.sg_program.specs.Scripts.{repeated, statements_of, texts_of, item_out, written_out, item_text, written}
 use Rattle.sg_program.specs.Invariants.{HasOperands, FindKinds}
+use Rattle.sg_program.specs.Laws.{ItemsDoWhatIsWritten}
 use Rattle.sg_program.specs.Kinds.{Kind, Kinds, first_kinds, Needs, sets, pops, kinds_after, AreSame, Leads, Done, Does, Repeats}
 use Rattle.sg_program.proofs.Items.{out_one, out_repeat, text_one, text_repeat}
 
-module _ {A : Type 0} (P : A → Type 0) where
-  pub all_append : (xs ys : List A) → AllByRecursion P xs → AllByRecursion P ys → AllByRecursion P (xs ++ ys)
-  all_append [] ys h l = l
-  all_append (x ∷ xs) ys h l = (h.0, all_append xs ys h.1 l)
-
-  pub all_first : (xs ys : List A) → AllByRecursion P (xs ++ ys) → AllByRecursion P xs
-  all_first [] ys h = tt
-  all_first (x ∷ xs) ys h = (h.0, all_first xs ys h.1)
-
-  pub all_second : (xs ys : List A) → AllByRecursion P (xs ++ ys) → AllByRecursion P ys
-  all_second [] ys h = h
-  all_second (x ∷ xs) ys h = all_second xs ys h.1
-
-  pub all_repeated : (n : ℕ) (xs : List A) → AllByRecursion P xs → AllByRecursion P (repeated n xs)
-  all_repeated zero xs h = tt
-  all_repeated (suc n) xs h = all_append xs (repeated n xs) h (all_repeated n xs h)
+all_repeated : {A : Type 0} (P : A → Type 0) (n : ℕ) (xs : List A) → AllByRecursion P xs → AllByRecursion P (repeated n xs)
+all_repeated P zero xs h = tt
+all_repeated P (suc n) xs h = all_append P xs (repeated n xs) h (all_repeated P n xs h)
 
 -- What holds of each statement that is written holds of each that is done.
 module _ (P : Statement → Type 0) where
@@ -45,7 +34,7 @@ module _ (P : Statement → Type 0) where
   all_body (e ∷ body) h =
       let g = subst (AllByRecursion P) (flat_map-cons item_text e.0 (map item_of body)) h in
       subst (AllByRecursion P) (sym (flat_map-cons item_out e.0 (map item_of body)))
-      (all_append P (item_out e.0) (written_out (map item_of body)) (e.1 (all_first P (item_text e.0) _ g)) (all_body body (all_second P (item_text e.0) _ g)))
+      (all_append P (item_out e.0) (written_out (map item_of body)) (e.1 (all_front P (item_text e.0) _ g)) (all_body body (all_back P (item_text e.0) _ g)))
 
   all_layer : (y : Item-F ((item : Item) × Keeps item)) → Keeps (roll-Item (map-Item _ _ item_of y))
   all_layer (One s) h =
@@ -59,12 +48,12 @@ module _ (P : Statement → Type 0) where
   all_item : (item : Item) → Keeps item
   all_item = ind-Item Keeps (λ x y is. subst (λ z. Keeps (roll-Item z)) is (all_layer y))
 
-  pub all_out : (items : List Item) → AllByRecursion P (written items) → AllByRecursion P (written_out items)
+  all_out : (items : List Item) → AllByRecursion P (written items) → AllByRecursion P (written_out items)
   all_out [] h = tt
   all_out (item ∷ items) h =
       let g = subst (AllByRecursion P) (flat_map-cons item_text item items) h in
       subst (AllByRecursion P) (sym (flat_map-cons item_out item items))
-      (all_append P (item_out item) (written_out items) (all_item item (all_first P (item_text item) _ g)) (all_out items (all_second P (item_text item) _ g)))
+      (all_append P (item_out item) (written_out items) (all_item item (all_front P (item_text item) _ g)) (all_out items (all_back P (item_text item) _ g)))
 
 -- Kinds that are the same need and lead to the same.
 put_same : (f g : ℕ → Kind) (k : ℕ) (v w : Kind) → v ≡ w → ((r : ℕ) → r < 16 → f r ≡ g r) → (r : ℕ) → r < 16 → put f k v r ≡ put g k w r
@@ -81,7 +70,7 @@ pops_same k j r xs ys e same = subst (λ zs. AreSame (pops k r xs) (pops j r zs)
     by_cases [] = same
     by_cases (kind ∷ stack) = record { registers = put_same k.register j.register r kind kind refl same.registers; stack = refl }
 
-pub after_same : (k j : Kinds) (s : Statement) → HasOperands s → AreSame k j → AreSame (kinds_after k s) (kinds_after j s)
+after_same : (k j : Kinds) (s : Statement) → HasOperands s → AreSame k j → AreSame (kinds_after k s) (kinds_after j s)
 after_same k j (New r class) o same = sets_same k j r _ _ refl same
 after_same k j (NewV r class count) o same = sets_same k j r _ _ refl same
 after_same k j (Mature r class) o same = sets_same k j r _ _ refl same
@@ -111,7 +100,7 @@ after_same k j Sections o same = same
 holds_same : (k j : Kinds) (r : ℕ) (kind : Kind) → r ≤ 15 → AreSame k j → k.register r ≡ kind → j.register r ≡ kind
 holds_same k j r kind l same h = sym (same.registers r (omega (arith, l))) ∙ h
 
-pub needs_same : (k j : Kinds) (s : Statement) → HasOperands s → AreSame k j → Needs k s → Needs j s
+needs_same : (k j : Kinds) (s : Statement) → HasOperands s → AreSame k j → Needs k s → Needs j s
 needs_same k j (Put r field s) o same h = (holds_same k j r _ o.0 same h.0, holds_same k j s _ o.1 same h.1)
 needs_same k j (Get d r field) o same h = holds_same k j r _ o.1 same h
 needs_same k j (PutD r field s) o same h = (holds_same k j r _ o.0 same h.0, holds_same k j s _ o.1 same h.1)
@@ -126,7 +115,7 @@ needs_same k j (Final r) o same h = holds_same k j r _ o same h
 needs_same k j (Same r s) o same h = (holds_same k j r _ o.0 same h.0, holds_same k j s _ o.1 same h.1)
 needs_same k j s o same h = tt
 
-pub find_same : (xs : List Statement) (k j : Kinds) → AllByRecursion HasOperands xs → AreSame k j → FindKinds k xs → FindKinds j xs
+find_same : (xs : List Statement) (k j : Kinds) → AllByRecursion HasOperands xs → AreSame k j → FindKinds k xs → FindKinds j xs
 find_same [] k j o same h = tt
 find_same (s ∷ xs) k j o same h =
     (needs_same k j s o.0 same h.0, find_same xs (kinds_after k s) (kinds_after j s) o.1 (after_same k j s o.0 same) h.1)
@@ -153,13 +142,22 @@ find_on _ _ _ (Does k item s items j e needs leads) o rest l h =
     (needs, find_on _ items j leads g.1 rest l h)
 find_on _ _ _ (Repeats k item times body i items j e leads same behind) o rest l h =
     let g = subst (AllByRecursion HasOperands) (flat_map-cons item_text item items ∙ ap (λ (xs : List Statement). xs ++ written items) (text_repeat item times body e)) o in
-    let inside = all_first HasOperands (written body) (written items) g in
-    let after = all_second HasOperands (written body) (written items) g in
+    let inside = all_front HasOperands (written body) (written items) g in
+    let after = all_back HasOperands (written body) (written items) g in
     let more = written_out items ++ rest in
     let all = all_append HasOperands (written_out items) rest (all_out HasOperands items after) l in
     subst (FindKinds k) (sym (ap (λ (xs : List Statement). xs ++ rest) (flat_map-cons item_out item items ∙ ap (λ (xs : List Statement). xs ++ written_out items) (out_repeat item times body e)) ∙ append_assoc (repeated times (written_out body)) (written_out items) rest))
     (find_repeated k i (written_out body) same (all_out HasOperands body inside)
     (λ tail m f. find_on k body i leads inside tail m f) times more all (find_on i items j behind after rest l h))
 
-pub finds_kinds : (items : List Item) (j : Kinds) → Leads first_kinds items j → AllByRecursion HasOperands (written items) → FindKinds first_kinds (written_out items)
+finds_kinds : (items : List Item) (j : Kinds) → Leads first_kinds items j → AllByRecursion HasOperands (written items) → FindKinds first_kinds (written_out items)
 finds_kinds items j leads o = subst (FindKinds first_kinds) (append-nil (written_out items)) (find_on first_kinds items j leads o [] tt tt)
+
+-- each statement that items do is written
+done_is_written : (items : List Item) (s : Statement) → Contains (written_out items) s → Contains (written items) s
+done_is_written items s c =
+    let P : Statement → Type 0 = Contains (written items) in
+    contained P (written_out items) s (all_out P items (all_contained P (written items) (λ x h. h))) c
+
+pub items_do_what_is_written : ItemsDoWhatIsWritten
+items_do_what_is_written = record { each = done_is_written; kinds = λ items o none. finds_kinds items none.0 none.1 o }

@@ -6,6 +6,7 @@ use Rattle.std.proofs.lemmas.List.{take_more, append-nil}
 use Rattle.std.proofs.lemmas.List.Sums.{sum_by-append}
 use Rattle.std.proofs.lemmas.Grind.{flat_map-append}
 use Rattle.std.specs.List.{count_by}
+use Rattle.sg_words.proofs.Everywhere.{count-append, count-cons}
 use Rattle.sg_program.specs.declared.program.Statement.{Statement}
 use Rattle.sg_program.specs.declared.program.Item.{Item, out-Item}
 use Rattle.sg_program.specs.declared.program.Item.TheOpen.{Repeat}
@@ -36,12 +37,6 @@ held_product k a (suc t) = elim (cases_lt k a) [
       ap (λ x. min (x * suc t) k) p ∙ min-eq_right q ∙ sym (min-eq_right r)
   | inr within ↦ ap (λ x. min x k) (ap (λ x. x * suc t) (min-eq_left {n = a} {m = k} (omega arith)) ∙ (omega arith))
 ]
-
-pub count-append : {A : Type 0} (p : A → Bool) (xs ys : List A) → count_by p (xs ++ ys) ≡ count_by p xs + count_by p ys
-count-append p xs ys = sum_by-append (λ x. cond (p x) 1 0) xs ys
-
-pub count-cons : {A : Type 0} (p : A → Bool) (x : A) (xs : List A) → count_by p (x ∷ xs) ≡ cond (p x) 1 0 + count_by p xs
-count-cons p x xs = count-append p (x ∷ []) xs ∙ ap (λ n. n + count_by p xs) (zero-add (cond (p x) 1 0))
 
 pub count-repeated : {A : Type 0} (p : A → Bool) (n : ℕ) (xs : List A) → count_by p (repeated n xs) ≡ n * count_by p xs
 count-repeated p zero xs = sym (zero-mul (count_by p xs))

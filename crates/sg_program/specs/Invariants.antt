@@ -13,7 +13,7 @@ use Rattle.sg_program.specs.declared.program.Item.TheOpen.{Item-F, One, Repeat}
 use Rattle.sg_program.specs.declared.program.Script.{Script}
 use Rattle.sg_program.specs.declared.program.Program.{Program}
 use Rattle.sg_program.specs.Scripts.{kind_of, written, NamesClass, statements_in, finals_in}
-use Rattle.sg_program.specs.Limits.{MayHave}
+use Rattle.sg_program.specs.Limits.{MayHave, least_nursery, most_nursery, nursery_step, most_blocks, most_pages, least_buffer, most_buffer, most_workers, most_cement, most_classes, most_fields, most_vector, last_register, last_place, most_times, most_nesting, most_statements, most_finals, most_mutators}
 use Rattle.sg_program.specs.Kinds.{Kinds, Needs, kinds_after}
 
 -- a class with the fields that its descriptor may have
@@ -22,42 +22,42 @@ IsSmallClass class = MayHave class.shape.kind class.shape.fields
 
 -- settings within the limits
 pub record AreWithinLimits (config : Config) : Type 0 where
-  pub nursery_least : 256 ≤ config.nursery
-  pub nursery_most : config.nursery ≤ 65536
-  pub nursery_even : config.nursery % 64 ≡ 0
+  pub nursery_least : least_nursery ≤ config.nursery
+  pub nursery_most : config.nursery ≤ most_nursery
+  pub nursery_even : config.nursery % nursery_step ≡ 0
   pub blocks_least : 1 ≤ config.blocks
-  pub blocks_most : config.blocks ≤ 4096
-  pub pages_most : config.pages ≤ 1024
-  pub buffer_least : 16 ≤ config.buffer
-  pub buffer_most : config.buffer ≤ 1024
+  pub blocks_most : config.blocks ≤ most_blocks
+  pub pages_most : config.pages ≤ most_pages
+  pub buffer_least : least_buffer ≤ config.buffer
+  pub buffer_most : config.buffer ≤ most_buffer
   pub workers_least : 1 ≤ config.workers
-  pub workers_most : config.workers ≤ 8
+  pub workers_most : config.workers ≤ most_workers
   pub cement_least : 1 ≤ config.cement
-  pub cement_most : config.cement ≤ 1000
+  pub cement_most : config.cement ≤ most_cement
 
 -- the operands of a statement: registers up to 15, globals and weak links up to 63, a vector's fields up to 131,070
 abbrev pub HasOperands : Statement → Type 0
-HasOperands (New r class) = r ≤ 15
-HasOperands (NewV r class count) = (r ≤ 15) × (count ≤ 131070)
-HasOperands (Mature r class) = r ≤ 15
-HasOperands (Put r field s) = (r ≤ 15) × (s ≤ 15)
-HasOperands (Get d r field) = (d ≤ 15) × (r ≤ 15)
-HasOperands (PutD r field s) = (r ≤ 15) × (s ≤ 15)
-HasOperands (GetD d r field) = (d ≤ 15) × (r ≤ 15)
-HasOperands (Num d n) = d ≤ 15
-HasOperands (Move d s) = (d ≤ 15) × (s ≤ 15)
-HasOperands (Hide d s offset) = (d ≤ 15) × (s ≤ 15)
-HasOperands (Unhide d s) = (d ≤ 15) × (s ≤ 15)
-HasOperands (Drop r) = r ≤ 15
-HasOperands (Push r) = r ≤ 15
-HasOperands (Pop r) = r ≤ 15
-HasOperands (GPut g r) = (g ≤ 63) × (r ≤ 15)
-HasOperands (GGet r g) = (r ≤ 15) × (g ≤ 63)
-HasOperands (WSet w r long) = (w ≤ 63) × (r ≤ 15)
-HasOperands (WGet r w) = (r ≤ 15) × (w ≤ 63)
-HasOperands (Final r) = r ≤ 15
-HasOperands (NextFin r) = r ≤ 15
-HasOperands (Same r s) = (r ≤ 15) × (s ≤ 15)
+HasOperands (New r class) = r ≤ last_register
+HasOperands (NewV r class count) = (r ≤ last_register) × (count ≤ most_vector)
+HasOperands (Mature r class) = r ≤ last_register
+HasOperands (Put r field s) = (r ≤ last_register) × (s ≤ last_register)
+HasOperands (Get d r field) = (d ≤ last_register) × (r ≤ last_register)
+HasOperands (PutD r field s) = (r ≤ last_register) × (s ≤ last_register)
+HasOperands (GetD d r field) = (d ≤ last_register) × (r ≤ last_register)
+HasOperands (Num d n) = d ≤ last_register
+HasOperands (Move d s) = (d ≤ last_register) × (s ≤ last_register)
+HasOperands (Hide d s offset) = (d ≤ last_register) × (s ≤ last_register)
+HasOperands (Unhide d s) = (d ≤ last_register) × (s ≤ last_register)
+HasOperands (Drop r) = r ≤ last_register
+HasOperands (Push r) = r ≤ last_register
+HasOperands (Pop r) = r ≤ last_register
+HasOperands (GPut g r) = (g ≤ last_place) × (r ≤ last_register)
+HasOperands (GGet r g) = (r ≤ last_register) × (g ≤ last_place)
+HasOperands (WSet w r long) = (w ≤ last_place) × (r ≤ last_register)
+HasOperands (WGet r w) = (r ≤ last_register) × (w ≤ last_place)
+HasOperands (Final r) = r ≤ last_register
+HasOperands (NextFin r) = r ≤ last_register
+HasOperands (Same r s) = (r ≤ last_register) × (s ≤ last_register)
 HasOperands (Collect major) = Unit {0}
 HasOperands Sections = Unit {0}
 
@@ -96,24 +96,24 @@ item_times = fold-Item (List ℕ) times_step
 -- a script within the limits
 pub record IsGoodScript (p : Program) (script : Script) : Type 0 where
   pub statements : AllByRecursion (IsGood p) (written script.items)
-  pub times : AllByRecursion (λ n. (1 ≤ n) × (n ≤ 1048576)) (flat_map item_times script.items)
-  pub nesting : AllByRecursion (λ item. item_depth item ≤ 4) script.items
+  pub times : AllByRecursion (λ n. (1 ≤ n) × (n ≤ most_times)) (flat_map item_times script.items)
+  pub nesting : AllByRecursion (λ item. item_depth item ≤ most_nesting) script.items
 
 -- a program within the limits
 pub record IsWithinLimits (p : Program) : Type 0 where
   pub settings : AreWithinLimits p.config
-  pub classes : length p.classes ≤ 256
+  pub classes : length p.classes ≤ most_classes
   pub fields : AllByRecursion IsSmallClass p.classes
   pub scripts : AllByRecursion (IsGoodScript p) p.mutators
-  pub statements : statements_in p ≤ 1048576
-  pub finals : finals_in p ≤ 1024
+  pub statements : statements_in p ≤ most_statements
+  pub finals : finals_in p ≤ most_finals
   pub mutators_least : 1 ≤ length p.mutators
-  pub mutators_most : length p.mutators ≤ 16
+  pub mutators_most : length p.mutators ≤ most_mutators
 
 -- a statement that is built by now
 abbrev pub IsBuilt : Program → Statement → Type 0
 IsBuilt p (New r class) = kind_of p class ≢ Ephemeron
-IsBuilt p (NewV r class count) = count ≤ 62
+IsBuilt p (NewV r class count) = count ≤ most_fields
 IsBuilt p (Mature r class) = ⊥
 IsBuilt p (GPut g r) = ⊥
 IsBuilt p (GGet r g) = ⊥

@@ -4,3 +4,4 @@ pub mod Limits
 pub mod Kinds
 pub mod Counts
 pub mod Invariants
+pub mod Laws

@@ -11,6 +11,7 @@ use Rattle.sg_program.specs.declared.program.Program.{Program}
 use Rattle.sg_desc.specs.declared.shapes.Shape.{Shape}
 use Rattle.sg_desc.specs.declared.shapes.Descriptor.{Descriptor}
 use Rattle.sg_desc.specs.declared.shapes.Descriptor.TheVariants.{PtrFree}
+use Rattle.sg_program.specs.Limits.{most_fields}
 use Rattle.sg_desc.specs.Shapes.{is_vector}
 
 -- the list this many times, one after another
@@ -81,7 +82,7 @@ fields_of p c = (shape_of p c).fields
 
 -- The number of fields of a small object of class c: the class's own, or any number up to 62 where the class has none of its own.
 abbrev pub IsSizeOf : Program → ℕ → ℕ → Type 0
-IsSizeOf p c n = (n ≤ 62) × (is_vector (kind_of p c) ≡ false → n ≡ fields_of p c)
+IsSizeOf p c n = (n ≤ most_fields) × (is_vector (kind_of p c) ≡ false → n ≡ fields_of p c)
 
 -- the words of an object of n fields: its tag, its number of fields, and the fields
 abbrev pub words_for : ℕ → ℕ

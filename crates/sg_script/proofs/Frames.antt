@@ -3,16 +3,24 @@ use Rattle.std.proofs.Common.{◌≡◌, ◌≢◌, ℕ, zero, suc, ◌+◌, ◌
 use Rattle.std.proofs.lemmas.List.{append_assoc, append-nil}
 use Rattle.std.proofs.lemmas.Bool.{false≢true}
 use Rattle.std.proofs.lemmas.Option.{none-some, same_Some}
+use Rattle.std.proofs.lemmas.List.Folds.{flat_map-map}
 use Rattle.std.specs.List.{AllByRecursion}
 use Rattle.std.specs.Result.{is_ok}
 use Rattle.sg_program.specs.declared.program.Statement.{Statement}
 use Rattle.sg_program.specs.declared.program.Item.{Item, out-Item, map-Item, fold_out-Item}
 use Rattle.sg_program.specs.declared.program.Item.TheOpen.{One, Repeat}
-use Rattle.sg_program.specs.Scripts.{repeated, item_out, written_out}
+use Rattle.sg_program.specs.Scripts.{repeated, statements_of, item_out, written_out}
 use Rattle.sg_program.specs.Invariants.{most_of, depth_step, item_depth}
-use Rattle.sg_program.proofs.Items.{out_one, out_repeat}
 use Rattle.sg_script.specs.declared.cursor.Frame.{Frame}
 use Rattle.sg_script.specs.Left.{frame_left, left, Fits, AreNested, IsAt, Stands, cost_step, item_cost, items_cost, frame_cost, cost}
+
+-- what an item does
+out_one : (item : Item) (s : Statement) → out-Item item ≡ One s → item_out item ≡ s ∷ []
+out_one item s e = fold_out-Item (List Statement) statements_of item ∙ ap (λ x. statements_of (map-Item Item (List Statement) item_out x)) e
+
+out_repeat : (item : Item) (times : ℕ) (body : List Item) → out-Item item ≡ Repeat times body → item_out item ≡ repeated times (written_out body)
+out_repeat item times body e =
+    fold_out-Item (List Statement) statements_of item ∙ ap (λ x. statements_of (map-Item Item (List Statement) item_out x)) e ∙ ap (repeated times) (flat_map-map (λ ys. ys) item_out body)
 
 -- the frame behind its next item
 abbrev pub passed : Frame → Frame

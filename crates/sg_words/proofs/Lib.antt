@@ -1,6 +1,7 @@
 pub mod Puts
 pub mod Closure
 pub mod Distinct
+pub mod Everywhere
 pub mod Members
 pub mod Numbers
 pub mod Objects

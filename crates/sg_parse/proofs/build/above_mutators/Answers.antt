@@ -1,5 +1,5 @@
 use Rattle.std.proofs.Common.{below_more}
-use Rattle.sg_parse.specs.declared.line.Line.TheVariants.{Head}
+use Rattle.sg_text.specs.declared.line.Line.TheVariants.{Head}
 use Rattle.sg_parse.proofs.BuildLemmas.{mutator_only}
 use Rattle.sg_parse.proofs.build.above_mutators.Goals as goal
 

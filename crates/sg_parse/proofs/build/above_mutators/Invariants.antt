@@ -1,6 +1,6 @@
 use Rattle.std.proofs.Common.{◌≡◌, ℕ, ◌<◌, slice_get, Some, map}
-use Rattle.sg_parse.specs.Lines.{Begins}
-use Rattle.sg_parse.specs.Reading.{sentence_of}
+use Rattle.sg_text.specs.Lines.{Begins}
+use Rattle.sg_text.specs.Reading.{sentence_of}
 use Rattle.sg_parse.proofs.build.above_mutators.Given as goal
 
 abbrev pub invariant-loop-at : goal.invariant-loop-at

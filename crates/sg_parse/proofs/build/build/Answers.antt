@@ -1,7 +1,7 @@
 use Rattle.std.proofs.Common.{length, map, refl, sym, subst, ◌∙◌, arith}
 use Rattle.std.proofs.lemmas.List.{length-map}
 use Rattle.sg_parse.specs.Names.{classes_of}
-use Rattle.sg_parse.specs.Reading.{sentence_of}
+use Rattle.sg_text.specs.Reading.{sentence_of}
 use Rattle.sg_parse.specs.LineLimits.{IsLineFault}
 use Rattle.sg_parse.proofs.Bodies.{no_items, some_items}
 use Rattle.sg_parse.proofs.BuildStart.{all_small}
@@ -28,7 +28,7 @@ returns-in-Heavy c =
     ] in
     let s = situation c.args.lines.now (classes_of c.args.names.now) c.line_fault-fault.result c.match-fault.end c.above_mutators-start.result c.requires.whole c.requires.named c.requires.names
     c.line_fault-fault.ensures end_is c.above_mutators-start.ensures.within c.above_mutators-start.ensures.above c.above_mutators-start.ensures.here in
-    answer_heavy c.args.lines.now (classes_of c.args.names.now) c.line_fault-fault.result c.match-fault.end c.above_mutators-start.result s c.in_ok-index.field-0 c.in-Heavy.index c.in-Heavy.which c.in-Heavy.is c.in_ok-index.ensures.read c.in_ok-index.ensures.within
+    answer_heavy c.one_program.ensures c.args.lines.now (classes_of c.args.names.now) c.line_fault-fault.result c.match-fault.end c.above_mutators-start.result s c.in_ok-index.field-0 c.in-Heavy.index c.in-Heavy.which c.in-Heavy.is c.in_ok-index.ensures.read c.in_ok-index.ensures.within
 
 pub returns-in-Some-fault : goal.returns-in-Some-fault
 returns-in-Some-fault c =
@@ -38,7 +38,7 @@ returns-in-Some-fault c =
     ] in
     let s = situation c.args.lines.now (classes_of c.args.names.now) c.line_fault-fault.result c.match-fault.end c.above_mutators-start.result c.requires.whole c.requires.named c.requires.names
     c.line_fault-fault.ensures end_is c.above_mutators-start.ensures.within c.above_mutators-start.ensures.above c.above_mutators-start.ensures.here in
-    answer_fault c.args.lines.now (classes_of c.args.names.now) c.line_fault-fault.result c.match-fault.end c.above_mutators-start.result s c.in_ok-index.field-0 c.in-Read.scripts c.in-Some-fault.index c.in-Some-fault.which c.in-Read.is c.in_ok-index.ensures.read c.in-Some-fault.is
+    answer_fault c.one_program.ensures c.args.lines.now (classes_of c.args.names.now) c.line_fault-fault.result c.match-fault.end c.above_mutators-start.result s c.in_ok-index.field-0 c.in-Read.scripts c.in-Some-fault.index c.in-Some-fault.which c.in-Read.is c.in_ok-index.ensures.read c.in-Some-fault.is
 
 pub returns-then-is_empty : goal.returns-then-is_empty
 returns-then-is_empty c =
@@ -48,7 +48,7 @@ returns-then-is_empty c =
     ] in
     let s = situation c.args.lines.now (classes_of c.args.names.now) c.line_fault-fault.result c.match-fault.end c.above_mutators-start.result c.requires.whole c.requires.named c.requires.names
     c.line_fault-fault.ensures end_is c.above_mutators-start.ensures.within c.above_mutators-start.ensures.above c.above_mutators-start.ensures.here in
-    let f = fine c.args.lines.now (classes_of c.args.names.now) c.line_fault-fault.result c.match-fault.end c.above_mutators-start.result s c.in_ok-index.field-0 c.in-Read.scripts c.in-Read.is c.in_ok-index.ensures.read c.in_default.is in
+    let f = fine c.one_program.ensures c.args.lines.now (classes_of c.args.names.now) c.line_fault-fault.result c.match-fault.end c.above_mutators-start.result s c.in_ok-index.field-0 c.in-Read.scripts c.in-Read.is c.in_ok-index.ensures.read c.in_default.is in
     answer_none c.args.lines.now (classes_of c.args.names.now) c.match-fault.end c.above_mutators-start.result c.in-Read.scripts f (sym c.as_slice.ensures ∙ no_items c.as_slice.result.now (length c.as_slice.result.now) c.is_empty.result refl c.is_empty.ensures c.if-is_empty.true)
 
 pub config-requires : goal.config-requires
@@ -67,6 +67,6 @@ returns c =
     ] in
     let s = situation c.args.lines.now (classes_of c.args.names.now) c.line_fault-fault.result c.match-fault.end c.above_mutators-start.result c.requires.whole c.requires.named c.requires.names
     c.line_fault-fault.ensures end_is c.above_mutators-start.ensures.within c.above_mutators-start.ensures.above c.above_mutators-start.ensures.here in
-    let f = fine c.args.lines.now (classes_of c.args.names.now) c.line_fault-fault.result c.match-fault.end c.above_mutators-start.result s c.in_ok-index.field-0 c.in-Read.scripts c.in-Read.is c.in_ok-index.ensures.read c.in_default.is in
-    answer_made c.args.lines.now (classes_of c.args.names.now) c.match-fault.end c.above_mutators-start.result c.in-Read.scripts c.config.result c.in_ok-classes.field-0 f c.requires.named c.requires.said c.config.ensures c.in_ok-classes.ensures
+    let f = fine c.one_program.ensures c.args.lines.now (classes_of c.args.names.now) c.line_fault-fault.result c.match-fault.end c.above_mutators-start.result s c.in_ok-index.field-0 c.in-Read.scripts c.in-Read.is c.in_ok-index.ensures.read c.in_default.is in
+    answer_made c.one_program.ensures c.items_unfold.ensures c.args.lines.now (classes_of c.args.names.now) c.match-fault.end c.above_mutators-start.result c.in-Read.scripts c.config.result c.in_ok-classes.field-0 f c.requires.named c.requires.said c.config.ensures c.in_ok-classes.ensures
     (λ e. some_items c.as_slice.result.now (length c.as_slice.result.now) c.is_empty.result refl c.is_empty.ensures c.if-is_empty.false (c.as_slice.ensures ∙ e))

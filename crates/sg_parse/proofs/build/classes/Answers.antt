@@ -1,8 +1,8 @@
 use Rattle.std.proofs.Common.{◌++◌, ◌∷◌, [], map, get_or, sym, ap, ◌∙◌, subst}
 use Rattle.std.proofs.lemmas.List.{append-nil}
-use Rattle.sg_parse.specs.declared.line.Line.TheVariants.{Head}
+use Rattle.sg_text.specs.declared.line.Line.TheVariants.{Head}
 use Rattle.sg_parse.specs.Faults.{class_in}
-use Rattle.sg_parse.specs.Reading.{sentence_of}
+use Rattle.sg_text.specs.Reading.{sentence_of}
 use Rattle.sg_parse.specs.Building.{IsSmall}
 use Rattle.sg_parse.proofs.LineFaults.{read_at}
 use Rattle.sg_parse.proofs.Bodies.{small_at}

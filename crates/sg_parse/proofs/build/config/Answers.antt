@@ -1,6 +1,6 @@
 use Rattle.std.proofs.Common.{map}
-use Rattle.sg_parse.specs.declared.line.Line.TheVariants.{Head}
-use Rattle.sg_parse.specs.Reading.{sentence_of}
+use Rattle.sg_text.specs.declared.line.Line.TheVariants.{Head}
+use Rattle.sg_text.specs.Reading.{sentence_of}
 use Rattle.sg_parse.proofs.LineFaults.{read_at}
 use Rattle.sg_parse.proofs.Bodies.{small_at}
 use Rattle.sg_parse.proofs.BuildLemmas.{config_more}

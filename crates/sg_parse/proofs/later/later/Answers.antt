@@ -1,4 +1,4 @@
-use Rattle.sg_parse.specs.declared.line.Line.TheVariants.{Head}
+use Rattle.sg_text.specs.declared.line.Line.TheVariants.{Head}
 use Rattle.sg_parse.proofs.LaterLemmas.{later_stop, later_more, later_begun, later_end}
 use Rattle.sg_parse.proofs.later.later.Goals as goal
 

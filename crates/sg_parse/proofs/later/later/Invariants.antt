@@ -1,6 +1,6 @@
 use Rattle.std.proofs.Common.{map, take}
 use Rattle.sg_parse.specs.Faults.{IsLater}
-use Rattle.sg_parse.specs.Reading.{sentence_of}
+use Rattle.sg_text.specs.Reading.{sentence_of}
 use Rattle.sg_parse.proofs.Firsts.{HasNoneBelow, Begun}
 use Rattle.sg_parse.proofs.later.later.Given as goal
 

@@ -1,7 +1,7 @@
 use Rattle.std.proofs.Common.{◌<◌, ◌≤◌, length, map, get_or, sym, ◌∙◌, arith}
 use Rattle.std.proofs.lemmas.List.{length-map}
-use Rattle.sg_parse.specs.declared.line.Line.TheVariants.{Head}
-use Rattle.sg_parse.specs.Reading.{sentence_of}
+use Rattle.sg_text.specs.declared.line.Line.TheVariants.{Head}
+use Rattle.sg_text.specs.Reading.{sentence_of}
 use Rattle.sg_parse.proofs.LineFaults.{read_at, one_more, fault_here, few}
 use Rattle.sg_parse.proofs.limits.line_fault.Goals as goal
 

@@ -1,5 +1,5 @@
 use Rattle.std.proofs.Common.{map}
-use Rattle.sg_parse.specs.Reading.{sentence_of}
+use Rattle.sg_text.specs.Reading.{sentence_of}
 use Rattle.sg_parse.proofs.LineFaults.{AreAbove}
 use Rattle.sg_parse.proofs.limits.line_fault.Given as goal
 

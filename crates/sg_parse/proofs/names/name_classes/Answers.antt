@@ -1,4 +1,4 @@
-use Rattle.sg_parse.specs.declared.line.Line.TheVariants.{Head}
+use Rattle.sg_text.specs.declared.line.Line.TheVariants.{Head}
 use Rattle.sg_parse.proofs.Firsts.{name_stop, name_more, name_class, name_end}
 use Rattle.sg_parse.proofs.names.name_classes.Goals as goal
 

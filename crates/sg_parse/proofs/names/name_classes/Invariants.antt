@@ -1,7 +1,7 @@
 use Rattle.std.proofs.Common.{◌≡◌, map, take}
 use Rattle.sg_parse.specs.Faults.{classes_in, IsMisnamed}
 use Rattle.sg_parse.specs.Names.{classes_of}
-use Rattle.sg_parse.specs.Reading.{sentence_of}
+use Rattle.sg_text.specs.Reading.{sentence_of}
 use Rattle.sg_parse.proofs.Firsts.{HasNoneBelow}
 use Rattle.sg_parse.proofs.names.name_classes.Given as goal
 

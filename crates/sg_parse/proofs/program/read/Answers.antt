@@ -1,7 +1,7 @@
 use Rattle.std.proofs.Common.{◌≡◌, ℕ, ◌<◌, List, length, map, slice_get, sym, ap, ◌∙◌, subst}
-use Rattle.sg_parse.specs.declared.line.Line.{Line}
-use Rattle.sg_parse.specs.Words.{lines_of}
-use Rattle.sg_parse.specs.Text.{IsWhole}
+use Rattle.sg_text.specs.declared.line.Line.{Line}
+use Rattle.sg_text.specs.Words.{lines_of}
+use Rattle.sg_grammar.specs.Text.{IsWhole}
 use Rattle.sg_program.specs.declared.program.Program.{Program}
 use Rattle.sg_parse.specs.declared.refusal.Which.{Which}
 use Rattle.sg_parse.specs.declared.names.Names.{Names}
@@ -12,10 +12,10 @@ use Rattle.sg_parse.specs.declared.build.Built.TheVariants.{Program as Made, Ove
 use Rattle.sg_parse.specs.Names.{IsNaming}
 use Rattle.sg_parse.specs.Building.{IsBuilt}
 use Rattle.sg_parse.specs.Faults.{IsMisnamed}
-use Rattle.sg_parse.specs.Reading.{sentence_of, AreRead, IsFirstIn, HasNoneIn}
-use Rattle.sg_parse.specs.Lines.{Sentence}
-use Rattle.sg_parse.proofs.Run.{said_each}
-use Rattle.sg_parse.proofs.Conclusions.{class-fault, limit-fault, no-mutator, later-fault, read-as, known, number-there}
+use Rattle.sg_text.specs.Reading.{sentence_of, AreRead}
+use Rattle.sg_parse.specs.Indices.{IsFirstIn, HasNoneIn}
+use Rattle.sg_text.specs.Lines.{Sentence}
+use Rattle.sg_parse.proofs.Conclusions.{class-fault, limit-fault, no-mutator, later-fault, read-as, known, number-there, said_each}
 use Rattle.sg_parse.proofs.program.read.Goals as goal
 
 -- the numbers and the sentences, as the calls see the lines
@@ -49,7 +49,7 @@ returns-in-Ok-Misnamed-clause-refused c =
 pub build-requires-clause-said : goal.build-requires-clause-said
 build-requires-clause-said c =
     let e = c.as_slice-lines.ensures.value in
-    said_each _ _ (seen (lines_of c.args.bytes.now) _ _ _ e c.requires.read).each
+    said_each (lines_of c.args.bytes.now) _ _ (seen (lines_of c.args.bytes.now) _ _ _ e c.requires.read)
 
 pub number_at-requires-in-Ok-Over : goal.number_at-requires-in-Ok-Over
 number_at-requires-in-Ok-Over c =
@@ -66,7 +66,7 @@ returns-in-Ok-Over-clause-refused c =
 pub returns-in-Ok-NoMutator-clause-refused : goal.returns-in-Ok-NoMutator-clause-refused
 returns-in-Ok-NoMutator-clause-refused c =
     let e = c.as_slice-lines.ensures.value in
-    no-mutator c.args.bytes.now _ _ c.requires.short (seen _ _ _ _ e c.requires.read) (whole-seen _ _ e c.requires.whole) (named _ _ _ c.in-Ok-Classes.field-0-is c.in-Ok-Classes.ensures) c.args.scan.now.count c.requires.count
+    no-mutator c.args.bytes.now _ _ c.requires.short (seen _ _ _ _ e c.requires.read) (whole-seen _ _ e c.requires.whole) (named _ _ _ c.in-Ok-Classes.field-0-is c.in-Ok-Classes.ensures) c.args.text.now.count c.requires.count
     (nobody _ _ c.in-Ok-NoMutator.field-0-is c.in-Ok-NoMutator.ensures).0 (nobody _ _ c.in-Ok-NoMutator.field-0-is c.in-Ok-NoMutator.ensures).1
 
 pub number_at-requires-in-Some : goal.number_at-requires-in-Some
@@ -92,4 +92,4 @@ pub returns-clause-known : goal.returns-clause-known
 returns-clause-known c =
     let e = c.as_slice-lines.ensures.value in
     known c.args.bytes.now _ _ c.requires.short (seen _ _ _ _ e c.requires.read) (whole-seen _ _ e c.requires.whole) (named _ _ _ c.in-Ok-Classes.field-0-is c.in-Ok-Classes.ensures)
-    (made _ _ _ c.in-Ok-Program.field-0-is c.in-Ok-Program.ensures).1 (made _ _ _ c.in-Ok-Program.field-0-is c.in-Ok-Program.ensures).3 c.in-Ok-Program.program (made _ _ _ c.in-Ok-Program.field-0-is c.in-Ok-Program.ensures).0 c.in-None.ensures.none (made _ _ _ c.in-Ok-Program.field-0-is c.in-Ok-Program.ensures).2
+    (made _ _ _ c.in-Ok-Program.field-0-is c.in-Ok-Program.ensures).1 (made _ _ _ c.in-Ok-Program.field-0-is c.in-Ok-Program.ensures).3 c.in-Ok-Program.program (made _ _ _ c.in-Ok-Program.field-0-is c.in-Ok-Program.ensures).0 c.in-None.ensures.none c.items_unfold.ensures (made _ _ _ c.in-Ok-Program.field-0-is c.in-Ok-Program.ensures).2

@@ -4,9 +4,9 @@ use Rattle.sg_program.specs.declared.program.Item.{out-Item, Repeat as repeat_it
 use Rattle.sg_program.specs.declared.program.Item.TheOpen.{Repeat}
 use Rattle.sg_program.specs.declared.program.Item.TheViews.{the_lemmas}
 use Rattle.sg_parse.specs.declared.scripts.Body.{Body}
-use Rattle.sg_parse.specs.declared.line.Line.TheVariants.{Head}
+use Rattle.sg_text.specs.declared.line.Line.TheVariants.{Head}
 use Rattle.sg_parse.specs.Names.{classes_of}
-use Rattle.sg_parse.specs.Reading.{sentence_of}
+use Rattle.sg_text.specs.Reading.{sentence_of}
 use Rattle.sg_parse.specs.Building.{IsStatement}
 use Rattle.sg_parse.proofs.LineFaults.{read_at}
 use Rattle.sg_parse.proofs.Bodies.{IsInBody, body_end, body_more, body_none, body_over, repeat_none, repeat_empty, repeat_more, repeat_large, other_line, inner_body, inner_within, some_items, no_items}

@@ -1,6 +1,6 @@
 use Rattle.std.proofs.Common.{◌≡◌, length, map, ◌-◌, ◌≤◌}
 use Rattle.sg_parse.specs.Names.{classes_of}
-use Rattle.sg_parse.specs.Reading.{sentence_of}
+use Rattle.sg_text.specs.Reading.{sentence_of}
 use Rattle.sg_parse.specs.Building.{total_of, finals_of}
 use Rattle.sg_parse.proofs.ScriptLemmas.{IsInScripts}
 use Rattle.sg_parse.proofs.scripts.read_scripts.Given as goal

@@ -1,5 +1,5 @@
 use Rattle.std.proofs.Common.{ap, sym, ◌∙◌}
-use Rattle.sg_parse.specs.Reading.{sentence_of}
+use Rattle.sg_text.specs.Reading.{sentence_of}
 use Rattle.sg_parse.proofs.Naming.{twice, make_wrong, make_right, make_unknown}
 use Rattle.sg_parse.proofs.names.Names.misnames.Goals as goal
 

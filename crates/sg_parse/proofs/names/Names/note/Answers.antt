@@ -1,5 +1,5 @@
 use Rattle.std.proofs.Common.{ap}
-use Rattle.sg_parse.specs.Reading.{sentence_of}
+use Rattle.sg_text.specs.Reading.{sentence_of}
 use Rattle.sg_parse.proofs.Naming.{not_named}
 use Rattle.sg_parse.proofs.names.Names.note.Goals as goal
 

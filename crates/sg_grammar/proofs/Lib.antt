@@ -1,0 +1,4 @@
+pub mod Uniqueness
+pub mod Runs
+pub mod Stands
+pub mod Ordered

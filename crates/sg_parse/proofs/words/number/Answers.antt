@@ -1,5 +1,0 @@
-use Rattle.sg_parse.proofs.SentenceLemmas.{number_is}
-use Rattle.sg_parse.proofs.words.number.Goals as goal
-
-pub returns : goal.returns
-returns c = number_is c.args.word.now c.spelled.result c.spelled.ensures.found c.spelled.ensures.only

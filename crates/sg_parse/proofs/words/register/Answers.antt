@@ -1,5 +1,0 @@
-use Rattle.sg_parse.proofs.SentenceLemmas.{register_is}
-use Rattle.sg_parse.proofs.words.register.Goals as goal
-
-pub returns : goal.returns
-returns c = register_is c.args.word.now c.named.result c.named.ensures.found c.named.ensures.only

@@ -1,0 +1,7 @@
+pub mod Words
+pub mod Lines
+pub mod Numbered
+pub mod Reading
+pub mod Steps
+pub mod Sentences
+pub mod Laws

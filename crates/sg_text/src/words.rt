@@ -1,0 +1,104 @@
+//! What single words mean.
+ghost use Rattle.std.specs.Prelude.{◌≡◌, ◌<◌, ◌^◌, ℕ, length, IfSome, Some};
+ghost use Rattle.std.specs.List.{list_all};
+ghost use Rattle.sg_text.specs.Words.{IsNumber, IsRegister, is_letter, is_name_byte, is_name, is_mask_byte, mask_bits};
+ghost use Rattle.sg_text.specs.Steps.{Only};
+ghost use Rattle.sg_text.specs.Sentences.{number_in, register_in};
+
+/// The number that the word spells.
+fn spelled(word: &[u8]) -> Option<u64>
+    ensures found { IfSome result (IsNumber word.now) }
+    ensures only { Only (IsNumber word.now) result }
+{
+    if word.is_empty() {
+        return None;
+    }
+    if word[0] == b'+' {
+        return None;
+    }
+    if word[0] == b'0' {
+        return if word.len() == 1 { Some(0) } else { None };
+    }
+    match str::from_utf8(word) {
+        Ok(text) => text.parse().ok(),
+        Err(_) => None,
+    }
+}
+
+/// The register that the word names.
+fn named(word: &[u8]) -> Option<u8>
+    ensures found { IfSome result (IsRegister word.now) }
+    ensures only { Only (IsRegister word.now) result }
+{
+    match word {
+        [b'r', digits @ ..] => match spelled(digits) {
+            Some(found) if found <= 15 => Some(found as u8),
+            _ => None,
+        },
+        _ => None,
+    }
+}
+
+/// The number that the word spells.
+pub(crate) fn number(word: &[u8]) -> Option<u64>
+    ensures { result ≡ number_in word.now }
+{
+    spelled(word)
+}
+
+/// The register that the word names.
+pub(crate) fn register(word: &[u8]) -> Option<u8>
+    ensures { result ≡ register_in word.now }
+{
+    named(word)
+}
+
+fn is_letter(byte: u8) -> bool
+    ensures { result ≡ is_letter byte }
+{
+    byte.is_ascii_alphabetic()
+}
+
+fn is_name_byte(byte: u8) -> bool
+    ensures { result ≡ is_name_byte byte }
+{
+    is_letter(byte) || byte.is_ascii_digit() || byte == b'_'
+}
+
+fn are_name_bytes(text: &[u8]) -> bool
+    ensures { result ≡ list_all is_name_byte text.now }
+{
+    text.iter().all(|byte| is_name_byte(*byte))
+}
+
+/// Whether a class may have this name.
+pub(crate) fn is_name(word: &[u8]) -> bool
+    ensures { result ≡ is_name word.now }
+{
+    match word {
+        [] => false,
+        [first, rest @ ..] => is_letter(*first) && are_name_bytes(rest) && rest.len() <= 31,
+    }
+}
+
+/// Whether the word has the bytes of a mask alone.
+pub(crate) fn is_mask(word: &[u8]) -> bool
+    ensures { result ≡ list_all is_mask_byte word.now }
+{
+    word.iter().all(|byte| *byte == b'r' || *byte == b'.')
+}
+
+/// The bits of a mask that is short enough for them.
+pub(crate) fn mask_bits(mask: &[u8]) -> u64
+    requires { length mask.now < 61 }
+    ensures value { result ≡ mask_bits mask.now }
+    ensures small { result < 2 ^ 60 }
+{
+    let mut bits = 0;
+    let mut at = mask.len();
+    while at > 0 {
+        at -= 1;
+        bits = 2 * bits + u64::from(mask[at] == b'r');
+    }
+    bits
+}
