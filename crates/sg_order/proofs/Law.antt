@@ -1,30 +1,28 @@
 -- From the atomic steps of the mutators to one order of whole statements, from an epoch's opening on.
 use Rattle.std.proofs.Common.{false, ◌≡◌, ℕ, ◌+◌, ◌<◌, ◌≤◌, ◌==◌, true, List, [], ◌∷◌, map, inl, inr, sym, refl, ap, ◌∙◌, subst, le_refl, zero-le, arith}
-use Rattle.std.proofs.Math.Path.{fun_ext}
 use Rattle.std.proofs.lemmas.Bool.{cases_eq, eqb-true}
 use Rattle.std.specs.List.{AllByRecursion}
-use Rattle.sg_words.specs.Words.{put, Words, after}
-use Rattle.sg_words.specs.Events.{ticks, by_one}
+use Rattle.sg_words.specs.Words.{Words, after}
+use Rattle.sg_words.specs.Events.{ticks}
 use Rattle.sg_program.specs.declared.program.Statement.{Statement}
 use Rattle.sg_program.specs.declared.program.Program.{Program}
 use Rattle.sg_program.specs.declared.answers.Answer.{Answer}
 use Rattle.sg_program.specs.Scripts.{script_of, IsMaking, made_words}
-use Rattle.sg_program.specs.Kinds.{first_kinds}
 use Rattle.sg_program.specs.Invariants.{FindKinds}
 use Rattle.sg_graph.specs.Graph.{Entry, Graph, Ref, Int, Inner, no_objects}
 use Rattle.sg_graph.specs.Book.{Book, empty_book, word_of, Young, Old, nursery_end, HasNoPlace, IsApart}
 use Rattle.sg_words.specs.Sections.{nursery_base}
-use Rattle.sg_graph.specs.Epoch.{Said, Explains, answers_of, by_address}
+use Rattle.sg_graph.specs.Epoch.{by_address}
 use Rattle.sg_words.specs.Lists.{Pairwise}
 use Rattle.sg_graph.specs.Heap.{Owner, Of, Frag, Nobody, IsKnownEntry, IsHeap}
-use Rattle.sg_rules.specs.Rules.{Constants, StackWord, Mid, Left, Actor, fresh, Went}
+use Rattle.sg_rules.specs.Rules.{Constants, StackWord, Mid, Left, Actor, fresh}
 use Rattle.sg_order.specs.Rest.{Holds, IsReady, IsHeld, IsEpochOpening, before_it, IsOver, kinds_in}
 use Rattle.sg_rules.specs.Resting.{IsRunnable}
 use Rattle.sg_order.specs.Rest.{StandsAt}
 use Rattle.sg_order.specs.Opening.{AreFirstConstants, AreFirstWords, AreFirstScripts, FirstOpening}
 use Rattle.sg_order.specs.OneOrder.{OneOrder}
-use Rattle.sg_words.proofs.Puts.{put-same, within_range, range-in, range-below}
-use Rattle.sg_order.proofs.Events.{range-was, ticks-own}
+use Rattle.sg_words.proofs.Puts.{within_range, range-in, range-below}
+use Rattle.sg_order.proofs.Events.{range-was}
 use Rattle.sg_order.proofs.Cases.{by_making}
 use Rattle.sg_order.proofs.Relation.{Ground, IsMutator, Tight, AsksForRoom, AtMid, Stacked, Stands, IsHeading, World}
 use Rattle.sg_order.proofs.Loads.{same_object}

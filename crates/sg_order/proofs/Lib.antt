@@ -13,4 +13,5 @@ pub mod Whole
 pub mod MayDo
 pub mod Law
 pub mod SoFar
-pub mod Small
+pub mod Serving
+pub mod Held

@@ -1,8 +1,7 @@
 -- What the next statement of a mutator rests on follows from how the words stand to the graph and the book.
-use Rattle.std.proofs.Common.{◌≡◌, ◌≢◌, ℕ, suc, ◌+◌, ◌-◌, ◌<◌, ◌≤◌, true, List, [], ◌∷◌, length, map, ap, sym, ◌∙◌, subst, inl, inr, refl, arith}
+use Rattle.std.proofs.Common.{◌≡◌, ◌≢◌, ℕ, suc, ◌-◌, ◌<◌, ◌≤◌, true, List, [], ◌∷◌, length, map, ap, sym, ◌∙◌, subst, inl, inr, refl, arith}
 use Rattle.std.proofs.lemmas.Bool.{cases_eq}
 use Rattle.std.proofs.lemmas.List.{length-map}
-use Rattle.std.specs.List.{AllByRecursion}
 use Rattle.sg_words.specs.Address.{byte_at, word_at}
 use Rattle.sg_words.specs.Words.{Words}
 use Rattle.sg_words.specs.Lists.{Pairwise}
@@ -13,12 +12,11 @@ use Rattle.sg_program.specs.declared.program.Program.{Program}
 use Rattle.sg_program.specs.declared.answers.Answer.{Answer}
 use Rattle.sg_program.specs.Scripts.{kind_of}
 use Rattle.sg_program.specs.Kinds.{IsRef, IsInner, Needs}
-use Rattle.sg_program.specs.Invariants.{FindKinds}
 use Rattle.sg_graph.specs.Graph.{Entry, Ref, Int, Inner, Graph}
 use Rattle.sg_graph.specs.Book.{Book, word_of}
 use Rattle.sg_graph.specs.Heap.{Owner, IsHeaded, IsKnownEntry, IsOfSort}
 use Rattle.sg_rules.specs.Rules.{Constants, StackWord, Mid, Idle, Actor}
-use Rattle.sg_rules.specs.Resting.{IsRunnable, IsInHeap, IsReference, IsProgramObject, HoldsObject, HoldsInner, HasPlaces, RestsOn, MayDo}
+use Rattle.sg_rules.specs.Resting.{IsInHeap, IsReference, IsProgramObject, HoldsObject, HoldsInner, HasPlaces, RestsOn, MayDo}
 use Rattle.sg_order.specs.Rest.{kind_of_entry, StandsAt}
 use Rattle.sg_order.proofs.Accesses.{reference_field}
 use Rattle.sg_order.proofs.Relation.{Ground, IsMutator, AtMid, Keeps, Stands}

@@ -1,15 +1,15 @@
 -- An epoch in its midst: lists of steps, one behind another.
-use Rattle.std.proofs.Common.{◌≡◌, ◌≢◌, ℕ, ◌==◌, eqb, List, [], ◌∷◌, ◌++◌, inl, inr, refl, ap, sym, ◌∙◌, subst}
+use Rattle.std.proofs.Common.{◌≡◌, ℕ, eqb, List, [], ◌∷◌, ◌++◌, inl, inr, refl, ap, sym, ◌∙◌, subst}
 use Rattle.std.proofs.lemmas.Bool.{cases_eq, cond-true, cond-false, eq-eqb, ne_eqb}
 use Rattle.std.proofs.lemmas.List.{append-nil}
 use Rattle.sg_words.specs.declared.steps.Tick.{Tick}
-use Rattle.sg_words.specs.Words.{put, Words, after_step, after, Legal}
+use Rattle.sg_words.specs.Words.{Words, after_step, after, Legal}
 use Rattle.sg_words.specs.Events.{Event, ticks, part, by_one}
 use Rattle.sg_program.specs.declared.program.Program.{Program}
 use Rattle.sg_rules.specs.Rules.{Constants, Actor, Follows}
 use Rattle.sg_order.specs.OneOrder.{IsOneOrder, OpensSoFar, GoesSoFar, OrdersSoFar}
 use Rattle.sg_words.proofs.Puts.{put-all}
-use Rattle.sg_order.proofs.Events.{part-own, part-none, ticks-own, part-same, part-other}
+use Rattle.sg_order.proofs.Events.{part-own, part-none, ticks-own}
 use Rattle.sg_order.proofs.Law.{is_one_order}
 
 after_more : (w : Words) (ss ts : List Tick) → after w (ss ++ ts) ≡ after (after w ss) ts

@@ -4,7 +4,7 @@ use Rattle.std.proofs.lemmas.Bool.{cases_eq, eq-eqb, ne_eqb, cond-true, cond-fal
 use Rattle.sg_words.specs.declared.steps.Step.{Step}
 use Rattle.sg_words.specs.declared.steps.Tick.{Tick}
 use Rattle.sg_words.specs.Words.{put, Words, Saw, after_step, after, Legal}
-use Rattle.sg_words.specs.Events.{Event, ticks, part, order_of, by_one}
+use Rattle.sg_words.specs.Events.{Event, ticks, part, order_of}
 use Rattle.sg_program.specs.declared.program.Program.{Program}
 use Rattle.sg_program.specs.declared.answers.Answer.{Answer}
 use Rattle.sg_graph.specs.Graph.{Graph}
@@ -14,7 +14,7 @@ use Rattle.sg_graph.specs.Heap.{Owner, IsHeaded}
 use Rattle.sg_rules.specs.Rules.{Constants, Actor, Comes, Follows}
 use Rattle.sg_rules.specs.Rules.Comes.{test_null, test_begins, loads_tag, loads_length, test_fails, put_stores, putd_stores, get_loads, getd_loads, num_sets, drop_clears, move_sets, push_sets, pop_sets, hide_null, hide_begins, hide_fits, hide_misses, unhide_sets, same_tells, new_bumps, new_looks, look_finds, look_goes_on, minor_asks, asks, claim_wins, stores_length, stores_tag}
 use Rattle.sg_words.proofs.Puts.{put-at, put-same, put-other, put-all}
-use Rattle.sg_order.proofs.Events.{part-same, part-other, part-own, part-none, ticks-own}
+use Rattle.sg_order.proofs.Events.{part-same, part-other}
 use Rattle.sg_order.proofs.Relation.{Ground, Stands, Moves, IsHeading, Kept, World}
 use Rattle.sg_order.proofs.Frame.{stands_later}
 use Rattle.sg_order.proofs.Loads.{nulls, begins, fails, sees_tag, sees_length, sets_number, clears, searches, finds_room, finds_small, wants, leaves}

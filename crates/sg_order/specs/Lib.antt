@@ -1,3 +1,5 @@
 pub mod Opening
 pub mod Rest
 pub mod OneOrder
+pub mod Serving
+pub mod Held

@@ -1,5 +1,7 @@
 ghost use Rattle.sg_order.specs.OneOrder.{OneOrder, OpensSoFar, GoesSoFar, OrdersSoFar};
 ghost use Rattle.sg_order.specs.Opening.{FirstOpening};
+ghost use Rattle.sg_order.specs.Held.{HeldIsSound, HeldWhoever, RunnableMakes};
+ghost use Rattle.sg_order.specs.Serving.{StaysReady, ServesReady};
 
 /// The law of one order: every legal list of atomic steps of mutators that follow their programs is explained by one
 /// order of whole statements, that of the deciding steps.
@@ -25,4 +27,29 @@ pub fn orders_so_far()
 /// The first epoch of a program opens from words that are all zero, with no object.
 pub fn first_opening()
     ensures { FirstOpening }
+{}
+
+/// A mutator stays ready where what it holds stands on where it stood: as an epoch ends, in a pause, and as others are answered.
+pub fn stays_ready()
+    ensures { StaysReady }
+{}
+
+/// A stop's answer is a turn: it leaves the mutator that asked ready behind its statement, and every other one as it was.
+pub fn serves_ready()
+    ensures { ServesReady }
+{}
+
+/// The book of a graph that words hold is sound.
+pub fn held_is_sound()
+    ensures { HeldIsSound }
+{}
+
+/// Words hold a graph whoever its mutators are.
+pub fn held_whoever()
+    ensures { HeldWhoever }
+{}
+
+/// A statement that is run now and makes an object makes a small one, of a class of the program.
+pub fn runnable_makes()
+    ensures { RunnableMakes }
 {}
