@@ -1,11 +1,9 @@
 -- What the code does with one slot is one of the ways to handle it.
-use Rattle.std.proofs.Common.{◌≡◌, ℕ, suc, ◌+◌, ◌-◌, ◌*◌, ◌≤◌, ◌<◌, cond, Bool, true, false, List, [], ◌∷◌, ◌++◌, map, length, Some, slice_get, slice_index, slice_set, sym, refl, ap, ◌∙◌, subst, arith, get_or-set_same, get_or-set_other, length-set}
+use Rattle.std.proofs.Common.{◌≡◌, ℕ, suc, ◌+◌, ◌-◌, ◌*◌, ◌≤◌, ◌<◌, cond, Bool, true, false, List, [], ◌∷◌, ◌++◌, map, length, Some, slice_get, slice_index, slice_set, sym, refl, ap, ◌∙◌, subst, arith, zero-le, get_or-set_same, get_or-set_other, length-set}
 use Rattle.std.proofs.lemmas.Bool.{cond-true, cond-false}
 use Rattle.std.proofs.lemmas.List.{append_assoc, map-append}
-use Rattle.sg_words.specs.Address.{byte_at, word_at}
-use Rattle.sg_words.specs.Tags.{plain_word, IsTag, tag_word}
-use Rattle.sg_words.specs.declared.tags.Tag.{Tag}
-use Rattle.sg_words.specs.declared.tags.Tag.TheVariants.{Plain, Forwarded, Pinned}
+use Rattle.sg_words.specs.Address.{IsAddress, byte_at, word_at}
+use Rattle.sg_words.specs.Tags.{plain_word, forward_word}
 use Rattle.sg_desc.specs.declared.shapes.Shape.{Shape}
 use Rattle.sg_desc.specs.Shapes.{is_strong}
 use Rattle.sg_words.specs.Sections.{old_base}
@@ -14,7 +12,9 @@ use Rattle.sg_space.specs.Standing.{word}
 use Rattle.sg_copy.specs.Area.{Area, IsYoung}
 use Rattle.sg_words.specs.Objects.{size_of}
 use Rattle.sg_copy.specs.Round.{slots_by, Handles, Copies, Fails}
-use Rattle.sg_copy.specs.Copying.{is_strong_in, area_of, IsStill, Stores, HasCopied, IsTarget, Went, Stays, IsPlain}
+use Rattle.sg_words.specs.Objects.{strong_slots}
+use Rattle.sg_words.proofs.Objects.{slots-skip, slots-take}
+use Rattle.sg_copy.specs.Copying.{strong_of_shape, area_of, IsStill, Stores, HasCopied, IsTarget, Went, Stays, IsPlain}
 
 -- a write changes one word
 pub stores : (s t : Contents) (a v : ℕ) → a < length s.words → t ≡ record s { words = slice_set s.words a v } → Stores (word s) a v (word t)
@@ -35,34 +35,23 @@ still_same s = (refl, refl)
 pub length_still : (s t : Contents) → IsStill s t → length t.words ≡ length s.words
 length_still s t h = h.1
 
--- the slots of an object, one by one
-slots_step : (area : Area) (c at i n : ℕ) → i < n → slots_by area c at i (n - i) ≡ cond (area.strong c i) ((at + 2 + i) ∷ slots_by area c at (i + 1) (n - (i + 1))) (slots_by area c at (i + 1) (n - (i + 1)))
-slots_step area c at i n l =
-    let e : n - i ≡ suc (n - (i + 1)) = omega arith in
-    let k : suc i ≡ i + 1 = omega arith in
-    ap (λ (z : ℕ). slots_by area c at i z) e ∙ ap (λ (z : ℕ). cond (area.strong c i) ((at + 2 + i) ∷ slots_by area c at z (n - (i + 1))) (slots_by area c at z (n - (i + 1)))) k
+-- the slots of an object: from one strong field to the next
+module _ (s : Contents) (c at n : ℕ) (shape : Shape) (known : slice_get s.shapes c ≡ Some shape) where
+  passed : (i j : ℕ) → ((k : ℕ) → i ≤ k → k < j → is_strong shape.kind k n ≡ false) → (k : ℕ) → i ≤ k → k < j → (area_of s).strong c k ≡ false
+  passed i j none k l u = strong_of_shape s c k n shape known ∙ none k l u
 
-strong_is : (s : Contents) (c i : ℕ) (shape : Shape) (b : Bool) → slice_get s.shapes c ≡ Some shape → b ≡ is_strong shape.kind i shape.fields → (area_of s).strong c i ≡ b
-strong_is s c i shape b e h = ap (λ o. is_strong_in o i) e ∙ sym h
+  pub opens : (j : ℕ) (todo : List ℕ) → j ≤ n → ((k : ℕ) → 0 ≤ k → k < j → is_strong shape.kind k n ≡ false) →
+      todo ++ slots_by (area_of s) c at j (n - j) ≡ todo ++ slots_by (area_of s) c at 0 n
+  opens j todo u none = ap (λ (z : List ℕ). todo ++ z) (sym (slots-skip ((area_of s).strong c) at 0 j n zero-le u (passed 0 j none)) ∙ ap (λ (z : ℕ). slots_by (area_of s) c at 0 z) (let e : n - 0 ≡ n = omega arith in e))
 
-pub pushes : (s : Contents) (c at i n a : ℕ) (shape : Shape) (todo new rest : List ℕ) → i < n → slice_get s.shapes c ≡ Some shape → true ≡ is_strong shape.kind i shape.fields → a ≡ at + 8 * (2 + i) → new ≡ todo ++ a ∷ [] →
-    map word_at todo ++ slots_by (area_of s) c (word_at at) i (n - i) ≡ rest → map word_at new ++ slots_by (area_of s) c (word_at at) (i + 1) (n - (i + 1)) ≡ rest
-pushes s c at i n a shape todo new rest l e b ea en h =
-    let more = slots_by (area_of s) c (word_at at) (i + 1) (n - (i + 1)) in
-    let w : word_at a ≡ word_at at + 2 + i = ap word_at ea ∙ place at i in
-    ap (λ (z : List ℕ). map word_at z ++ more) en ∙ ap (λ (z : List ℕ). z ++ more) (map-append word_at todo (a ∷ []))
-    ∙ append_assoc (map word_at todo) (word_at a ∷ []) more
-    ∙ ap (λ (z : ℕ). map word_at todo ++ z ∷ more) w
-    ∙ ap (λ (z : List ℕ). map word_at todo ++ z) (sym (slots_step (area_of s) c (word_at at) i n l ∙ cond-true _ _ _ (strong_is s c i shape true e b)))
-    ∙ h
-  where
-    place : (at i : ℕ) → word_at (at + 8 * (2 + i)) ≡ word_at at + 2 + i
-    place at i = omega arith
-
-pub passes : (s : Contents) (c at i n : ℕ) (shape : Shape) (b : Bool) (todo rest : List ℕ) → i < n → slice_get s.shapes c ≡ Some shape → b ≡ is_strong shape.kind i shape.fields → b ≡ false →
-    todo ++ slots_by (area_of s) c at i (n - i) ≡ rest → todo ++ slots_by (area_of s) c at (i + 1) (n - (i + 1)) ≡ rest
-passes s c at i n shape b todo rest l e h not_so inv =
-    ap (λ (z : List ℕ). todo ++ z) (sym (slots_step (area_of s) c at i n l ∙ cond-false _ _ _ (strong_is s c i shape b e h ∙ not_so))) ∙ inv
+  pub pushes : (i j x : ℕ) (todo new rest : List ℕ) → i < n → (area_of s).strong c i ≡ true → i + 1 ≤ j → j ≤ n → ((k : ℕ) → i + 1 ≤ k → k < j → is_strong shape.kind k n ≡ false) →
+      x ≡ at + 2 + i → new ≡ todo ++ x ∷ [] → todo ++ slots_by (area_of s) c at i (n - i) ≡ rest → new ++ slots_by (area_of s) c at j (n - j) ≡ rest
+  pushes i j x todo new rest l is from to none ex en h =
+      let strong = (area_of s).strong c in
+      let more = strong_slots strong at j (n - j) in
+      ap (λ (z : List ℕ). z ++ more) en ∙ append_assoc todo (x ∷ []) more ∙ ap (λ (z : ℕ). todo ++ z ∷ more) ex
+      ∙ ap (λ (z : List ℕ). todo ++ (at + 2 + i) ∷ z) (sym (slots-skip strong at (i + 1) j n from to (passed (i + 1) j none)))
+      ∙ ap (λ (z : List ℕ). todo ++ z) (sym (slots-take strong at i n l is)) ∙ h
 
 module _ (area : Area) (old word : ℕ → ℕ) (fill slot : ℕ) where
   pub fails_at : (x c n : ℕ) → old slot ≡ byte_at x → IsYoung area x → old x ≡ plain_word c → old (x + 1) ≡ n → area.limit < fill + (n + 2) → Stores old x (plain_word c + 2) word →
@@ -86,12 +75,9 @@ plain_target s x c (Went t a e) p = absurd (omega arith)
 plain_target s x c (Stays d l e) p = absurd (omega arith)
 plain_target s x c (IsPlain d l e i) p = (subst (λ (z : ℕ). z < length s.shapes) (tag_clash d c (sym e ∙ p)) l, i)
 
-pub cemented_target : (s : Contents) (x c : ℕ) → IsTarget s x → word s x ≡ plain_word c + 4 → ⊥
-cemented_target s x c (Went t a e) p = omega arith
-cemented_target s x c (Stays d l e) p = omega arith
-cemented_target s x c (IsPlain d l e i) p = omega arith
-
-pub no_target : (s : Contents) (x : ℕ) → IsTarget s x → length s.shapes ≤ 256 → ((tag : Tag) → IsTag tag → tag_word tag ≡ word s x → ⊥) → ⊥
-no_target s x (Went t a e) few none = none (Forwarded (byte_at t)) a (sym e)
-no_target s x (Stays d l e) few none = none (Pinned d) l (sym e)
-no_target s x (IsPlain d l e i) few none = none (Plain d) (let a = l in let b = few in omega arith) (sym e)
+-- a target that is neither plain nor forwarded is pinned
+pub pinned_target : (s : Contents) (x : ℕ) → IsTarget s x → length s.shapes ≤ 256 → ((c : ℕ) → c < 256 → plain_word c ≡ word s x → ⊥) → ((to : ℕ) → IsAddress to → forward_word to ≡ word s x → ⊥) →
+    (c : ℕ) × (word s x ≡ plain_word c + 2)
+pinned_target s x (Went t a e) few none nowhere = absurd (nowhere (byte_at t) a (sym e))
+pinned_target s x (Stays d l e) few none nowhere = (d, e)
+pinned_target s x (IsPlain d l e i) few none nowhere = absurd (none d (let a = l in let b = few in omega arith) (sym e))

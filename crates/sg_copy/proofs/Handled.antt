@@ -125,17 +125,5 @@ has_room limit front words base got eb eg whole below least = omega arith
 pub one_up : (a : ℕ) → word_at (a + 8 * 1) ≡ word_at a + 1
 one_up a = omega arith
 
-pub as_forwarded : (t : Tag) (to v : ℕ) → t ≡ Forwarded to → IsTag t → tag_word t ≡ v → IsAddress to × (to + 1 ≡ v)
-as_forwarded t to v e i w = (subst IsTag e i, ap tag_word (sym e) ∙ w)
-
-pub as_pinned : (t : Tag) (c v : ℕ) → t ≡ Pinned c → tag_word t ≡ v → plain_word c + 2 ≡ v
-as_pinned t c v e w = ap tag_word (sym e) ∙ w
-
-pub as_plain : (t : Tag) (c v : ℕ) → t ≡ Plain c → tag_word t ≡ v → plain_word c ≡ v
-as_plain t c v e w = ap tag_word (sym e) ∙ w
-
-pub as_cemented : (t : Tag) (c v : ℕ) → t ≡ Cemented c → tag_word t ≡ v → plain_word c + 4 ≡ v
-as_cemented t c v e w = ap tag_word (sym e) ∙ w
-
 pub whole_of : (a : ℕ) → IsAddress a → byte_at (word_at a) ≡ a
 whole_of a i = let z = i.2 in omega arith

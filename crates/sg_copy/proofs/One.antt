@@ -58,18 +58,20 @@ module _ (s : Contents) (contents : IsContents s) (shape : Shape) (first : slice
       record {
         front = old_base s.layout;
         filled = Ends (old_base s.layout) refl (omega arith) (λ _. clear);
-        pinned = λ h i. absurd (let z = i in cc);
-        can = record {
-          contents = contents;
-          is_front = record {
-            whole = ap byte_at (word_at-byte_at (old_base s.layout));
-            above = (let e = word_at-byte_at (old_base s.layout) in omega arith);
-            below = (let e = word_at-byte_at (old_base s.layout) in omega arith);
+        from = record {
+          pinned = λ h i. absurd (let z = i in cc);
+          can = record {
+            contents = contents;
+            is_front = record {
+              whole = ap byte_at (word_at-byte_at (old_base s.layout));
+              above = (let e = word_at-byte_at (old_base s.layout) in omega arith);
+              below = (let e = word_at-byte_at (old_base s.layout) in omega arith);
+            };
+            opening = subst (λ (z : ℕ). IsOpening (area_of s) (word s) (globals_base s.layout ∷ []) z) (sym (word_at-byte_at (old_base s.layout))) opening;
+            words = λ x i. (let p = in-one x (globals_base s.layout) i in (omega arith, omega arith));
+            classes = λ x c t e. (let q = tag_of x t in omega arith);
+            stays = λ x c t e. (let q = tag_of x t in absurd (omega arith));
           };
-          opening = subst (λ (z : ℕ). IsOpening (area_of s) (word s) (globals_base s.layout ∷ []) z) (sym (word_at-byte_at (old_base s.layout))) opening;
-          words = λ x i. (let p = in-one x (globals_base s.layout) i in (omega arith, omega arith));
-          classes = λ x c t e. (let q = tag_of x t in omega arith);
-          stays = λ x c t e. (let q = tag_of x t in absurd (omega arith));
         };
       }
 

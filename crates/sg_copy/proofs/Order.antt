@@ -1,5 +1,5 @@
 -- A round finds the objects in the order in which its slots, and those of the objects found, refer to them.
-use Rattle.std.proofs.Common.{◌≡◌, ℕ, zero, suc, ◌+◌, ◌≤◌, ◌<◌, ◌⊎◌, leb, ltb, eqb, cond, true, false, List, [], ◌∷◌, ◌++◌, map, sym, refl, ap, ◌∙◌, subst, inl, inr, arith}
+use Rattle.std.proofs.Common.{◌≡◌, ℕ, zero, suc, ◌+◌, ◌≤◌, ◌<◌, ◌⊎◌, leb, ltb, eqb, cond, if◌then◌else◌, true, false, List, [], ◌∷◌, ◌++◌, map, sym, refl, ap, ◌∙◌, subst, inl, inr, arith}
 use Rattle.std.proofs.lemmas.Bool.{cond-true, cond-false, cases_Bool, eq-eqb, eqb-true, leb-true, ltb-true, le-leb, lt-ltb}
 use Rattle.std.proofs.lemmas.List.{append-nil, append_assoc, map-append}
 use Rattle.sg_words.specs.Address.{byte_at, word_at}
@@ -9,17 +9,51 @@ use Rattle.sg_copy.specs.Area.{Area, IsYoung, class_of, is_strong}
 use Rattle.sg_words.specs.Lists.{has, In}
 use Rattle.sg_words.specs.Objects.{size_of}
 use Rattle.sg_copy.specs.Round.{Round, slots, slots_by, IsOpening, Slot, Item, Copied, Failed, IsSettled, IsGoing, started, Handles, HoldsNone, FindsPinned, FindsForwarded, Copies, Fails, IsAfter}
-use Rattle.sg_copy.specs.Order.{is_plain, target, targets, slots_of, firsts, Fits, IsInOrder}
+use Rattle.sg_copy.specs.Order.{is_plain, target, targets, slots_of, leads, Fits, IsInOrder}
+use Rattle.sg_words.specs.Found.{IsFirstNew, IsFoundBy, IsSearched}
+use Rattle.sg_words.specs.Found.IsFoundBy.{Begins, Finds}
 use Rattle.sg_copy.proofs.Members.{slots-same}
 use Rattle.sg_words.proofs.Members.{in-here, in-there, in-left, in-right, has-cases, out}
 use Rattle.sg_words.proofs.Numbers.{word_at-byte_at}
 use Rattle.sg_copy.proofs.Going.{slot-word, plain-words}
 use Rattle.sg_copy.proofs.Steps.{tag-moves, tag-plain, tag-pinned, young-slot, one}
 
+-- each number of a list where it comes first, but for those that came before
+abbrev pub firsts : List ℕ → List ℕ → List ℕ
+firsts before [] = []
+firsts before (x ∷ xs) = if has x before then firsts before xs else x ∷ firsts (x ∷ before) xs
+
 -- the lists one longer
 targets-last : (area : Area) (w : ℕ → ℕ) (items : List ℕ) (s : ℕ) → targets area w (items ++ s ∷ []) ≡ targets area w items ++ target area w (w s)
 targets-last area w [] s = append-nil (target area w (w s))
 targets-last area w (x ∷ items) s = ap (λ (l : List ℕ). target area w (w x) ++ l) (targets-last area w items s) ∙ sym (append_assoc (target area w (w x)) (targets area w items) (target area w (w s)))
+
+targets-append : (area : Area) (w : ℕ → ℕ) (items more : List ℕ) → targets area w (items ++ more) ≡ targets area w items ++ targets area w more
+targets-append area w [] more = refl
+targets-append area w (x ∷ items) more = ap (λ (l : List ℕ). target area w (w x) ++ l) (targets-append area w items more) ∙ sym (append_assoc (target area w (w x)) (targets area w items) (targets area w more))
+
+-- each number of a list is one of its first ones, or came before
+in-firsts : (before xs : List ℕ) (y : ℕ) → In y xs → In y before ⊎ In y (firsts before xs)
+in-firsts before [] y h = absurd (let z = h in cc)
+in-firsts before (x ∷ xs) y h = elim (cases_Bool (has x before)) [
+  | inl e ↦ elim (has-cases y x xs h) [
+    | inl q ↦ inl (subst (λ (z : ℕ). In z before) (sym q) e)
+    | inr i ↦ elim (in-firsts before xs y i) [
+      | inl k ↦ inl k
+      | inr k ↦ inr (subst (λ (l : List ℕ). In y l) (sym (cond-true _ _ _ e)) k)
+    ]
+  ]
+  | inr e ↦ elim (has-cases y x xs h) [
+    | inl q ↦ inr (subst (λ (l : List ℕ). In y l) (sym (cond-false _ (firsts before xs) _ e)) (in-here y x (firsts (x ∷ before) xs) q))
+    | inr i ↦ elim (in-firsts (x ∷ before) xs y i) [
+      | inl k ↦ elim (has-cases y x before k) [
+        | inl q ↦ inr (subst (λ (l : List ℕ). In y l) (sym (cond-false _ (firsts before xs) _ e)) (in-here y x (firsts (x ∷ before) xs) q))
+        | inr b ↦ inl b
+      ]
+      | inr k ↦ inr (subst (λ (l : List ℕ). In y l) (sym (cond-false _ (firsts before xs) _ e)) (in-there y x (firsts (x ∷ before) xs) k))
+    ]
+  ]
+]
 
 slots_of-last : (area : Area) (w : ℕ → ℕ) (objects : List ℕ) (x : ℕ) → slots_of area w (objects ++ x ∷ []) ≡ slots_of area w objects ++ slots area w x x 0 (w (x + 1))
 slots_of-last area w [] x = append-nil (slots area w x x 0 (w (x + 1)))
@@ -164,15 +198,23 @@ source-slots area w x at f i (suc n) k l h =
 -- How a round stands to the order of its objects: the slots that it has gone through, as those of the opening, then the ones
 -- to come, are its first slots and then those of the objects found; these are what the former refer to.
 abbrev pub IsQueued : Area → (ℕ → ℕ) → List ℕ → ℕ → Round → Type 0
-IsQueued area w items fill r = (gone found : List ℕ) × (gone ++ map r.source r.todo ≡ items ++ slots_of area w found) × (found ≡ firsts [] (targets area w gone)) × Fits w area.limit fill r.moves r.fails found r.fill
+IsQueued area w items fill r = (gone found : List ℕ) × (gone ++ map r.source r.todo ≡ items ++ slots_of area w found) × (found ≡ firsts [] (targets area w gone))
+    × Fits w area.limit fill r.moves r.fails found r.fill × IsFoundBy (λ _. Unit {0}) (leads area w items) found
 
 pub queue-start : (area : Area) (w : ℕ → ℕ) (items : List ℕ) (fill : ℕ) → IsQueued area w items fill (started w items fill)
-queue-start area w items fill = ([], [], map-self items, refl, (refl, refl, refl))
+queue-start area w items fill = ([], [], map-self items, refl, (refl, refl, refl), Begins)
 
 pub queue-end : (area : Area) (w : ℕ → ℕ) (items : List ℕ) (fill : ℕ) (r : Round) → IsQueued area w items fill r → r.todo ≡ [] → IsInOrder area w items fill r.moves r.fails r.fill
 queue-end area w items fill r q none = record {
   found = q.1;
-  order = q.3 ∙ ap (λ (l : List ℕ). firsts [] (targets area w l)) (sym (append-nil q.0) ∙ ap (λ (l : List ℕ). q.0 ++ map r.source l) (sym none) ∙ q.2);
+  searched = record {
+    each = q.5;
+    all = λ y h _. elim (in-firsts [] (targets area w q.0) y
+        (subst (λ (l : List ℕ). In y (targets area w l)) (sym q.2 ∙ ap (λ (l : List ℕ). q.0 ++ map r.source l) none ∙ append-nil q.0) h)) [
+          | inl i ↦ absurd (let z = i in cc)
+          | inr i ↦ subst (λ (l : List ℕ). In y l) (sym q.3) i
+        ];
+  };
   parts = q.4;
 }
 
@@ -215,6 +257,7 @@ module _ (area : Area) (w : ℕ → ℕ) (items : List ℕ) (fill : ℕ) (op : I
       subst (λ (z : ℕ). Fits w area.limit fill n.later.moves n.later.fails q.1 z) (sym (n.fills ∙ f))
           (subst (λ (l : List ℕ). Fits w area.limit fill l n.later.fails q.1 r.fill) (sym (n.moves ∙ ap (λ (l : List ℕ). r.moves ++ l) mz ∙ append-nil r.moves))
           (subst (λ (l : List ℕ). Fits w area.limit fill r.moves l q.1 r.fill) (sym (n.fails ∙ ap (λ (l : List ℕ). r.fails ++ l) fz ∙ append-nil r.fails)) q.4)),
+      q.5,
     )
       where
         known : (x c : ℕ) → w x ≡ plain_word c → IsSettled w r.moves r.fails x → In x q.1
@@ -243,6 +286,21 @@ module _ (area : Area) (w : ℕ → ℕ) (items : List ℕ) (fill : ℕ) (op : I
           ])
           ∙ ap (λ (l : List ℕ). l ++ x ∷ []) (sym q.3)),
       merged,
+      Finds q.1 x q.5 (record {
+        passed = targets area w q.0;
+        rest = targets area w (map r.source rest);
+        split = ap (λ (l : List ℕ). targets area w l) (sym line-was) ∙ targets-append area w q.0 (r.source s ∷ map r.source rest)
+            ∙ ap (λ (l : List ℕ). targets area w q.0 ++ (l ++ targets area w (map r.source rest))) (target-is area w (w (r.source s)) x c e y p);
+        of_sort = tt;
+        new = out x q.1 (λ i. elim (fits-out w area.limit r.fill x fill r.moves r.fails q.1 q.4 i) [
+          | inl h ↦ nm h
+          | inr h ↦ nf h
+        ]);
+        known = λ z i _. elim (in-firsts [] (targets area w q.0) z i) [
+          | inl k ↦ absurd (let n = k in cc)
+          | inr k ↦ subst (λ (l : List ℕ). In z l) (sym q.3) k
+        ];
+      }),
     )
 
   pub queue-on : (word : ℕ → ℕ) (filled : ℕ) (added moved failed : List ℕ) → Handles area r.word r.fill s word filled added moved failed → (n : IsAfter area w items fill r rest word filled added moved failed) → IsQueued area w items fill n.later

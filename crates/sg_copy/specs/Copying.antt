@@ -5,7 +5,7 @@ use Rattle.sg_words.specs.Address.{IsAddress, byte_at, word_at}
 use Rattle.sg_words.specs.Tags.{plain_word}
 use Rattle.sg_words.specs.declared.pieces.Move.{Move}
 use Rattle.sg_desc.specs.declared.shapes.Shape.{Shape}
-use Rattle.sg_desc.specs.Shapes.{is_strong}
+use Rattle.sg_desc.specs.Shapes.{is_strong, strong_any}
 use Rattle.sg_words.specs.Sections.{nursery_base, old_base, large_base, IsInSection}
 use Rattle.sg_space.specs.Space.{Contents, IsContents}
 use Rattle.sg_space.specs.Standing.{word}
@@ -25,6 +25,10 @@ is_strong_in None i = false
 -- the area of a round is the nursery and the major heap of the space
 abbrev pub area_of : Contents → Area
 area_of s = record { low = nursery_base; high = old_base s.layout; limit = large_base s.layout; strong = λ c i. is_strong_in (slice_get s.shapes c) i }
+
+-- which doesn't hang on how many fields it has
+pub strong_of_shape : (s : Contents) (c i n : ℕ) (shape : Shape) → slice_get s.shapes c ≡ Some shape → (area_of s).strong c i ≡ is_strong shape.kind i n
+strong_of_shape s c i n shape e = ap (λ (o : Option Shape). is_strong_in o i) e ∙ strong_any shape.kind i shape.fields n
 
 -- nothing but words differs
 abbrev pub IsStill : Contents → Contents → Type 0
@@ -118,9 +122,13 @@ pub data IsFilled (s : Contents) (front : ℕ) : ℕ → Type 0 where
   Ends : (x : ℕ) → x ≡ front → x ≤ large_base s.layout → (x < large_base s.layout → word s x ≡ 0) → IsFilled s front x
   Goes : (x : ℕ) → word s x ≢ 0 → x + size_of (word s) x ≤ large_base s.layout → IsFilled s front (x + size_of (word s) x) → IsFilled s front x
 
--- what a round over slots and whole objects asks of a space
+-- what a round over slots and whole objects asks of a space, with the major heap filled to before this byte address
+pub record CanCopyFrom (s : Contents) (front : ℕ) (slots wholes : List ℕ) : Type 0 where
+  pub pinned : (h : ℕ) → In h wholes → IsWhole s h
+  pub can : CanCopy s front (slots ++ fields_of_all s wholes)
+
+-- the same where the major heap is filled to some word
 pub record CanCopyAll (s : Contents) (slots wholes : List ℕ) : Type 0 where
   pub front : ℕ
   pub filled : IsFilled s front (old_base s.layout)
-  pub pinned : (h : ℕ) → In h wholes → IsWhole s h
-  pub can : CanCopy s (byte_at front) (slots ++ fields_of_all s wholes)
+  pub from : CanCopyFrom s (byte_at front) slots wholes

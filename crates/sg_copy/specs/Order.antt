@@ -5,6 +5,7 @@ use Rattle.sg_words.specs.Tags.{plain_word}
 use Rattle.sg_copy.specs.Area.{Area, class_of}
 use Rattle.sg_words.specs.Lists.{has}
 use Rattle.sg_words.specs.Objects.{size_of}
+use Rattle.sg_words.specs.Found.{IsSearched}
 use Rattle.sg_copy.specs.Round.{slots}
 
 -- x is a young object that is plain
@@ -24,11 +25,6 @@ abbrev pub slots_of : Area → (ℕ → ℕ) → List ℕ → List ℕ
 slots_of area w [] = []
 slots_of area w (a ∷ objects) = slots area w a a 0 (w (a + 1)) ++ slots_of area w objects
 
--- each number of a list where it comes first, but for those that came before
-abbrev pub firsts : List ℕ → List ℕ → List ℕ
-firsts before [] = []
-firsts before (x ∷ xs) = if has x before then firsts before xs else x ∷ firsts (x ∷ before) xs
-
 -- With the heap filled to before `at`, each of the found objects moves in turn where it ends by `limit`, and fails where it
 -- doesn't; these move and those fail, and the heap is filled to before `end`.
 abbrev pub Fits : (ℕ → ℕ) → ℕ → ℕ → List ℕ → List ℕ → List ℕ → ℕ → Type 0
@@ -37,10 +33,14 @@ Fits w limit at moves fails (x ∷ found) end =
     ((rest : List ℕ) × (moves ≡ x ∷ rest) × (at + size_of w x ≤ limit) × Fits w limit (at + size_of w x) rest fails found end)
     ⊎ ((rest : List ℕ) × (fails ≡ x ∷ rest) × (limit < at + size_of w x) × Fits w limit at moves rest found end)
 
--- From the words w, a round over these slots finds objects in this order: each is found where it is first referred to, by the
--- slots, and then by the strong slots of the objects found, in order. Each one moves where it fits as it is found, and fails
--- where it doesn't. As all of them are traced from the slots, this fixes the list, and so what moves and what fails.
+-- the plain young objects to which the slots refer, and then the strong slots of these objects, in order
+abbrev pub leads : Area → (ℕ → ℕ) → List ℕ → List ℕ → List ℕ
+leads area w items objects = targets area w (items ++ slots_of area w objects)
+
+-- From the words w, a round over these slots finds objects one after another: each is the first new one to which the slots, and
+-- then the strong slots of the objects found before, refer. Each one moves where it fits as it is found, and fails where it
+-- doesn't.
 pub record IsInOrder (area : Area) (w : ℕ → ℕ) (items : List ℕ) (fill : ℕ) (moves fails : List ℕ) (end : ℕ) : Type 0 where
   pub found : List ℕ
-  pub order : found ≡ firsts [] (targets area w (items ++ slots_of area w found))
+  pub searched : IsSearched (λ _. Unit {0}) (leads area w items) found
   pub parts : Fits w area.limit fill moves fails found end

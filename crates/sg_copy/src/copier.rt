@@ -10,7 +10,7 @@ ghost use Rattle.sg_copy.specs.Round.{slots_by};
 ghost use Rattle.sg_copy.specs.Copying.{area_of, IsStill, Stores, HasCopied, HasTarget, IsTarget, IsFront, IsHandled, CanCopy, HasCopiedTo};
 
 use sg_space::Space;
-use sg_words::{Addr, Move, Tag, read_tag, write_tag};
+use sg_words::{Addr, Move, Tag, forwarded_to, plain_class, write_tag};
 use std::alloc::AllocError;
 
 /// One copier at its work: the space, the slots that it goes through, the front of the major heap's rest, the objects that
@@ -67,17 +67,13 @@ impl Copier {
         ensures handled { IfOk result (λ _. IsHandled self.old (word_at slot) self.new) }
     {
         let first = self.space.read(target);
-        match read_tag(first) {
-            Some(Tag::Forwarded { to: _ }) => {
-                // The word of this tag is the copy's address, plus 1.
-                self.space.write(slot, first - 1);
-                Ok(())
-            }
-            Some(Tag::Plain { class }) => self.keep(slot, target, class),
-            Some(Tag::Pinned { class: _ }) => Ok(()),
-            Some(Tag::Cemented { class: _ }) => Ok(()),
-            None => Ok(()),
+        if let Some(class) = plain_class(first) {
+            return self.keep(slot, target, class);
         }
+        if let Some(to) = forwarded_to(first) {
+            self.space.write(slot, to.get());
+        }
+        Ok(())
     }
 
     /// Copies the plain object `target` of this class, to which the slot refers, to the front of the heap's rest; where that
@@ -156,11 +152,11 @@ pub(crate) fn push_slots(
     requires inside { word_at at + 2 + fields ≤ large_base space.now.layout }
     ensures pushed { IfOk result (λ _. map word_at todo.new.items ≡ map word_at todo.old.items ++ slots_by (area_of space.now) class (word_at at) 0 fields) }
 {
-    let shape = space.shape(class);
-    for i in 0..fields {
-        if shape.kind.is_strong(i, shape.fields) {
-            todo.push(at.plus(2 + i))?;
-        }
+    let kind = space.shape(class).kind;
+    let mut i = kind.next_strong(0, fields);
+    while i < fields {
+        todo.push(at.plus(2 + i))?;
+        i = kind.next_strong(i + 1, fields);
     }
     Ok(())
 }

@@ -7,7 +7,7 @@ mod round;
 mod wholes;
 
 pub use law::copier_law;
-pub use round::{Round, copy_one};
+pub use round::{Round, copy_from, copy_one};
 
 #[cfg(test)]
 mod tests;

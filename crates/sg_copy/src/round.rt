@@ -1,7 +1,7 @@
 ghost use Rattle.std.specs.Prelude.{◌≡◌, ℕ, ◌++◌, IfOk, map};
 ghost use Rattle.sg_words.specs.Address.{byte_at, word_at};
 ghost use Rattle.sg_words.specs.Sections.{old_base, IsLayout};
-ghost use Rattle.sg_copy.specs.Copying.{IsFilled, CanCopy, CanCopyAll, HasCopiedTo, fields_of_all};
+ghost use Rattle.sg_copy.specs.Copying.{IsFilled, CanCopy, CanCopyAll, CanCopyFrom, HasCopiedTo, fields_of_all};
 
 use crate::copier::Copier;
 use crate::wholes::push_wholes;
@@ -39,13 +39,28 @@ pub fn copy_one(
     ensures { IfOk result (λ round. (front : ℕ) → IsFilled space front (old_base space.layout) → HasCopiedTo space (byte_at front) (map word_at slots.now ++ fields_of_all space (map word_at wholes.now)) round.space round.moves.items round.fails.items round.front) }
 {
     let front = old_front(&space);
+    copy_from(alloc, space, front, slots, wholes)
+}
+
+/// The same for a caller that knows the front of the major heap's rest, the byte address behind its last object. It doesn't
+/// go over that heap: it takes time linear in the slots, the pinned objects' fields and the words of what is copied.
+pub fn copy_from(
+    alloc: Global,
+    space: Space,
+    front: Addr,
+    slots: &[Addr],
+    wholes: &[Addr],
+) -> Result<Round, AllocError>
+    requires { CanCopyFrom space front (map word_at slots.now) (map word_at wholes.now) }
+    ensures { IfOk result (λ round. HasCopiedTo space front (map word_at slots.now ++ fields_of_all space (map word_at wholes.now)) round.space round.moves.items round.fails.items round.front) }
+{
     let mut todo = slots.to_vec(alloc)?;
     push_wholes(&space, &mut todo, wholes)?;
-    copy_from(alloc, space, front, todo)
+    copy_all(alloc, space, front, todo)
 }
 
 /// Goes through these slots, with the major heap filled to before `front`.
-fn copy_from(alloc: Global, space: Space, front: Addr, todo: Vec<Addr>) -> Result<Round, AllocError>
+fn copy_all(alloc: Global, space: Space, front: Addr, todo: Vec<Addr>) -> Result<Round, AllocError>
     requires { CanCopy space front (map word_at todo.items) }
     ensures { IfOk result (λ round. HasCopiedTo space front (map word_at todo.items) round.space round.moves.items round.fails.items round.front) }
 {
@@ -72,10 +87,7 @@ fn old_front(space: &Space) -> Addr
     ensures { (front : ℕ) → IsFilled space.now front (old_base space.now.layout) → result ≡ byte_at front }
 {
     let end = space.layout().large_base();
-    let mut at = match Addr::of(space.layout().old_base()) {
-        Some(base) => base,
-        None => unreachable!(),
-    };
+    let mut at = Addr::at_word(space.layout().old_word());
     while at.get() < end && space.read(at) != 0 {
         let fields = space.read(at.plus(1)) as u32;
         at = at.plus(fields + 2);

@@ -6,7 +6,7 @@ ghost use Rattle.sg_copy.specs.Copying.{IsWhole, fields_of, fields_of_all};
 
 use crate::copier::push_slots;
 use sg_space::Space;
-use sg_words::{Addr, Tag, read_tag};
+use sg_words::{Addr, pinned_class};
 use std::alloc::AllocError;
 
 /// Adds the reference fields of these pinned objects, in order.
@@ -31,14 +31,9 @@ fn push_whole(space: &Space, todo: &mut Vec<Addr>, whole: Addr) -> Result<(), Al
     requires pinned { IsWhole space.now (word_at whole) }
     ensures pushed { IfOk result (λ _. map word_at todo.new.items ≡ map word_at todo.old.items ++ fields_of space.now (word_at whole)) }
 {
-    match read_tag(space.read(whole)) {
-        Some(Tag::Pinned { class }) => {
-            let fields = space.read(whole.plus(1)) as u32;
-            push_slots(space, todo, class, whole, fields)
-        }
-        Some(Tag::Plain { class: _ }) => Ok(()),
-        Some(Tag::Forwarded { to: _ }) => Ok(()),
-        Some(Tag::Cemented { class: _ }) => Ok(()),
-        None => Ok(()),
+    if let Some(class) = pinned_class(space.read(whole)) {
+        let fields = space.read(whole.plus(1)) as u32;
+        push_slots(space, todo, class, whole, fields)?;
     }
+    Ok(())
 }

@@ -1,4 +1,4 @@
-ghost use Rattle.std.specs.Prelude.{◌≡◌, ◌==◌};
+ghost use Rattle.std.specs.Prelude.{◌≡◌, ◌==◌, ◌<◌, ◌≤◌, ℕ, true, false};
 ghost use Rattle.std.specs.Int.{bit_at};
 
 /// Which fields of an object hold references; all others hold numbers.
@@ -49,6 +49,59 @@ impl Descriptor {
             Descriptor::VectorPlain => false,
         }
     }
+
+    /// The first strong field from `from` on, of an object of `len` fields; `len` where there is none. For a bitmap linear in
+    /// the fields that it passes, and else constant.
+    pub fn next_strong(&self, from: u32, len: u32) -> u32
+        requires { from ≤ len }
+        ensures from { from ≤ result }
+        ensures within { result ≤ len }
+        ensures passed { (i : ℕ) → from ≤ i → i < result → is_strong self.now i len ≡ false }
+        ensures strong { result < len → is_strong self.now result len ≡ true }
+    {
+        match *self {
+            Descriptor::PtrFree => len,
+            Descriptor::Run { first, count } => next_in_run(first, count, from, len),
+            Descriptor::Bitmap { bits } => next_bit(bits, from, len),
+            Descriptor::VectorRefs => from,
+            Descriptor::VectorPlain => len,
+            Descriptor::Ephemeron => len,
+        }
+    }
+}
+
+ghost use Rattle.std.specs.Prelude.{◌+◌, ◌&&◌, nat_le, nat_lt};
+
+// The first of the `count` fields from `first` on that is `from` or behind it; `len` where none is below it.
+fn next_in_run(first: u32, count: u32, from: u32, len: u32) -> u32
+    requires { from ≤ len }
+    ensures from { from ≤ result }
+    ensures within { result ≤ len }
+    ensures passed { (i : ℕ) → from ≤ i → i < result → (nat_le first i && nat_lt i (first + count)) ≡ false }
+    ensures strong { result < len → (nat_le first result && nat_lt result (first + count)) ≡ true }
+{
+    let next = if from < first { first } else { from };
+    if next < len && next - first < count {
+        next
+    } else {
+        len
+    }
+}
+
+// The first bit from `from` on that is set; `len` where none below it is.
+fn next_bit(bits: u64, from: u32, len: u32) -> u32
+    requires { from ≤ len }
+    ensures from { from ≤ result }
+    ensures within { result ≤ len }
+    ensures passed { (i : ℕ) → from ≤ i → i < result → (bit_at bits i == 1) ≡ false }
+    ensures strong { result < len → (bit_at bits result == 1) ≡ true }
+{
+    for i in from..len {
+        if has_bit(bits, i) {
+            return i;
+        }
+    }
+    len
 }
 
 /// How many fields the objects of a class have, and which of them hold references. For a class of vectors `fields` is 0:

@@ -7,7 +7,7 @@
 mod merge;
 mod queue;
 
-pub use queue::pin_queue;
+pub use queue::{pin_queue, pinned_among};
 
 #[cfg(test)]
 mod tests {

@@ -1,10 +1,11 @@
-ghost use Rattle.std.specs.Prelude.{◌≡◌, ℕ, Option, IfOk};
-ghost use Rattle.std.specs.List.Sorted.{IsPermutation, IsNonDecreasing};
+ghost use Rattle.std.specs.Prelude.{◌≡◌, ℕ, Option, IfOk, map};
+ghost use Rattle.std.specs.List.Sorted.{IsPermutation, IsNonDecreasing, IsStrictlyIncreasing};
+ghost use Rattle.sg_space.specs.declared.objects.Object.{Object as Told};
 ghost use Rattle.sg_space.specs.Standing.{IsSoundBy, IsSound};
-ghost use Rattle.sg_pins.specs.Pins.{ArePinned};
+ghost use Rattle.sg_pins.specs.Pins.{ArePinned, AreReached};
 
 use crate::merge;
-use sg_space::Space;
+use sg_space::{Object, Space};
 use sg_words::{Addr, List};
 use std::alloc::{AllocError, Global};
 
@@ -14,9 +15,22 @@ pub fn pin_queue(alloc: Global, ambiguous: &[u64], space: &Space) -> Result<List
     requires { IsSound space.now }
     ensures { IfOk result (λ pinned. (owner : ℕ → Option ℕ) → IsSoundBy space.now owner → ArePinned space.now.layout owner ambiguous.now pinned) }
 {
-    let words = sorted(alloc, ambiguous)?;
     let told = space.walk_nursery(alloc)?;
-    let pinned = merge::pointed_into(alloc, told.as_slice(), &words)?;
+    pinned_among(alloc, ambiguous, told.as_slice())
+}
+
+/// The addresses of those of these objects, which stand in order of address, that some ambiguous word points into, in
+/// increasing order and each once. Takes the time of a walk over the objects and of a sort of the words.
+pub fn pinned_among(
+    alloc: Global,
+    ambiguous: &[u64],
+    objects: &[Object],
+) -> Result<List<Addr>, AllocError>
+    requires { IsStrictlyIncreasing (map (λ (o : Told). o.at) objects.now) }
+    ensures { IfOk result (λ pinned. AreReached ambiguous.now objects.now pinned) }
+{
+    let words = sorted(alloc, ambiguous)?;
+    let pinned = merge::pointed_into(alloc, objects, &words)?;
     Ok(List::from_vec(pinned))
 }
 

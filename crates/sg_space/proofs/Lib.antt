@@ -3,3 +3,4 @@ pub mod Pair
 pub mod Placed
 pub mod Reached
 pub mod Told
+pub mod Rests

@@ -1,12 +1,13 @@
 -- What a walk over a section knows: by every owner by which the space is sound, no object that begins below the place that
 -- it reached ends above it.
-use Rattle.std.proofs.Common.{◌≡◌, ◌≢◌, ℕ, ◌+◌, ◌%◌, ◌<◌, ◌≤◌, ◌⊎◌, Option, Some, None, refl, sym, ap, ◌∙◌, subst, arith}
+use Rattle.std.proofs.Common.{◌≡◌, ◌≢◌, ℕ, ◌+◌, ◌%◌, ◌<◌, ◌≤◌, ◌⊎◌, inl, inr, Option, Some, None, refl, sym, ap, ◌∙◌, subst, arith}
+use Rattle.std.proofs.lemmas.Bool.{cases_lt}
 use Rattle.std.proofs.lemmas.Option.{none-some, same_Some}
 use Rattle.sg_words.specs.Address.{word_at}
 use Rattle.sg_space.specs.declared.objects.Object.{Object}
 use Rattle.sg_words.specs.Sections.{nursery_base, old_base, large_base}
 use Rattle.sg_space.specs.Space.{Contents}
-use Rattle.sg_space.specs.Standing.{word, size_at, IsObject, IsSoundBy, IsSound, IsClearAt, IsFree, IsNoFront, TellsAt, HoldsWord, HasByte}
+use Rattle.sg_space.specs.Standing.{word, size_at, IsObject, IsSoundBy, IsSound, IsClearAt, IsFree, AreFree, IsNoFront, TellsAt, HoldsWord, HasByte}
 
 -- a range that has x, and doesn't end above x if it begins below x, begins at x
 at_front : (x h n : ℕ) → h ≤ x → x < h + n → (h < x → h + n ≤ x) → h ≡ x
@@ -54,6 +55,15 @@ clear_skip s x clear free = record {
       let not_here : h ≢ x = λ same. none-some h (sym (free.none owner sound) ∙ subst (λ y. owner y ≡ Some h) same e) in
       let c = clear.ends owner sound h e in
       omega arith;
+}
+
+-- and over several
+pub clear_jump : (s : Contents) (x y : ℕ) → IsClearAt s x → AreFree s x y → x < y → IsClearAt s y
+clear_jump s x y clear free behind = record {
+  ends = λ owner sound h e below. elim (cases_lt h x) [
+    | inl l ↦ let c = clear.ends owner sound h e l in omega arith
+    | inr up ↦ absurd (none-some h (sym (free.none owner sound h up below) ∙ e))
+  ];
 }
 
 -- and over an object

@@ -9,7 +9,7 @@ use Rattle.sg_words.specs.Address.{byte_at}
 use Rattle.sg_space.specs.declared.objects.Object.{Object}
 use Rattle.sg_words.specs.Sections.{nursery_base, old_base, IsYoung}
 use Rattle.sg_space.specs.Space.{Contents}
-use Rattle.sg_space.specs.Standing.{IsSoundBy, IsToldOf, TellsYoung, IsFree, TellsAt}
+use Rattle.sg_space.specs.Standing.{IsSoundBy, IsToldOf, TellsYoung, AreFree, TellsAt}
 use Rattle.sg_space.proofs.Reached.{inside_is_front}
 
 -- the elements of a list with one more at its end
@@ -60,17 +60,18 @@ told_none s = record {
   };
 }
 
-pub told_skip : (s : Contents) (x : ℕ) (told : List Object) → HasTold s x told → IsFree s x → HasTold s (x + 1) told
-told_skip s x told has free = record {
+pub told_jump : (s : Contents) (x y : ℕ) (told : List Object) → HasTold s x told → AreFree s x y → x < y → HasTold s y told
+told_jump s x y told has free behind = record {
   tells = λ owner sound.
       let t = has.tells owner sound in
       record {
         in_order = t.in_order;
         below = λ k o e. let b = t.below k o e in omega arith;
         each = t.each;
-        all = λ h e young before.
-            let not_here : h ≢ x = λ same. none-some h (sym (free.none owner sound) ∙ subst (λ z. owner z ≡ Some h) same e) in
-            t.all h e young (omega arith);
+        all = λ h e young before. elim (cases_lt h x) [
+          | inl l ↦ t.all h e young l
+          | inr up ↦ absurd (none-some h (sym (free.none owner sound h up before) ∙ e))
+        ];
       };
 }
 

@@ -79,6 +79,10 @@ pub record IsClearAt (s : Contents) (x : ℕ) : Type 0 where
 pub record IsFree (s : Contents) (x : ℕ) : Type 0 where
   pub none : (owner : ℕ → Option ℕ) → IsSoundBy s owner → owner x ≡ None
 
+-- no object has a word from x to before y, by every owner by which the space is sound
+pub record AreFree (s : Contents) (x y : ℕ) : Type 0 where
+  pub none : (owner : ℕ → Option ℕ) → IsSoundBy s owner → (z : ℕ) → x ≤ z → z < y → owner z ≡ None
+
 -- no object begins at the word x, by every owner by which the space is sound
 pub record IsNoFront (s : Contents) (x : ℕ) : Type 0 where
   pub other : (owner : ℕ → Option ℕ) → IsSoundBy s owner → owner x ≢ Some x

@@ -5,8 +5,8 @@ mod objects;
 mod space;
 mod walks;
 
-pub use sg_words::Layout;
 pub use objects::Object;
+pub use sg_words::Layout;
 pub use space::Space;
 
 #[cfg(test)]

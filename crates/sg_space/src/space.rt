@@ -44,12 +44,12 @@ impl Model for Space {
 }
 
 impl Space {
-    ghost use Rattle.std.specs.Prelude.{◌≡◌, ◌≢◌, ◌+◌, ◌<◌, ◌≤◌, ◌↔◌, IfOk, if◌then◌else◌, true, length, slice_get, slice_index, slice_set, Some, ℕ};
+    ghost use Rattle.std.specs.Prelude.{◌≡◌, ◌≢◌, ◌+◌, ◌^◌, ◌<◌, ◌≤◌, ◌↔◌, IfOk, if◌then◌else◌, true, length, slice_get, slice_index, slice_set, Some, ℕ};
     ghost use Rattle.sg_words.specs.Address.{word_at};
-    ghost use Rattle.sg_words.specs.Sections.{words_end, IsLayout, IsInSection};
+    ghost use Rattle.sg_words.specs.Sections.{old_base, words_end, IsLayout, IsInSection, IsYoung};
     ghost use Rattle.sg_space.specs.Space.{Contents, AreShapes, IsContents, clear_space};
     ghost use Rattle.sg_words.specs.Pieces.{fronts_of, ends_of};
-    ghost use Rattle.sg_space.specs.Standing.{IsSound, word};
+    ghost use Rattle.sg_space.specs.Standing.{IsSound, IsFree, AreFree, word};
 
     /// A space with no object: each word is 0, and the nursery is one fragment. Takes all the memory that the space ever
     /// needs, and time linear in its words.
@@ -76,13 +76,6 @@ impl Space {
 
     /// The sizes of the sections.
     pub fn layout(&self) -> Layout
-        ensures { result ≡ self.now.layout }
-    {
-        self.layout
-    }
-
-    /// The sizes of the sections, and what is true of every space.
-    pub fn sections(&self) -> Layout
         ensures layout { result ≡ self.now.layout }
         ensures contents { IsContents self.now }
     {
@@ -112,6 +105,40 @@ impl Space {
         ensures { result ≡ word self.now number }
     {
         self.words[number as usize]
+    }
+
+    /// How many of the fragments from `from` on, in order, end at the word `x` or below it, together with those before `from`.
+    pub(crate) fn passed(&self, from: usize, x: u64) -> usize
+        requires number { x < 2 ^ 40 }
+        requires from { from ≤ length self.now.ends }
+        ensures { result ≤ length self.now.ends }
+    {
+        for f in from..self.ends.len() {
+            if 8 * x < self.ends[f] {
+                return f;
+            }
+        }
+        self.ends.len()
+    }
+
+    /// Where a walk goes on behind the word `x`, which no object has: behind the rest of this fragment where the word is in it,
+    /// and else at the next word.
+    pub(crate) fn free_end(&self, fragment: usize, x: u64) -> u64
+        requires sound { IsSound self.now }
+        requires free { IsFree self.now x }
+        requires section { IsYoung self.now.layout x }
+        ensures behind { x < result }
+        ensures within { result ≤ old_base self.now.layout }
+        ensures free { AreFree self.now x result }
+    {
+        if fragment < self.ends.len()
+            && self.next[fragment] <= 8 * x
+            && 8 * x < self.ends[fragment]
+        {
+            self.ends[fragment] / 8
+        } else {
+            x + 1
+        }
     }
 
     /// The word at this byte address becomes `w`.
@@ -158,7 +185,8 @@ impl Space {
     /// in the pieces.
     pub fn set_fragments(&mut self, pieces: &[Piece])
         requires { length (fronts_of pieces.now) ≤ 2048 }
-        ensures { self.new ≡ record self.old { next = fronts_of pieces.now; ends = ends_of pieces.now } }
+        ensures set { self.new ≡ record self.old { next = fronts_of pieces.now; ends = ends_of pieces.now } }
+        ensures contents { IsContents self.new }
     {
         put_fragments(&mut self.next, &mut self.ends, pieces);
     }

@@ -10,17 +10,22 @@ use sg_words::{Addr, FIRST_WORD, List, plain_class};
 use std::alloc::{AllocError, Global};
 
 impl Space {
-    /// The objects that stand in the nursery, by address. Linear in the nursery.
+    /// The objects that stand in the nursery, by address. Linear in the objects, the fragments and the words that no object and no
+    /// fragment's rest has.
     pub fn walk_nursery(&self, alloc: Global) -> Result<List<Object>, AllocError>
         requires { IsSound self.now }
         ensures { IfOk result (λ told. (owner : ℕ → Option ℕ) → IsSoundBy self.now owner → TellsYoung self.now owner told) }
     {
-        let end = self.sections().old_word();
+        let end = self.layout().old_word();
         let mut told = Vec::new(alloc);
+        let mut fragment = 0;
         let mut x = FIRST_WORD;
         while x < end {
             match self.object_from(x) {
-                None => x += 1,
+                None => {
+                    fragment = self.passed(fragment, x);
+                    x = self.free_end(fragment, x);
+                }
                 Some(object) => {
                     let words = object.words as u64;
                     told.push(object)?;
@@ -60,7 +65,7 @@ impl Space {
         requires { IsSound self.now }
         ensures { MatchOption result (IsFree self.now (word_at v)) (HoldsWord self.now (word_at v)) }
     {
-        let layout = self.sections();
+        let layout = self.layout();
         let word = v / 8;
         if word < FIRST_WORD || layout.large_word() <= word {
             return None;

@@ -78,3 +78,23 @@ module _ (strong : ℕ → Bool) where
     | inl e ↦ subst (λ (l : List ℕ). length l ≤ suc n) (sym (cond-true _ _ _ e)) (let goal : suc (length (strong_slots strong at (suc i) n)) ≤ suc n = omega arith in goal)
     | inr e ↦ subst (λ (l : List ℕ). length l ≤ suc n) (sym (cond-false _ ((at + 2 + i) ∷ strong_slots strong at (suc i) n) _ e)) (omega arith)
   ]
+
+  -- over fields that aren't strong, and over one that is
+  slots-over : (at i d n : ℕ) → i + d ≤ n → ((k : ℕ) → i ≤ k → k < i + d → strong k ≡ false) → strong_slots strong at i (n - i) ≡ strong_slots strong at (i + d) (n - (i + d))
+  slots-over at i zero n l none = ap (λ (z : ℕ). strong_slots strong at z (n - z)) (let e : i ≡ i + 0 = omega arith in e)
+  slots-over at i (suc d) n l none =
+      let e : n - i ≡ suc (n - suc i) = omega arith in
+      let more = slots-over at (suc i) d n (omega arith) (λ k a u. none k (omega arith) (omega arith)) in
+      ap (λ (z : ℕ). strong_slots strong at i z) e ∙ cond-false _ ((at + 2 + i) ∷ strong_slots strong at (suc i) (n - suc i)) _ (none i (omega arith) (omega arith)) ∙ more
+      ∙ ap (λ (z : ℕ). strong_slots strong at z (n - z)) (let k : suc i + d ≡ i + suc d = omega arith in k)
+
+  pub slots-skip : (at i j n : ℕ) → i ≤ j → j ≤ n → ((k : ℕ) → i ≤ k → k < j → strong k ≡ false) → strong_slots strong at i (n - i) ≡ strong_slots strong at j (n - j)
+  slots-skip at i j n l u none =
+      let e : i + (j - i) ≡ j = omega arith in
+      slots-over at i (j - i) n (omega arith) (λ k a b. none k a (omega arith)) ∙ ap (λ (z : ℕ). strong_slots strong at z (n - z)) e
+
+  pub slots-take : (at i n : ℕ) → i < n → strong i ≡ true → strong_slots strong at i (n - i) ≡ (at + 2 + i) ∷ strong_slots strong at (i + 1) (n - (i + 1))
+  slots-take at i n l is =
+      let e : n - i ≡ suc (n - suc i) = omega arith in
+      let k : suc i ≡ i + 1 = omega arith in
+      ap (λ (z : ℕ). strong_slots strong at i z) e ∙ cond-true _ _ _ is ∙ ap (λ (z : ℕ). (at + 2 + i) ∷ strong_slots strong at z (n - z)) k

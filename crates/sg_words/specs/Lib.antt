@@ -7,3 +7,4 @@ pub mod Lists
 pub mod Reach
 pub mod Sections
 pub mod Objects
+pub mod Found

@@ -14,7 +14,7 @@ loop-fields-preserved c =
     let s = c.args.space.now in
     let v = c.loop-fields.invariant in
     let at = c.loop-fields.at in
-    let end : c.large_base-end.result ≡ byte_at (large_base s.layout) = c.large_base-end.ensures ∙ ap (λ l. byte_at (large_base l)) c.layout.ensures in
+    let end : c.large_base-end.result ≡ byte_at (large_base s.layout) = c.large_base-end.ensures ∙ ap (λ l. byte_at (large_base l)) c.layout.ensures.layout in
     let less : word_at at < large_base s.layout = let t = c.loop-fields-test.true in let g = c.get.ensures.value in let w = v.whole in omega arith in
     let fields : c.read-fields.result ≡ word s (word_at at + 1) = c.read-fields.ensures.value ∙ ap (word s) (ap word_at c.plus.ensures ∙ one_up at) in
     let place : word_at c.plus-at.result ≡ word_at at + size_of (word s) (word_at at) = ap word_at c.plus-at.ensures ∙ word_at-plus at (c.read-fields.result + 2) ∙ ap (λ (z : ℕ). word_at at + (z + 2)) fields in
@@ -37,5 +37,5 @@ pub returns-after-loop-fields : goal.returns-after-loop-fields
 returns-after-loop-fields c = λ front f.
     let s = c.args.space.now in
     let v = c.loop-fields.invariant in
-    let end : c.large_base-end.result ≡ byte_at (large_base s.layout) = c.large_base-end.ensures ∙ ap (λ l. byte_at (large_base l)) c.layout.ensures in
+    let end : c.large_base-end.result ≡ byte_at (large_base s.layout) = c.large_base-end.ensures ∙ ap (λ l. byte_at (large_base l)) c.layout.ensures.layout in
     sym v.whole ∙ ap byte_at (stops_at_end s front (word_at c.loop-fields.at) (v.all front f) (let t = c.loop-fields-test.false in let g = c.get.ensures.value in let w = v.whole in omega arith))

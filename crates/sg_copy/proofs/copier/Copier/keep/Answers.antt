@@ -9,7 +9,7 @@ pub returns-then-room-fields : goal.returns-then-room-fields
 returns-then-room-fields c =
     let r = c.requires in
     let s = c.args.self.now.space in
-    let base : c.large_base.result ≡ byte_at (large_base s.layout) = c.large_base.ensures ∙ ap (λ l. byte_at (large_base l)) c.layout.ensures in
+    let base : c.large_base.result ≡ byte_at (large_base s.layout) = c.large_base.ensures ∙ ap (λ l. byte_at (large_base l)) c.layout.ensures.layout in
     let len : word s (word_at c.args.target + 1) ≡ c.read-fields.result = sym (c.read-fields.ensures.value ∙ ap (word s) (ap word_at c.plus.ensures ∙ one_up c.args.target)) in
     let inside : word_at c.args.target < length s.words = let a = r.contents.words in let b = r.young.1 in omega arith in
     record {
@@ -22,7 +22,7 @@ pub returns : goal.returns
 returns c =
     let r = c.requires in
     let s = c.args.self.now.space in
-    let base : c.large_base.result ≡ byte_at (large_base s.layout) = c.large_base.ensures ∙ ap (λ l. byte_at (large_base l)) c.layout.ensures in
+    let base : c.large_base.result ≡ byte_at (large_base s.layout) = c.large_base.ensures ∙ ap (λ l. byte_at (large_base l)) c.layout.ensures.layout in
     let len : word s (word_at c.args.target + 1) ≡ c.read-fields.result = sym (c.read-fields.ensures.value ∙ ap (word s) (ap word_at c.plus.ensures ∙ one_up c.args.target)) in
     let inside : word_at c.args.target < length s.words = let a = r.contents.words in let b = r.young.1 in omega arith in
     let slot : word_at c.args.slot < length s.words = let a = r.contents.words in let b = r.slot.1 in omega arith in

@@ -1,5 +1,5 @@
 -- What was told is exactly what begins in the nursery below the word that the walk reached, and ends there.
-use Rattle.std.proofs.Common.{◌-◌, ◌≤◌}
+use Rattle.std.proofs.Common.{◌-◌, ◌≤◌, length}
 use Rattle.sg_words.specs.Sections.{nursery_base}
 use Rattle.sg_space.specs.Standing.{IsClearAt}
 use Rattle.sg_space.proofs.Told.{HasTold}
@@ -11,6 +11,7 @@ invariant-loop-x l = record {
   told : HasTold l.self l.x l.told.items;
   above : nursery_base ≤ l.x;
   below : l.x ≤ l.end;
+  fragment : l.fragment ≤ length l.self.ends;
 }
 
 abbrev pub decreases-loop-x : goal.decreases-loop-x
