@@ -9,4 +9,4 @@ pub mod Refusing
 pub mod Top
 pub mod Performing
 pub mod Worlds
-pub mod Made
+pub mod Stopping
