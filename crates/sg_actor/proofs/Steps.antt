@@ -20,8 +20,9 @@ use Rattle.sg_program.specs.Tests.{Test, test_of}
 use Rattle.sg_space.specs.Space.{Contents, words_of}
 use Rattle.sg_rules.specs.Rules.{Constants, Actor, Mid, TestLength, HideLength, Access, Look, Claim, StoreLength, Ask, Left, before, within, over, over_with, owning, cleared, hides_none, reference_answer, taken, looking, object_in, unhidden, Comes, Follows, Went}
 use Rattle.sg_rules.specs.Rules.Comes.{test_null, test_begins, loads_tag, loads_length, test_fails, put_stores, putd_stores, get_loads, getd_loads, hide_begins, hide_fits, hide_misses, new_bumps, new_looks, look_finds, look_goes_on, minor_asks, asks, claim_wins, stores_length, stores_tag}
-use Rattle.sg_actor.specs.declared.mutator.Held.{Held}
-use Rattle.sg_actor.specs.Views.{constants_of, slot_of, IsRequestOf, IsMeasured, LacksWords, LooksTo, Searches}
+use Rattle.sg_actor.specs.declared.hands.Held.{Held}
+use Rattle.sg_actor.specs.Views.{constants_of, slot_of, IsMeasured, LacksWords, LooksTo, Searches}
+use Rattle.sg_rules.specs.Resting.{IsRequestOf}
 use Rattle.sg_words.proofs.Puts.{put-at, put-other}
 
 -- a write of a list is a change of the function that reads it

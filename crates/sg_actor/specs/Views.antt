@@ -8,16 +8,16 @@ use Rattle.sg_program.specs.declared.program.Statement.{Statement}
 use Rattle.sg_program.specs.declared.program.Statement.TheVariants.{New, NewV, Put, Get, PutD, GetD, Num, Move, Hide, Unhide, Drop, Push, Pop, Same, Collect}
 use Rattle.sg_program.specs.declared.answers.Answer.TheVariants.{At}
 use Rattle.sg_program.specs.declared.answers.Request.{Request}
-use Rattle.sg_program.specs.declared.answers.Request.TheVariants.{Need, Minor}
 use Rattle.sg_desc.specs.Shapes.{Sort, Reference, Plain, has_field}
 use Rattle.sg_program.specs.Scripts.{kind_of, words_for, IsMaking, made_in, made_class, made_fields, made_words}
 use Rattle.sg_words.specs.Sections.{nursery_base, old_base, words_end, IsInSection}
 use Rattle.sg_words.specs.declared.layout.Layout.{Layout}
-use Rattle.sg_space.specs.Space.{Contents, words_of, IsContents}
-use Rattle.sg_actor.specs.declared.mutator.Held.{Held}
-use Rattle.sg_actor.specs.declared.mutator.Mutator.{Mutator}
-use Rattle.sg_actor.specs.declared.mutator.Tested.{Tested}
-use Rattle.sg_actor.specs.declared.mutator.Tested.TheVariants.{NoObject, NoField, At as FieldAt}
+use Rattle.sg_space.specs.Space.{Contents, words_of}
+use Rattle.sg_actor.specs.declared.hands.Held.{Held}
+use Rattle.sg_actor.specs.declared.hands.Hands.{Hands}
+use Rattle.sg_actor.specs.declared.hands.Tested.{Tested}
+use Rattle.sg_actor.specs.declared.hands.Tested.TheVariants.{NoObject, NoField, At as FieldAt}
+use Rattle.sg_rules.specs.Resting.{IsRequestOf}
 use Rattle.sg_rules.specs.Rules.{Constants, StackWord, Mid, Idle, Claim, StoreLength, Ask, Left, Actor, fresh, within, over, looking, Went}
 
 -- how many fragments a space has, and before which word each ends
@@ -28,13 +28,12 @@ abbrev pub slot_of : Held → StackWord
 slot_of held = record { word = held.word; offset = held.offset }
 
 -- between two statements, before this script; the code's stack has its top last
-abbrev pub actor_of : Mutator → List Statement → Actor
-actor_of m script = record { reg = λ r. slice_index m.registers r; offset = λ r. slice_index m.offsets r; stack = reverse (map slot_of m.stack.items); from = m.from; to = m.to; script = script; told = m.answers.items; mid = Idle }
+abbrev pub acting : Hands → List Statement → Actor
+acting m script = record { reg = λ r. slice_index m.registers r; offset = λ r. slice_index m.offsets r; stack = reverse (map slot_of m.stack.items); from = m.from; to = m.to; script = script; told = m.answers.items; mid = Idle }
 
--- what a mutator asks of a space: each fragment ends in the nursery
-pub record IsSpace (s : Contents) : Type 0 where
-  pub contents : IsContents s
-  pub ends : (f : ℕ) → f < length s.ends → word_at (slice_index s.ends f) ≤ old_base s.layout
+-- each fragment ends in the nursery
+abbrev pub EndsInside : Contents → Type 0
+EndsInside s = (f : ℕ) → f < length s.ends → word_at (slice_index s.ends f) ≤ old_base s.layout
 
 -- what no step changes of a space
 pub record KeepsSpace (s t : Contents) : Type 0 where
@@ -95,19 +94,19 @@ pub record Searches (s : Contents) (n f : ℕ) : Type 0 where
   pub passed : (j : ℕ) → j < f → LacksWords s n j
 
 -- there is room for one more answer, and for 64 words on the stack
-pub record HasSpareRoom (m : Mutator) : Type 0 where
+pub record HasSpareRoom (m : Hands) : Type 0 where
   pub answers : vec_len m.answers < vec_capacity m.answers
   pub stack : 64 ≤ vec_capacity m.stack
 
 -- before any script it has empty registers, no buffer and no answer, and there is room for n answers
-pub record IsFresh (m : Mutator) (n : ℕ) : Type 0 where
-  pub begins : (script : List Statement) → actor_of m script ≡ fresh script
+pub record IsFresh (m : Hands) (n : ℕ) : Type 0 where
+  pub begins : (script : List Statement) → acting m script ≡ fresh script
   pub none : vec_len m.answers ≡ 0
   pub room : vec_capacity m.answers ≡ n
   pub stack : 64 ≤ vec_capacity m.stack
 
 -- it has one more answer, and there is room for as many as before
-pub record IsNext (m n : Mutator) : Type 0 where
+pub record IsNext (m n : Hands) : Type 0 where
   pub one : vec_len n.answers ≡ vec_len m.answers + 1
   pub room : vec_capacity m.answers ≤ vec_capacity n.answers
   pub stack : vec_capacity m.stack ≤ vec_capacity n.stack
@@ -121,7 +120,7 @@ abbrev pub IsReference : ℕ → Type 0
 IsReference v = (v ≡ 0) ⊎ IsAddress v
 
 -- the word x is the first one of an object of the program, among the words below n
-pub record IsProgramObject (p : Program) (w : Words) (n x : ℕ) : Type 0 where
+pub record IsObjectIn (p : Program) (w : Words) (n x : ℕ) : Type 0 where
   pub class : ℕ
   pub tag : w.word x ≡ plain_word class
   pub there : class < length p.classes
@@ -130,8 +129,8 @@ pub record IsProgramObject (p : Program) (w : Words) (n x : ℕ) : Type 0 where
   pub references : (i : ℕ) → has_field Reference (kind_of p class) (w.word (x + 1)) i ≡ true → IsReference (w.word (x + 2 + i))
 
 -- register r holds an object or none
-abbrev pub HoldsObject : Program → Contents → Mutator → ℕ → Type 0
-HoldsObject p s m r = (r < 16) × (length p.classes ≤ 256) × (slice_index m.registers r ≢ 0 → IsProgramObject p (words_of s) (words_end s.layout) (word_at (slice_index m.registers r)))
+abbrev pub FindsObject : Program → Contents → Hands → ℕ → Type 0
+FindsObject p s m r = (r < 16) × (length p.classes ≤ 256) × (slice_index m.registers r ≢ 0 → IsObjectIn p (words_of s) (words_end s.layout) (word_at (slice_index m.registers r)))
 
 -- the object in a register that holds `held` has such a field, or not
 pub record IsMeasured (p : Program) (w : Words) (held field : ℕ) (sort : Sort) (has : Bool) : Type 0 where
@@ -147,7 +146,7 @@ IsTested p w held field sort sections NoField = IsMeasured p w held field sort f
 IsTested p w held field sort sections (FieldAt place) = IsMeasured p w held field sort true × (place ≡ word_at held + 2 + field) × IsInSection sections place
 
 -- the buffer's words lie in the nursery
-abbrev pub IsBufferIn : Contents → Mutator → Type 0
+abbrev pub IsBufferIn : Contents → Hands → Type 0
 IsBufferIn s m = m.from < m.to → (nursery_base ≤ m.from) × (m.to ≤ old_base s.layout)
 
 -- the statement makes an object of a class of the program, with at most 62 fields
@@ -159,21 +158,21 @@ pub record CanMake (p : Program) (s : Statement) : Type 0 where
   pub small : made_fields p s ≤ 62
 
 -- register r is empty, or holds an address at some bytes behind that of an object
-abbrev pub HoldsInner : Mutator → ℕ → Type 0
-HoldsInner m r = slice_index m.registers r ≢ 0 → (slice_index m.offsets r ≤ slice_index m.registers r) × IsAddress (slice_index m.registers r - slice_index m.offsets r)
+abbrev pub FindsInner : Hands → ℕ → Type 0
+FindsInner m r = slice_index m.registers r ≢ 0 → (slice_index m.offsets r ≤ slice_index m.registers r) × IsAddress (slice_index m.registers r - slice_index m.offsets r)
 
 -- what a statement asks of the words and its mutator; what isn't run yet is asked for by no program
-abbrev pub CanDo : Program → Contents → Mutator → Statement → Type 0
-CanDo p s m (New r class) = CanMake p (New r class) × HasByteAddresses s × IsBufferIn s m
-CanDo p s m (NewV r class count) = CanMake p (NewV r class count) × HasByteAddresses s × IsBufferIn s m
-CanDo p s m (Put r i v) = HoldsObject p s m r × (v < 16)
-CanDo p s m (Get d r i) = HoldsObject p s m r × (d < 16)
-CanDo p s m (PutD r i v) = HoldsObject p s m r × (v < 16)
-CanDo p s m (GetD d r i) = HoldsObject p s m r × (d < 16)
+abbrev pub CanDo : Program → Contents → Hands → Statement → Type 0
+CanDo p s m (New r class) = CanMake p (New r class) × HasByteAddresses s × IsBufferIn s m × EndsInside s
+CanDo p s m (NewV r class count) = CanMake p (NewV r class count) × HasByteAddresses s × IsBufferIn s m × EndsInside s
+CanDo p s m (Put r i v) = FindsObject p s m r × (v < 16)
+CanDo p s m (Get d r i) = FindsObject p s m r × (d < 16)
+CanDo p s m (PutD r i v) = FindsObject p s m r × (v < 16)
+CanDo p s m (GetD d r i) = FindsObject p s m r × (d < 16)
 CanDo p s m (Num d n) = d < 16
 CanDo p s m (Move d v) = (d < 16) × (v < 16)
-CanDo p s m (Hide d v offset) = HoldsObject p s m v × (d < 16)
-CanDo p s m (Unhide d v) = (d < 16) × (v < 16) × HoldsInner m v
+CanDo p s m (Hide d v offset) = FindsObject p s m v × (d < 16)
+CanDo p s m (Unhide d v) = (d < 16) × (v < 16) × FindsInner m v
 CanDo p s m (Drop r) = r < 16
 CanDo p s m (Push r) = (r < 16) × (length m.stack.items < 64)
 CanDo p s m (Pop r) = (r < 16) × (0 < length m.stack.items)
@@ -182,49 +181,42 @@ CanDo p s m (Collect false) = Unit {0}
 CanDo p s m statement = ⊥
 
 -- the statement may begin
-abbrev pub CanGo : Program → Contents → Mutator → Statement → Type 0
+abbrev pub CanGo : Program → Contents → Hands → Statement → Type 0
 CanGo p s m statement = (s.stop ≡ 0) × CanDo p s m statement
 
--- which request a statement makes
-abbrev pub IsRequestOf : Program → Statement → Request → Type 0
-IsRequestOf p (New r class) (Need words) = words ≡ made_words p (New r class)
-IsRequestOf p (NewV r class count) (Need words) = words ≡ made_words p (NewV r class count)
-IsRequestOf p (Collect false) Minor = Unit {0}
-IsRequestOf p s request = ⊥
-
 -- the statement is answered, and nobody has asked for a stop
-pub record IsAnswered (p : Program) (s : Contents) (m : Mutator) (statement : Statement) (t : Contents) (o : Mutator) : Type 0 where
-  pub went : (rest : List Statement) → Went p (constants_of s) (actor_of m (statement ∷ rest)) (words_of s) (actor_of o rest) (words_of t)
+pub record IsAnswered (p : Program) (s : Contents) (m : Hands) (statement : Statement) (t : Contents) (o : Hands) : Type 0 where
+  pub went : (rest : List Statement) → Went p (constants_of s) (acting m (statement ∷ rest)) (words_of s) (acting o rest) (words_of t)
   pub answers : IsNext m o
   pub keeps : KeepsGoing s t
 
 -- the mutator has asked for a stop and left: its statement waits for the answer, and nothing but the stop word has changed
-pub record HasAsked (p : Program) (s : Contents) (m : Mutator) (statement : Statement) (t : Contents) (o : Mutator) (request : Request) : Type 0 where
-  pub went : (rest : List Statement) → Went p (constants_of s) (actor_of m (statement ∷ rest)) (words_of s) (within (actor_of o rest) rest (Left statement)) (words_of t)
+pub record HasAsked (p : Program) (s : Contents) (m : Hands) (statement : Statement) (t : Contents) (o : Hands) (request : Request) : Type 0 where
+  pub went : (rest : List Statement) → Went p (constants_of s) (acting m (statement ∷ rest)) (words_of s) (within (acting o rest) rest (Left statement)) (words_of t)
   pub fits : IsRequestOf p statement request
   pub space : t ≡ record s { stop = 1 }
   pub mutator : o ≡ m
 
 -- the mutator has the word x for a new object of n words, and no new answer
-pub record GetsRoom (p : Program) (s : Contents) (m : Mutator) (n : ℕ) (t : Contents) (o : Mutator) (x : ℕ) : Type 0 where
+pub record GetsRoom (p : Program) (s : Contents) (m : Hands) (n : ℕ) (t : Contents) (o : Hands) (x : ℕ) : Type 0 where
   pub went : (rest : List Statement) (making : Statement) → IsMaking making → made_words p making ≡ n →
-      Went p (constants_of s) (actor_of m (making ∷ rest)) (words_of s) (within (actor_of o rest) rest (StoreLength making x)) (words_of t)
+      Went p (constants_of s) (acting m (making ∷ rest)) (words_of s) (within (acting o rest) rest (StoreLength making x)) (words_of t)
   pub above : nursery_base ≤ x
   pub inside : x + n ≤ old_base s.layout
   pub answers : o.answers ≡ m.answers
   pub stack : o.stack ≡ m.stack
 
 -- there is no room, and nothing has changed
-pub record GetsNone (p : Program) (s : Contents) (m : Mutator) (n : ℕ) (t : Contents) (o : Mutator) : Type 0 where
+pub record GetsNone (p : Program) (s : Contents) (m : Hands) (n : ℕ) (t : Contents) (o : Hands) : Type 0 where
   pub went : (rest : List Statement) (making : Statement) → IsMaking making → made_words p making ≡ n →
-      Went p (constants_of s) (actor_of m (making ∷ rest)) (words_of s) (within (actor_of o rest) rest (Ask making)) (words_of t)
+      Went p (constants_of s) (acting m (making ∷ rest)) (words_of s) (within (acting o rest) rest (Ask making)) (words_of t)
   pub space : t ≡ s
   pub mutator : o ≡ m
 
 -- the exchange for n words at the word `next` of fragment f
-abbrev pub WinsRoom : Program → Contents → Mutator → ℕ → ℕ → ℕ → Contents → Mutator → Type 0
+abbrev pub WinsRoom : Program → Contents → Hands → ℕ → ℕ → ℕ → Contents → Hands → Type 0
 WinsRoom p s m n f next t o = (rest : List Statement) (making : Statement) → made_words p making ≡ n →
-    Went p (constants_of s) (within (actor_of m rest) rest (Claim making f next)) (words_of s) (within (actor_of o rest) rest (StoreLength making next)) (words_of t)
+    Went p (constants_of s) (within (acting m rest) rest (Claim making f next)) (words_of s) (within (acting o rest) rest (StoreLength making next)) (words_of t)
 
 -- Fragment f is the lowest one with room for a new object of this class, and with so many fields. It gives its front, whose
 -- byte address is a: its next word is the one behind the object, whose header is written, and nothing else changes.
@@ -242,8 +234,8 @@ pub record HasNowhere (s : Contents) (n : ℕ) (t : Contents) : Type 0 where
   pub space : t ≡ s
 
 -- the answers were taken, and there is room for as many as before
-pub record IsEmptied (m o : Mutator) : Type 0 where
-  pub is : (script : List Statement) → actor_of o script ≡ record (actor_of m script) { told = [] }
+pub record IsEmptied (m o : Hands) : Type 0 where
+  pub is : (script : List Statement) → acting o script ≡ record (acting m script) { told = [] }
   pub none : vec_len o.answers ≡ 0
   pub room : vec_capacity m.answers ≤ vec_capacity o.answers
   pub stack : o.stack ≡ m.stack

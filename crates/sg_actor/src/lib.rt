@@ -1,10 +1,12 @@
-//! The mutator: one statement after another, by atomic steps on the words that mutators share.
+//! The mutator: one statement of its script after another, by atomic steps on the words that mutators share.
 #![tactic(auto)]
 
+mod hands;
 mod mutator;
 mod shared;
 
-pub use mutator::{Held, Mutator, shape};
+pub use hands::Held;
+pub use mutator::{Mutator, Stage};
 pub use shared::place;
 
 #[cfg(test)]

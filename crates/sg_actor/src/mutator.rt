@@ -1,586 +1,190 @@
-ghost use Rattle.std.specs.Prelude.{◌≡◌, ◌+◌, ◌^◌, ◌<◌, ◌≤◌, true, false, List, ◌∷◌, [], ◌++◌, map, reverse, length, slice_index, IfOk, OnErr, MatchOption};
-ghost use Rattle.sg_words.specs.Words.{put, Words};
-ghost use Rattle.sg_program.specs.declared.program.Program.{Program};
-ghost use Rattle.sg_program.specs.declared.program.Statement.{Statement};
-ghost use Rattle.sg_program.specs.Scripts.{IsMaking, made_in, made_class, made_fields, shape_of};
-ghost use Rattle.sg_desc.specs.Shapes.{has_field as field_of_sort};
-ghost use Rattle.sg_space.specs.Space.{Contents, words_of, IsContents};
-ghost use Rattle.sg_rules.specs.Rules.{Constants, reference_answer, over, over_with, owning, Went};
-ghost use Rattle.sg_actor.specs.Direct.{IsDirect};
-ghost use Rattle.sg_actor.specs.Views.{constants_of, actor_of, IsSpace, KeepsSpace, KeepsGoing, HasByteAddresses, FindsRoom, sort_of, IsTested, IsBufferIn, IsReference, IsNext, HasSpareRoom, CanGo, CanMake, HoldsObject, HoldsInner, IsFresh, IsEmptied, IsAnswered, HasAsked, GetsRoom, GetsNone, WinsRoom};
+ghost use Rattle.std.specs.Prelude.{◌≡◌, ◌+◌, ◌<◌, ◌≤◌, ◌++◌, List, [], map, reverse, length, IfOk};
+ghost use Rattle.sg_program.specs.Scripts.{script_of};
+ghost use Rattle.sg_program.specs.Invariants.{IsWithinLimits};
+ghost use Rattle.sg_rules.specs.Rules.{fresh};
+ghost use Rattle.sg_actor.specs.State.{Mutating, actor_of, leave_of, asking_of, WaitsForNone, IsCounted, IsSpaceFor, HasStepped, MayStep, MayServe, HasServed, BeginsEpoch, DropsBuffer};
 
-use crate::shared::{Room, end, exchange_next, find, load_word, store_header, store_word};
-use sg_desc::{Descriptor, Shape};
-use sg_program::{Answer, Program, Request, Statement};
+use crate::hands::{Hands, Held};
+use sg_program::{Answer, Leave, Program, Request, Statement, script_total};
+use sg_script::Cursor;
 use sg_space::Space;
-use sg_words::{Addr, plain_class};
 use std::alloc::{AllocError, Global};
+use std::marker::Model;
 
-/// A word of the stack, and the offset that stands beside it where the word is an address inside an object.
+/// Where a mutator stands.
 #[derive(Clone, Copy)]
-pub struct Held {
-    /// The byte address of an object or of a byte of one, 0 for none, or a number.
-    pub word: u64,
-    /// In bytes. No collector looks at it.
-    pub offset: u64,
+pub enum Stage {
+    /// Between two statements of its epoch.
+    Between,
+    /// No statement is left.
+    Ended,
+    /// It has left its epoch with this statement, which asks for this.
+    Asking {
+        statement: Statement,
+        request: Request,
+    },
 }
 
-/// The private state of a mutator.
+/// A mutator with its script: it does one statement after another, until one asks for a stop or none is left.
 #[derive(Drop)]
-pub struct Mutator {
-    /// The word in each register: the byte address of an object or of a byte of one, 0 for none, or a number.
-    registers: [u64; 16],
-    /// The offset beside each register whose word is the address of a byte of an object, in bytes. No collector looks at it.
-    offsets: [u64; 16],
-    /// The stack, with its top last.
-    stack: Vec<Held>,
-    /// The words that it has taken and not used: the number of the first one, and of the one behind the last.
-    from: u64,
-    to: u64,
-    /// The answers so far.
-    answers: Vec<Answer>,
+pub struct Mutator<'a> {
+    program: &'a Program,
+    number: u32,
+    /// The number of the first statement of this epoch, counted from 0 over the whole script.
+    first: u32,
+    /// The statements to come. The one with which it has left isn't among them.
+    cursor: Cursor<'a>,
+    hands: Hands,
+    stage: Stage,
 }
 
-/// What an object test finds.
-#[derive(Clone, Copy)]
-enum Tested {
-    /// The register holds no object.
-    NoObject,
-    /// Its object has no such field.
-    NoField,
-    /// It has: the number of the field's word.
-    At { place: u64 },
+impl<'a> Model for Mutator<'a> {
+    ghost use Rattle.sg_program.specs.contracts.program.Item as e;
+    ghost use Rattle.std.specs.Coded.{codes};
+    ghost use Rattle.sg_actor.specs.State.{Mutating, IsWhole};
+
+    ghost Value = { Mutating };
+
+    ghost coded = { Prim.hlevel (codes, e.the_row.coded) };
+
+    ghost view = { λ m. record {
+      program = m.program.now;
+      number = m.number;
+      first = m.first;
+      stage = m.stage;
+      registers = m.hands.registers;
+      offsets = m.hands.offsets;
+      stack = m.hands.stack.items;
+      from = m.hands.from;
+      to = m.hands.to;
+      script = m.cursor;
+      told = m.hands.answers.items;
+    } };
+
+    ghost invariant = { λ m. IsWhole m.program.now m.number m.first m.stage m.hands m.cursor };
 }
 
-impl Mutator {
-    /// A mutator with empty registers, an empty stack and no buffer. Takes memory for this many answers, and for 64 words on
-    /// the stack.
-    pub fn new(alloc: Global, statements: usize) -> Result<Mutator, AllocError>
-        ensures { IfOk result (λ mutator. IsFresh mutator statements) }
+impl<'a> Mutator<'a> {
+    /// The program's mutator with this number, before its first statement. Takes memory for the answers of its script, and for
+    /// 64 words on its stack; time linear in the written items.
+    pub fn new(alloc: Global, number: u32, program: &'a Program) -> Result<Mutator<'a>, AllocError>
+        requires limits { IsWithinLimits program.now }
+        requires there { number < length program.now.mutators }
+        ensures fresh { IfOk result (λ m. actor_of m ≡ fresh (script_of program.now number)) }
+        ensures first { IfOk result (λ m. m.first ≡ 0) }
+        ensures stage { IfOk result (λ m. m.stage ≡ Stage.Between) }
+        ensures program { IfOk result (λ m. m.program ≡ program.now) }
+        ensures number { IfOk result (λ m. m.number ≡ number) }
     {
+        let script = &program.mutators.as_slice()[number as usize];
         Ok(Mutator {
-            registers: [0; 16],
-            offsets: [0; 16],
-            stack: Vec::with_capacity(alloc, 64)?,
-            from: 0,
-            to: 0,
-            answers: Vec::with_capacity(alloc, statements)?,
+            program,
+            number,
+            first: 0,
+            cursor: Cursor::new(alloc, script.items.as_slice())?,
+            hands: Hands::new(alloc, script_total(script) as usize)?,
+            stage: Stage::Between,
         })
     }
 
-    /// A copy of the answers, which the mutator then has no more. It keeps their room. An `Err` changes nothing.
-    pub fn take_answers(&mut self, alloc: Global) -> Result<Vec<Answer>, AllocError>
-        ensures taken { IfOk result (λ answers. answers.items ≡ self.old.answers.items) }
-        ensures emptied { IfOk result (λ _. IsEmptied self.old self.new) }
-        ensures err { OnErr result (self.new ≡ self.old) }
+    /// Its number in the program.
+    pub fn number(&self) -> u32
+        ensures { result ≡ self.now.number }
     {
-        let answers = self.answers.as_slice().to_vec(alloc)?;
-        self.answers.clear();
-        Ok(answers)
+        self.number
     }
 
-    /// The words in the registers, and then those on the stack from its top down: what a pause can't tell from addresses.
+    /// The number of the first statement of its epoch, counted from 0 over its whole script.
+    pub fn first(&self) -> u32
+        ensures value { result ≡ self.now.first }
+        ensures counted { IsCounted self.now }
+    {
+        self.first
+    }
+
+    /// Its answers in this epoch.
+    pub fn answers(&self) -> &[Answer]
+        ensures { result.now ≡ self.now.told }
+    {
+        self.hands.answers()
+    }
+
+    /// How it has left its epoch; `None` exactly while it hasn't.
+    pub fn leave(&self) -> Option<Leave>
+        ensures { result ≡ leave_of self.now.stage }
+    {
+        match self.stage {
+            Stage::Between => None,
+            Stage::Ended => Some(Leave::Ended),
+            Stage::Asking { request, .. } => Some(Leave::Wants(request)),
+        }
+    }
+
+    /// The statement with which it has left its epoch, where it asks for something.
+    pub fn asking(&self) -> Option<Statement>
+        ensures { result ≡ asking_of self.now.stage }
+    {
+        match self.stage {
+            Stage::Asking { statement, .. } => Some(statement),
+            _ => None,
+        }
+    }
+
+    /// The next epoch begins: it has no answers in it yet. One that has ended stays so.
+    pub fn begin_epoch(&mut self)
+        requires { WaitsForNone self.old.stage }
+        ensures { BeginsEpoch self.old self.new }
+    {
+        self.first += self.hands.answers().len() as u32;
+        self.hands.forget();
+    }
+
+    /// Does its next statement; or it leaves its epoch: with that statement, which then waits for its answer, or because none
+    /// is left. It takes no memory, and time linear in the fragments.
+    pub fn step(&mut self, space: &mut Space)
+        requires between { self.old.stage ≡ Stage.Between }
+        requires space { IsSpaceFor self.old.program space.old }
+        requires going { space.old.stop ≡ 0 }
+        requires may { MayStep space.old self.old }
+        ensures { HasStepped space.old self.old space.new self.new }
+    {
+        let Some(statement) = self.cursor.peek() else {
+            self.stage = Stage::Ended;
+            return;
+        };
+        self.cursor.advance();
+        if let Some(request) = self.hands.step(self.program, space, statement) {
+            self.stage = Stage::Asking { statement, request };
+        }
+    }
+
+    /// The statement with which it has left has this answer, and its epoch's answers are gone. It takes no memory.
+    pub fn serve(&mut self, answer: Answer)
+        requires { MayServe self.old.stage answer }
+        ensures { HasServed self.old answer self.new }
+    {
+        let Stage::Asking { statement, .. } = self.stage else {
+            unreachable!();
+        };
+        self.first += self.hands.answers().len() as u32 + 1;
+        self.hands.forget();
+        self.hands.answer(statement, answer);
+        self.stage = Stage::Between;
+    }
+
+    /// It has no buffer any more: a pause has taken it.
+    pub fn drop_buffer(&mut self)
+        ensures { DropsBuffer self.old self.new }
+    {
+        self.hands.empty_buffer();
+    }
+
+    /// The words in its registers, and then those on its stack from the top down: what a pause can't tell from addresses.
     /// Takes memory for them, and time linear in them.
     pub fn ambiguous(&self, alloc: Global) -> Result<Vec<u64>, AllocError>
-        ensures words { IfOk result (λ words. words.items ≡ self.now.registers ++ map (λ (h : Held). h.word) (reverse self.now.stack.items)) }
+        ensures words { IfOk result (λ words. words.items ≡ self.now.registers ++ map (λ (h : Held). h.word) (reverse self.now.stack)) }
         ensures count { length self.now.registers ≡ 16 }
     {
-        let stack: Vec<u64> = self
-            .stack
-            .as_slice()
-            .iter()
-            .rev()
-            .map(|held| held.word)
-            .collect(alloc)?;
-        let mut words = self.registers.as_slice().to_vec(alloc)?;
-        words.extend_from_slice(stack.as_slice())?;
-        Ok(words)
+        self.hands.ambiguous(alloc)
     }
-
-    /// The mutator has no buffer any more. All else stays.
-    pub fn empty_buffer(&mut self)
-        ensures emptied { (script : List Statement) → actor_of self.new script ≡ owning (actor_of self.old script) 0 0 }
-        ensures answers { self.new.answers ≡ self.old.answers }
-        ensures stack { self.new.stack ≡ self.old.stack }
-    {
-        self.from = 0;
-        self.to = 0;
-    }
-
-    /// Does one statement. Where the statement needs a stop, the mutator asks for it and leaves, and the statement stays
-    /// before it: then the result is the request. It takes no memory, and time linear in the fragments.
-    pub fn step(
-        &mut self,
-        program: &Program,
-        space: &mut Space,
-        statement: Statement,
-    ) -> Option<Request>
-        requires space { IsSpace space.old }
-        requires answers { HasSpareRoom self.old }
-        requires can { CanGo program.now space.old self.old statement }
-        ensures done { MatchOption result (IsAnswered program.now space.old self.old statement space.new self.new) (HasAsked program.now space.old self.old statement space.new self.new) }
-        ensures keeps { KeepsSpace space.old space.new }
-    {
-        if space.stopping() {
-            unreachable!();
-        }
-        match statement {
-            Statement::New { r, class } => {
-                let fields = shape(program, class).fields;
-                self.make(program, space, statement, r, class, fields)
-            }
-            Statement::NewV { r, class, count } => {
-                self.make(program, space, statement, r, class, count)
-            }
-            Statement::Put { r, field, s } => {
-                self.put(program, space, r, field, s);
-                None
-            }
-            Statement::Get { d, r, field } => {
-                self.get(program, space, d, r, field);
-                None
-            }
-            Statement::PutD { r, field, s } => {
-                self.put_number(program, space, r, field, s);
-                None
-            }
-            Statement::GetD { d, r, field } => {
-                self.get_number(program, space, d, r, field);
-                None
-            }
-            Statement::Collect { major: false } => Some(ask(space, Request::Minor)),
-            _ => {
-                self.direct(program, space, statement);
-                None
-            }
-        }
-    }
-
-    /// Does a statement that touches no shared word, or loads an object's length alone.
-    fn direct(&mut self, program: &Program, space: &Space, statement: Statement)
-        requires space { IsSpace space.now }
-        requires answers { HasSpareRoom self.old }
-        requires can { CanGo program.now space.now self.old statement }
-        requires direct { IsDirect statement }
-        ensures went { (rest : List Statement) → Went program.now (constants_of space.now) (actor_of self.old (statement ∷ rest)) (words_of space.now) (actor_of self.new rest) (words_of space.now) }
-        ensures answers { IsNext self.old self.new }
-    {
-        match statement {
-            Statement::Num { d, n } => self.number(d, n),
-            Statement::Move { d, s } => self.copy(d, s),
-            Statement::Hide { d, s, offset } => self.hide(program, space, d, s, offset),
-            Statement::Unhide { d, s } => self.unhide(d, s),
-            Statement::Drop { r } => self.clear(r),
-            Statement::Push { r } => self.push(r),
-            Statement::Pop { r } => self.pop(r),
-            Statement::Same { r, s } => self.same(r, s),
-            _ => unreachable!(),
-        }
-    }
-
-    /// `put`.
-    fn put(&mut self, program: &Program, space: &mut Space, r: u8, field: u64, s: u8)
-        requires space { IsSpace space.old }
-        requires answers { HasSpareRoom self.old }
-        requires can { CanGo program.now space.old self.old (Statement.Put r field s) }
-        ensures went { (rest : List Statement) → Went program.now (constants_of space.old) (actor_of self.old (Statement.Put r field s ∷ rest)) (words_of space.old) (actor_of self.new rest) (words_of space.new) }
-        ensures answers { IsNext self.old self.new }
-        ensures keeps { KeepsGoing space.old space.new }
-    {
-        match self.test(program, space, r, field, true) {
-            Tested::NoObject => self.say(Answer::Null),
-            Tested::NoField => self.say(Answer::Field),
-            Tested::At { place } => {
-                store_word(space, place, self.held(s));
-                self.say(Answer::Fine);
-            }
-        }
-    }
-
-    /// `get`.
-    fn get(&mut self, program: &Program, space: &Space, d: u8, r: u8, field: u64)
-        requires space { IsSpace space.now }
-        requires answers { HasSpareRoom self.old }
-        requires can { CanGo program.now space.now self.old (Statement.Get d r field) }
-        ensures went { (rest : List Statement) → Went program.now (constants_of space.now) (actor_of self.old (Statement.Get d r field ∷ rest)) (words_of space.now) (actor_of self.new rest) (words_of space.now) }
-        ensures answers { IsNext self.old self.new }
-    {
-        match self.test(program, space, r, field, true) {
-            Tested::NoObject => self.tell(d, 0, Answer::Null),
-            Tested::NoField => self.tell(d, 0, Answer::Field),
-            Tested::At { place } => {
-                let word = load_word(space, place);
-                self.tell(d, word, reference(word));
-            }
-        }
-    }
-
-    /// `putd`.
-    fn put_number(&mut self, program: &Program, space: &mut Space, r: u8, field: u64, s: u8)
-        requires space { IsSpace space.old }
-        requires answers { HasSpareRoom self.old }
-        requires can { CanGo program.now space.old self.old (Statement.PutD r field s) }
-        ensures went { (rest : List Statement) → Went program.now (constants_of space.old) (actor_of self.old (Statement.PutD r field s ∷ rest)) (words_of space.old) (actor_of self.new rest) (words_of space.new) }
-        ensures answers { IsNext self.old self.new }
-        ensures keeps { KeepsGoing space.old space.new }
-    {
-        match self.test(program, space, r, field, false) {
-            Tested::NoObject => self.say(Answer::Null),
-            Tested::NoField => self.say(Answer::Field),
-            Tested::At { place } => {
-                let number = self.held(s);
-                store_word(space, place, number);
-                self.say(Answer::Fine);
-            }
-        }
-    }
-
-    /// `getd`.
-    fn get_number(&mut self, program: &Program, space: &Space, d: u8, r: u8, field: u64)
-        requires space { IsSpace space.now }
-        requires answers { HasSpareRoom self.old }
-        requires can { CanGo program.now space.now self.old (Statement.GetD d r field) }
-        ensures went { (rest : List Statement) → Went program.now (constants_of space.now) (actor_of self.old (Statement.GetD d r field ∷ rest)) (words_of space.now) (actor_of self.new rest) (words_of space.now) }
-        ensures answers { IsNext self.old self.new }
-    {
-        match self.test(program, space, r, field, false) {
-            Tested::NoObject => self.tell(d, 0, Answer::Null),
-            Tested::NoField => self.tell(d, 0, Answer::Field),
-            Tested::At { place } => {
-                let number = load_word(space, place);
-                self.tell(d, number, Answer::Number(number));
-            }
-        }
-    }
-
-    /// `num`.
-    fn number(&mut self, d: u8, n: u64)
-        requires answers { HasSpareRoom self.old }
-        requires d { d < 16 }
-        ensures went { (p : Program) (lay : Constants) (w : Words) (rest : List Statement) → w.stop ≡ 0 → Went p lay (actor_of self.old (Statement.Num d n ∷ rest)) w (actor_of self.new rest) w }
-        ensures answers { IsNext self.old self.new }
-    {
-        self.tell(d, n, Answer::Fine);
-    }
-
-    /// `drop`.
-    fn clear(&mut self, r: u8)
-        requires answers { HasSpareRoom self.old }
-        requires r { r < 16 }
-        ensures went { (p : Program) (lay : Constants) (w : Words) (rest : List Statement) → w.stop ≡ 0 → Went p lay (actor_of self.old (Statement.Drop r ∷ rest)) w (actor_of self.new rest) w }
-        ensures answers { IsNext self.old self.new }
-    {
-        self.tell(r, 0, Answer::Fine);
-    }
-
-    /// `move`.
-    fn copy(&mut self, d: u8, s: u8)
-        requires answers { HasSpareRoom self.old }
-        requires d { d < 16 }
-        requires s { s < 16 }
-        ensures went { (p : Program) (lay : Constants) (w : Words) (rest : List Statement) → w.stop ≡ 0 → Went p lay (actor_of self.old (Statement.Move d s ∷ rest)) w (actor_of self.new rest) w }
-        ensures answers { IsNext self.old self.new }
-    {
-        self.tell_inner(d, self.held(s), self.beside(s), Answer::Fine);
-    }
-
-    /// `hide`.
-    fn hide(&mut self, program: &Program, space: &Space, d: u8, s: u8, offset: u64)
-        requires space { IsSpace space.now }
-        requires answers { HasSpareRoom self.old }
-        requires d { d < 16 }
-        requires object { HoldsObject program.now space.now self.old s }
-        requires going { space.now.stop ≡ 0 }
-        ensures went { (rest : List Statement) → Went program.now (constants_of space.now) (actor_of self.old (Statement.Hide d s offset ∷ rest)) (words_of space.now) (actor_of self.new rest) (words_of space.now) }
-        ensures answers { IsNext self.old self.new }
-    {
-        let held = self.held(s);
-        if held == 0 {
-            return self.tell_inner(d, 0, 0, Answer::Null);
-        }
-        if offset < 8 * (load_word(space, held / 8 + 1) + 2) {
-            self.tell_inner(d, held + offset, offset, Answer::Fine);
-        } else {
-            self.tell_inner(d, 0, 0, Answer::Field);
-        }
-    }
-
-    /// `unhide`.
-    fn unhide(&mut self, d: u8, s: u8)
-        requires answers { HasSpareRoom self.old }
-        requires d { d < 16 }
-        requires s { s < 16 }
-        requires inner { HoldsInner self.old s }
-        ensures went { (p : Program) (lay : Constants) (w : Words) (rest : List Statement) → w.stop ≡ 0 → Went p lay (actor_of self.old (Statement.Unhide d s ∷ rest)) w (actor_of self.new rest) w }
-        ensures answers { IsNext self.old self.new }
-    {
-        let held = self.held(s);
-        if held == 0 {
-            self.tell(d, 0, Answer::Nil);
-        } else {
-            let object = held - self.beside(s);
-            self.tell(d, object, reference(object));
-        }
-    }
-
-    /// `push`.
-    fn push(&mut self, r: u8)
-        requires answers { HasSpareRoom self.old }
-        requires r { r < 16 }
-        requires room { length self.old.stack.items < 64 }
-        ensures went { (p : Program) (lay : Constants) (w : Words) (rest : List Statement) → w.stop ≡ 0 → Went p lay (actor_of self.old (Statement.Push r ∷ rest)) w (actor_of self.new rest) w }
-        ensures answers { IsNext self.old self.new }
-    {
-        let held = Held {
-            word: self.held(r),
-            offset: self.beside(r),
-        };
-        if self.stack.push(held).is_err() {
-            unreachable!();
-        }
-        self.say(Answer::Fine);
-    }
-
-    /// `pop`.
-    fn pop(&mut self, r: u8)
-        requires answers { HasSpareRoom self.old }
-        requires r { r < 16 }
-        requires some { 0 < length self.old.stack.items }
-        ensures went { (p : Program) (lay : Constants) (w : Words) (rest : List Statement) → w.stop ≡ 0 → Went p lay (actor_of self.old (Statement.Pop r ∷ rest)) w (actor_of self.new rest) w }
-        ensures answers { IsNext self.old self.new }
-    {
-        match self.stack.pop() {
-            Some(top) => self.tell_inner(r, top.word, top.offset, Answer::Fine),
-            None => unreachable!(),
-        }
-    }
-
-    /// `same`.
-    fn same(&mut self, r: u8, s: u8)
-        requires answers { HasSpareRoom self.old }
-        requires r { r < 16 }
-        requires s { s < 16 }
-        ensures went { (p : Program) (lay : Constants) (w : Words) (rest : List Statement) → w.stop ≡ 0 → Went p lay (actor_of self.old (Statement.Same r s ∷ rest)) w (actor_of self.new rest) w }
-        ensures answers { IsNext self.old self.new }
-    {
-        if self.held(r) == self.held(s) {
-            self.say(Answer::Yes);
-        } else {
-            self.say(Answer::No);
-        }
-    }
-
-    /// A new object, for `new` or `newv`: from the buffer or a fragment, else the mutator asks for room.
-    fn make(
-        &mut self,
-        program: &Program,
-        space: &mut Space,
-        statement: Statement,
-        r: u8,
-        class: u16,
-        fields: u32,
-    ) -> Option<Request>
-        requires space { IsSpace space.old }
-        requires answers { HasSpareRoom self.old }
-        requires going { space.old.stop ≡ 0 }
-        requires can { CanMake program.now statement }
-        requires bytes { HasByteAddresses space.old }
-        requires buffer { IsBufferIn space.old self.old }
-        requires r { r ≡ made_in statement }
-        requires class { class ≡ made_class statement }
-        requires fields { fields ≡ made_fields program.now statement }
-        ensures done { MatchOption result (IsAnswered program.now space.old self.old statement space.new self.new) (HasAsked program.now space.old self.old statement space.new self.new) }
-        ensures keeps { KeepsSpace space.old space.new }
-    {
-        let words = fields + 2;
-        match self.take(program, space, words as u64) {
-            Some(number) => {
-                store_header(space, number, class, fields);
-                let at = Addr::at_word(number);
-                self.tell(r, at.get(), Answer::At(at));
-                None
-            }
-            None => Some(ask(space, Request::Need { words })),
-        }
-    }
-
-    /// The number of the first of this many words: from the buffer, or else from the lowest fragment that has room, which
-    /// also gives a new buffer. `None`, and nothing changes, where there is no room.
-    fn take(&mut self, program: &Program, space: &mut Space, words: u64) -> Option<u64>
-        requires some { 0 < words }
-        requires small { words ≤ 64 }
-        requires space { IsSpace space.old }
-        requires going { space.old.stop ≡ 0 }
-        requires bytes { HasByteAddresses space.old }
-        requires buffer { IsBufferIn space.old self.old }
-        ensures went { MatchOption result (GetsNone program.now space.old self.old words space.new self.new) (GetsRoom program.now space.old self.old words space.new self.new) }
-        ensures keeps { KeepsGoing space.old space.new }
-    {
-        if words <= self.to.saturating_sub(self.from) {
-            let number = self.from;
-            self.from += words;
-            return Some(number);
-        }
-        let Some(room) = find(space, words) else {
-            return None;
-        };
-        self.claim(program, space, words, room);
-        Some(room.next)
-    }
-
-    /// Takes this many words from the fragment, and a new buffer behind them.
-    fn claim(&mut self, program: &Program, space: &mut Space, words: u64, room: Room)
-        requires small { words ≤ 64 }
-        requires space { IsSpace space.old }
-        requires room { FindsRoom space.old words room.fragment room.next }
-        ensures went { WinsRoom program.now space.old self.old words room.fragment room.next space.new self.new }
-        ensures answers { self.new.answers ≡ self.old.answers }
-        ensures stack { self.new.stack ≡ self.old.stack }
-        ensures keeps { KeepsGoing space.old space.new }
-    {
-        let rest = end(space, room.fragment) - room.next;
-        let taken = rest.min(words.max(program.config.buffer as u64));
-        let end = room.next + taken;
-        match exchange_next(space, room.fragment, 8 * room.next, 8 * end) {
-            Ok(()) => {
-                self.from = room.next + words;
-                self.to = end;
-            }
-            Err(_) => unreachable!(),
-        }
-    }
-
-    /// The object test: whether the object in register `r` has this field, and the field is of this sort.
-    fn test(
-        &self,
-        program: &Program,
-        space: &Space,
-        r: u8,
-        field: u64,
-        is_reference: bool,
-    ) -> Tested
-        requires space { IsSpace space.now }
-        requires object { HoldsObject program.now space.now self.now r }
-        ensures { IsTested program.now (words_of space.now) (slice_index self.now.registers r) field (sort_of is_reference) space.now.layout result }
-    {
-        let held = self.held(r);
-        if held == 0 {
-            return Tested::NoObject;
-        }
-        let object = held / 8;
-        let class = plain_class(load_word(space, object)).unwrap();
-        let len = load_word(space, object + 1);
-        if has_field(&shape(program, class).kind, len, field, is_reference) {
-            Tested::At {
-                place: object + 2 + field,
-            }
-        } else {
-            Tested::NoField
-        }
-    }
-
-    /// The word in register `r`.
-    fn held(&self, r: u8) -> u64
-        requires { r < 16 }
-        ensures { result ≡ slice_index self.now.registers r }
-    {
-        self.registers[r as usize]
-    }
-
-    /// The offset beside register `r`.
-    fn beside(&self, r: u8) -> u64
-        requires { r < 16 }
-        ensures { result ≡ slice_index self.now.offsets r }
-    {
-        self.offsets[r as usize]
-    }
-
-    /// Register `d` becomes this word. The offset beside it, the answers and the stack stay.
-    pub fn set(&mut self, d: u8, word: u64)
-        requires { d < 16 }
-        ensures set { (script : List Statement) → actor_of self.new script ≡ record (actor_of self.old script) { reg = put (actor_of self.old script).reg d word } }
-        ensures answers { self.new.answers ≡ self.old.answers }
-        ensures stack { self.new.stack ≡ self.old.stack }
-    {
-        self.registers[d as usize] = word;
-    }
-
-    /// The offset beside register `d` becomes this one.
-    fn set_beside(&mut self, d: u8, offset: u64)
-        requires { d < 16 }
-        ensures set { (script : List Statement) → actor_of self.new script ≡ record (actor_of self.old script) { offset = put (actor_of self.old script).offset d offset } }
-        ensures answers { self.new.answers ≡ self.old.answers }
-        ensures stack { self.new.stack ≡ self.old.stack }
-    {
-        self.offsets[d as usize] = offset;
-    }
-
-    /// The statement has this answer.
-    fn say(&mut self, answer: Answer)
-        requires { HasSpareRoom self.old }
-        ensures said { (script : List Statement) → actor_of self.new script ≡ over (actor_of self.old []) script (actor_of self.old []).reg answer }
-        ensures answers { IsNext self.old self.new }
-    {
-        if self.answers.push(answer).is_err() {
-            unreachable!();
-        }
-    }
-
-    /// Register `d` becomes this word, and the statement has this answer.
-    fn tell(&mut self, d: u8, word: u64, answer: Answer)
-        requires d { d < 16 }
-        requires answers { HasSpareRoom self.old }
-        ensures told { (script : List Statement) → actor_of self.new script ≡ over (actor_of self.old []) script (put (actor_of self.old []).reg d word) answer }
-        ensures answers { IsNext self.old self.new }
-    {
-        self.set(d, word);
-        self.say(answer);
-    }
-
-    /// Register `d` becomes this word, with this offset beside it, and the statement has this answer.
-    fn tell_inner(&mut self, d: u8, word: u64, offset: u64, answer: Answer)
-        requires d { d < 16 }
-        requires answers { HasSpareRoom self.old }
-        ensures told { (script : List Statement) → actor_of self.new script ≡ over_with (actor_of self.old []) script (put (actor_of self.old []).reg d word) (put (actor_of self.old []).offset d offset) (actor_of self.old []).stack answer }
-        ensures answers { IsNext self.old self.new }
-    {
-        self.set_beside(d, offset);
-        self.tell(d, word, answer);
-    }
-}
-
-/// The shape of the objects of this class.
-pub fn shape(program: &Program, class: u16) -> Shape
-    requires { class < length program.now.classes }
-    ensures { result ≡ shape_of program.now class }
-{
-    program.classes.as_slice()[class as usize].shape
-}
-
-/// Whether an object of `len` fields has this field, and the field is of this sort.
-fn has_field(kind: &Descriptor, len: u64, field: u64, is_reference: bool) -> bool
-    requires { len < 2 ^ 32 }
-    ensures { result ≡ field_of_sort (sort_of is_reference) kind.now len field }
-{
-    field < len && kind.is_ref(field as u32, len as u32) == is_reference
-}
-
-/// The answer with the object that a word refers to.
-fn reference(word: u64) -> Answer
-    requires { IsReference word }
-    ensures { result ≡ reference_answer word }
-{
-    match Addr::of(word) {
-        Some(at) => Answer::At(at),
-        None => Answer::Nil,
-    }
-}
-
-/// Asks the mutators to stop, and so for this.
-fn ask(space: &mut Space, request: Request) -> Request
-    ensures asked { space.new ≡ record space.old { stop = 1 } }
-    ensures request { result ≡ request }
-{
-    space.set_stopping(true);
-    request
 }

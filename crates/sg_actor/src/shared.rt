@@ -7,7 +7,7 @@ ghost use Rattle.sg_words.specs.Words.{read, write, Saw, after_step};
 ghost use Rattle.sg_program.specs.Scripts.{words_for};
 ghost use Rattle.sg_words.specs.Sections.{IsInSection};
 ghost use Rattle.sg_space.specs.Space.{Contents, words_of, IsContents};
-ghost use Rattle.sg_actor.specs.Views.{constants_of, IsSpace, KeepsSpace, KeepsGoing, HasByteAddresses, FindsRoom, FindsNoRoom, StoresHeader, headed, HoldsNew, HasNowhere};
+ghost use Rattle.sg_actor.specs.Views.{constants_of, EndsInside, KeepsSpace, KeepsGoing, HasByteAddresses, FindsRoom, FindsNoRoom, StoresHeader, headed, HoldsNew, HasNowhere};
 
 use sg_space::Space;
 use sg_words::{Addr, Tag, write_tag};
@@ -110,7 +110,8 @@ pub(crate) fn store_header(space: &mut Space, number: u64, class: u16, fields: u
 /// no mutator is at work: the object's byte address. Its header is written. `None` where no fragment has room.
 /// Linear in the fragments.
 pub fn place(space: &mut Space, class: u16, fields: u32) -> Option<Addr>
-    requires space { IsSpace space.old }
+    requires space { IsContents space.old }
+    requires ends { EndsInside space.old }
     requires bytes { HasByteAddresses space.old }
     requires class { class < 256 }
     requires fields { fields ≤ 62 }

@@ -10,8 +10,8 @@ mod reports;
 
 pub use laws::{ends_behind_last, keeps_pointed_into, one_report, quiet_pause};
 pub use names::names_are_pairs;
-pub use reports::{EpochReport, Leave, MinorReport, Part, Service, StopReport};
+pub use reports::{EpochReport, MinorReport, Part, Service, StopReport};
 pub use sg_program::{
-    Answer, Class, Config, Item, Name, Program, Request, Script, Statement, script_finals,
+    Answer, Class, Config, Item, Leave, Name, Program, Request, Script, Statement, script_finals,
     script_total, total,
 };

@@ -1,14 +1,5 @@
-use sg_program::{Answer, Request};
+use sg_program::{Answer, Leave};
 use sg_words::{Addr, List, Move, Piece};
-
-/// How a mutator leaves an epoch.
-#[derive(Clone, Copy, Debug, PartialEq, Eq)]
-pub enum Leave {
-    /// No statement is left.
-    Ended,
-    /// It asks for this.
-    Wants(Request),
-}
 
 /// What one mutator did in an epoch.
 #[derive(Debug, Drop)]

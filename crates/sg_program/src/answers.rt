@@ -31,3 +31,12 @@ pub enum Request {
     /// A minor pause.
     Minor,
 }
+
+/// How a mutator leaves an epoch.
+#[derive(Clone, Copy, Debug, PartialEq, Eq)]
+pub enum Leave {
+    /// No statement is left.
+    Ended,
+    /// It asks for this.
+    Wants(Request),
+}

@@ -10,7 +10,7 @@ mod laws;
 pub mod limits;
 mod program;
 
-pub use answers::{Answer, Request};
+pub use answers::{Answer, Leave, Request};
 pub use counts::{script_finals, script_total, total};
 pub use laws::{items_do_what_is_written, items_unfold};
 pub use program::{Class, Config, Item, Name, Program, Script, Statement};

@@ -1,5 +1,5 @@
 -- What the next statement of a mutator rests on, and what a stop's answer leaves of a mutator.
-use Rattle.std.specs.Prelude.{◌≡◌, ◌≢◌, ℕ, ◌+◌, ◌-◌, ◌%◌, ◌<◌, ◌≤◌, ◌⊎◌, true, false, List, length}
+use Rattle.std.specs.Prelude.{◌≡◌, ◌≢◌, ℕ, ◌+◌, ◌-◌, ◌%◌, ◌<◌, ◌≤◌, ◌⊎◌, true, false, Option, Some, None, List, length}
 use Rattle.sg_words.specs.Address.{byte_at}
 use Rattle.sg_words.specs.Tags.{plain_word}
 use Rattle.sg_words.specs.Words.{put, Words}
@@ -87,17 +87,25 @@ IsRequestOf p (NewV r class count) (Need words) = words ≡ made_words p (NewV r
 IsRequestOf p (Collect false) Minor = Unit {0}
 IsRequestOf p s request = ⊥
 
--- the registers after a statement that asked was answered: a new object's address stands in its register, or no object
-abbrev pub reg_served : Statement → Answer → (ℕ → ℕ) → ℕ → ℕ
-reg_served (New r class) (At a) reg = put reg r a
-reg_served (New r class) answer reg = put reg r 0
-reg_served (NewV r class count) (At a) reg = put reg r a
-reg_served (NewV r class count) answer reg = put reg r 0
-reg_served s answer reg = reg
+-- the register that the answer to a statement which asked sets, where it sets one
+abbrev pub answered_register : Statement → Option ℕ
+answered_register (New r class) = Some r
+answered_register (NewV r class count) = Some r
+answered_register s = None
+
+-- the word of the object in an answer, or 0 where it has none
+abbrev pub word_in : Answer → ℕ
+word_in (At a) = a
+word_in answer = 0
+
+-- the registers with this word in this one, where it is one
+abbrev pub with_word : Option ℕ → ℕ → (ℕ → ℕ) → ℕ → ℕ
+with_word None word reg = reg
+with_word (Some r) word reg = put reg r word
 
 -- the mutator before these statements, after the one with which it left was answered
 abbrev pub served : Actor → Statement → List Statement → Answer → Actor
-served a s rest answer = record a { reg = reg_served s answer a.reg; script = rest; mid = Idle }
+served a s rest answer = record a { reg = with_word (answered_register s) (word_in answer) a.reg; script = rest; mid = Idle }
 
 -- a statement that asks gets such an answer at a stop
 abbrev pub IsServiceOf : Statement → Answer → Type 0

@@ -7,8 +7,8 @@ use Rattle.sg_program.specs.declared.program.Statement.{Statement}
 use Rattle.sg_program.specs.declared.program.Statement.TheVariants.{New, NewV, Collect}
 use Rattle.sg_program.specs.declared.program.Program.{Program}
 use Rattle.sg_program.specs.declared.answers.Answer.{Answer}
-use Rattle.sg_graph.specs.declared.reports.Leave.{Leave}
-use Rattle.sg_graph.specs.declared.reports.Leave.TheVariants.{Ended, Wants}
+use Rattle.sg_program.specs.declared.answers.Leave.{Leave}
+use Rattle.sg_program.specs.declared.answers.Leave.TheVariants.{Ended, Wants}
 use Rattle.sg_program.specs.declared.answers.Request.{Request}
 use Rattle.sg_program.specs.declared.answers.Request.TheVariants.{Need, Minor}
 use Rattle.sg_graph.specs.declared.reports.Part.{Part}

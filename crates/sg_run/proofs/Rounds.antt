@@ -7,8 +7,8 @@ use Rattle.sg_program.specs.declared.program.Script.{Script}
 use Rattle.sg_program.specs.declared.program.Class.{Class}
 use Rattle.sg_program.specs.declared.program.Program.{Program}
 use Rattle.sg_program.specs.declared.answers.Request.{Request}
-use Rattle.sg_graph.specs.declared.reports.Leave.{Leave}
-use Rattle.sg_graph.specs.declared.reports.Leave.TheVariants.{Ended, Wants}
+use Rattle.sg_program.specs.declared.answers.Leave.{Leave}
+use Rattle.sg_program.specs.declared.answers.Leave.TheVariants.{Ended, Wants}
 use Rattle.sg_graph.specs.declared.reports.EpochReport.{EpochReport}
 use Rattle.sg_graph.specs.declared.reports.StopReport.{StopReport}
 use Rattle.sg_program.specs.Scripts.{script_of, written_out, statements_at}

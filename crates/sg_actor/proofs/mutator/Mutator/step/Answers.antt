@@ -1,24 +1,43 @@
-use Rattle.std.proofs.Common.{◌≡◌, ◌∙◌, false, ◌∷◌, ap, sym, subst, rules}
-use Rattle.sg_program.specs.declared.program.Statement.TheVariants.{Collect}
-use Rattle.sg_program.specs.declared.answers.Request.TheVariants.{Minor}
-use Rattle.sg_space.specs.Space.{words_of}
-use Rattle.sg_rules.specs.Rules.{within, Left, Went}
-use Rattle.sg_actor.specs.Views.{constants_of, actor_of, IsRequestOf}
-use Rattle.sg_actor.proofs.Steps.{went_minor, went_leaves}
+use Rattle.std.proofs.Common.{subst}
+use Rattle.sg_actor.specs.declared.mutator.Stage.TheVariants.{Asking}
+use Rattle.sg_actor.specs.State.{Mutating, seen, HasStepped}
+use Rattle.sg_actor.proofs.Mutators.{between_now, space_now, may_now, can_go, makes_in, steps_on, steps_out, whole_out}
 use Rattle.sg_actor.proofs.mutator.Mutator.step.Goals as goal
 
-pub returns-in-Collect-false-clause-done : goal.returns-in-Collect-false-clause-done
-returns-in-Collect-false-clause-done c =
-    let p = c.args.program.now in
+pub step-requires-clause-can : goal.step-requires-clause-can
+step-requires-clause-can c =
+    let i = c.self.inside in
     let s = c.args.space.now in
-    let m = c.args.self.now in
-    let lay = constants_of s in
-    let is : c.args.statement ≡ Collect false = c.in-Collect-false.is ∙ ap (λ b. Collect b) c.in-Collect-false.major-test in
-    record {
-      went = λ rest. let a = actor_of m rest in
-          subst (λ statement. Went p lay (actor_of m (statement ∷ rest)) (words_of s) (within a rest (Left statement)) (words_of c.ask.new.space)) (sym is)
-          (went_minor p lay a rest (words_of s) c.requires.can.0 _ _ (went_leaves p lay a rest (words_of s) (Collect false) _ (ap words_of c.ask.ensures.asked)));
-      fits = subst (λ q. IsRequestOf p c.args.statement q) (sym c.ask.ensures.request) (subst (λ statement. IsRequestOf p statement Minor) (sym is) tt);
-      space = search rules;
-      mutator = search rules;
-    }
+    let next = c.in-Some.ensures in
+    can_go i.program.now s i.hands i.cursor c.in-Some.statement (space_now i.program.now i.number i.first i.stage i.hands i.cursor c.args.self.now c.self.view_is s c.requires.space) c.self.invariant.classes c.requires.going
+    (may_now i.program.now i.number i.first i.stage i.hands i.cursor c.args.self.now c.self.view_is s c.requires.between c.requires.may c.in-Some.statement next.0 next.1)
+
+pub invariant_of-self-in-Some-step : goal.invariant_of-self-in-Some-step
+invariant_of-self-in-Some-step c =
+    let i = c.self.inside in
+    let s = c.args.space.now in
+    let next = c.in-Some.ensures in
+    let between = between_now i.program.now i.number i.first i.stage i.hands i.cursor c.args.self.now c.self.view_is s c.requires.between in
+    let may = may_now i.program.now i.number i.first i.stage i.hands i.cursor c.args.self.now c.self.view_is s c.requires.between c.requires.may c.in-Some.statement next.0 next.1 in
+    whole_out i.program.now i.number i.first i.stage i.hands c.step.new.self c.in-Some.statement c.in-Some-step.request next.0 i.cursor c.advance.new.self between next.1
+    (c.advance.ensures c.in-Some.statement next.0 next.1) (makes_in i.program.now c.in-Some.statement may.runnable) c.in-Some-step.ensures.done.mutator c.self.invariant
+
+pub returns-in-Some-step : goal.returns-in-Some-step
+returns-in-Some-step c =
+    let i = c.self.inside in
+    let s = c.args.space.now in
+    let next = c.in-Some.ensures in
+    let between = between_now i.program.now i.number i.first i.stage i.hands i.cursor c.args.self.now c.self.view_is s c.requires.between in
+    subst (λ (m : Mutating). HasStepped s m c.step.new.space (seen i.program.now i.number i.first (Asking c.in-Some.statement c.in-Some-step.request) c.step.new.self c.advance.new.self)) c.self.view_is
+    (steps_out i.program.now i.number i.first i.stage s c.step.new.space i.hands c.step.new.self c.in-Some.statement c.in-Some-step.request next.0 i.cursor c.advance.new.self between next.1
+    (c.advance.ensures c.in-Some.statement next.0 next.1) c.in-Some-step.ensures.done c.step.ensures.keeps)
+
+pub returns-in_default-step : goal.returns-in_default-step
+returns-in_default-step c =
+    let i = c.self.inside in
+    let s = c.args.space.now in
+    let next = c.in-Some.ensures in
+    let between = between_now i.program.now i.number i.first i.stage i.hands i.cursor c.args.self.now c.self.view_is s c.requires.between in
+    subst (λ (m : Mutating). HasStepped s m c.step.new.space (seen i.program.now i.number i.first i.stage c.step.new.self c.advance.new.self)) c.self.view_is
+    (steps_on i.program.now i.number i.first i.stage s c.step.new.space i.hands c.step.new.self c.in-Some.statement next.0 i.cursor c.advance.new.self between next.1
+    (c.advance.ensures c.in-Some.statement next.0 next.1) c.in_default-step.ensures.done c.step.ensures.keeps)
