@@ -64,7 +64,7 @@ listed xs n f l e = listed_from xs 0 f (λ r. e r ∙ ap f (let q : r ≡ 0 + r 
 abbrev filter_one : Bool → List ℕ
 filter_one e = filter (λ k. not e) (0 ∷ [])
 
-beyond : (xs : List ℕ) (r : ℕ) → length xs ≤ r → get_or xs r 0 ≡ 0
+pub beyond : (xs : List ℕ) (r : ℕ) → length xs ≤ r → get_or xs r 0 ≡ 0
 beyond [] r l = refl
 beyond (x ∷ xs) zero l = absurd (omega arith)
 beyond (x ∷ xs) (suc r) l = beyond xs r (omega arith)
@@ -74,7 +74,7 @@ map_append : {A B : Type 0} (f : A → B) (xs ys : List A) → map f (xs ++ ys) 
 map_append f [] ys = refl
 map_append f (x ∷ xs) ys = ap (λ zs. f x ∷ zs) (map_append f xs ys)
 
-map_reverse : {A B : Type 0} (f : A → B) (xs : List A) → reverse (map f xs) ≡ map f (reverse xs)
+pub map_reverse : {A B : Type 0} (f : A → B) (xs : List A) → reverse (map f xs) ≡ map f (reverse xs)
 map_reverse f [] = refl
 map_reverse f (x ∷ xs) =
     reverse-append (f x ∷ []) (map f xs) ∙ ap (λ ys. ys ++ f x ∷ []) (map_reverse f xs) ∙ sym (map_append f (reverse xs) (x ∷ [])) ∙ ap (map f) (sym (reverse-append (x ∷ []) xs))

@@ -25,7 +25,7 @@ use Rattle.sg_order.specs.Rest.{IsReady, before_it}
 use Rattle.sg_order.specs.OneOrder.{IsSoFar}
 use Rattle.sg_actor.specs.declared.mutator.Stage.{Stage}
 use Rattle.sg_actor.specs.declared.mutator.Stage.TheVariants.{Between, Ended as HasEnded, Asking}
-use Rattle.sg_actor.specs.State.{Mutating, actor_of, leave_of, waiting, IsSameMutator}
+use Rattle.sg_actor.specs.State.{actor_of, waiting, IsCounted, IsSameMutator}
 use Rattle.sg_actor.specs.Views.{constants_of, KeepsSpace, HoldsNew, HasNowhere}
 use Rattle.sg_parse.specs.Invariants.{IsAcceptedProgram}
 use Rattle.sg_run.specs.declared.world.World.{World}
@@ -41,7 +41,8 @@ pub record IsWorldOf (p : Program) (world : World) : Type 0 where
   pub owner : world.mutator.program ≡ p
   pub mutator : world.mutator.number ≡ 0
   pub contents : IsContents world.space
-  pub counted : world.number ≤ world.mutator.first
+  pub counted : IsCounted world.mutator
+  pub numbered : world.number ≤ world.mutator.first
 
 -- these phases have led to the world, and an epoch comes next
 pub record IsBetween (p : Program) (phases : List Phase) (world : World) : Type 0 where
@@ -103,6 +104,12 @@ pub record HasGone (p : Program) (world after : World) : Type 0 where
   pub first : after.mutator.first ≡ world.mutator.first
   pub reason : HasReason p after.mutator.stage after.mutator.script
   pub shorter : waiting after.mutator.stage + length after.mutator.script ≤ length world.mutator.script
+
+-- 1 where the mutator is still at work in its epoch
+abbrev pub at_work : Stage → ℕ
+at_work Between = 1
+at_work HasEnded = 0
+at_work (Asking statement request) = 0
 
 abbrev pub is_end : Leave → Bool
 is_end Ended = true

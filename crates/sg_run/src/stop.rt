@@ -12,7 +12,7 @@ ghost use Rattle.sg_minor.specs.Law.{HasPaused};
 ghost use Rattle.sg_minor.specs.Parts.{HoldsSome};
 ghost use Rattle.sg_rules.specs.Resting.{IsRunnable, IsRequestOf};
 ghost use Rattle.sg_actor.specs.State.{DropsBuffer};
-ghost use Rattle.sg_actor.specs.Views.{EndsInside, HasByteAddresses};
+ghost use Rattle.sg_actor.specs.Views.{EndsInside, HasByteAddresses, KeepsGoing};
 ghost use Rattle.sg_run.specs.Stopping.{words_in, CanServe, HasAnswered};
 ghost use Rattle.sg_run.specs.Worlds.{IsMade, IsServing};
 
@@ -49,20 +49,18 @@ pub(crate) fn pause(
 pub(crate) fn serve(program: &Program, space: &mut Space, mutator: &mut Mutator<'_>) -> Service
     requires { CanServe program.now space.old mutator.old }
     ensures answered { HasAnswered program.now space.old mutator.old result space.new mutator.new }
-    ensures going { space.new.stop ≡ space.old.stop }
+    ensures keeps { KeepsGoing space.old space.new }
 {
     let Some(asking) = mutator.asking() else {
         unreachable!();
     };
-    let number = mutator.number();
-    let statement = mutator.first() + mutator.answers().len() as u32;
-    let answer = answer_to(program, space, asking);
-    mutator.serve(answer);
-    Service {
-        mutator: number,
-        statement,
-        answer,
-    }
+    let service = Service {
+        mutator: mutator.number(),
+        statement: mutator.first() + mutator.answers().len() as u32,
+        answer: answer_to(program, space, asking),
+    };
+    mutator.serve(service.answer);
+    service
 }
 
 /// The answer to a statement that asked for a stop.
@@ -74,7 +72,7 @@ fn answer_to(program: &Program, space: &mut Space, asking: Statement) -> Answer
     requires run { IsRunnable program.now asking }
     requires asks { (request : Request) × IsRequestOf program.now asking request }
     ensures served { IsServing program.now space.old asking result space.new }
-    ensures going { space.new.stop ≡ space.old.stop }
+    ensures keeps { KeepsGoing space.old space.new }
 {
     match asking {
         Statement::New { class, .. } => make(space, class, fields_of(program, class)),
@@ -92,7 +90,7 @@ fn make(space: &mut Space, class: u16, fields: u32) -> Answer
     requires class { class < 256 }
     requires fields { fields ≤ 62 }
     ensures made { IsMade space.old class fields result space.new }
-    ensures going { space.new.stop ≡ space.old.stop }
+    ensures keeps { KeepsGoing space.old space.new }
 {
     match place(space, class, fields) {
         Some(at) => Answer::At(at),

@@ -2,7 +2,8 @@
 ghost use Rattle.std.specs.Prelude.{◌≡◌, ◌≢◌, ◌≤◌, List, map, string_bytes, IsFalse, IfOk, IfErr, IfSome};
 ghost use Rattle.std.specs.Io.KnownBytes.{IsAtEnd};
 ghost use Rattle.sg_parse.specs.declared.refusal.Refusal.{Refusal as AnyRefusal};
-ghost use Rattle.sg_parse.specs.Accepted.{IsAccepted, IsAcceptedAs, IsAcceptedProgram};
+ghost use Rattle.sg_parse.specs.Accepted.{IsAccepted, IsAcceptedAs};
+ghost use Rattle.sg_parse.specs.Invariants.{IsAcceptedProgram};
 ghost use Rattle.sg_run.specs.Ends.{ends_of};
 ghost use Rattle.sg_run.specs.Input.{StopsReading};
 ghost use Rattle.sg_run.specs.declared.command.Job.TheVariants.{Run};

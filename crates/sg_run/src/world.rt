@@ -1,5 +1,5 @@
 // A run of a program, epoch by epoch.
-ghost use Rattle.std.specs.Prelude.{◌≡◌, ◌+◌, ◌<◌, ◌≤◌, ◌++◌, Some, List as Sequence, [], ◌∷◌, length, IfOk, map};
+ghost use Rattle.std.specs.Prelude.{◌≡◌, false, ℕ, ◌+◌, ◌<◌, ◌≤◌, ◌++◌, Some, List as Sequence, [], ◌∷◌, length, IfOk, map};
 ghost use Rattle.sg_program.specs.declared.program.Class.{Class as AnyClass};
 ghost use Rattle.sg_program.specs.declared.program.Program.{Program as AnyProgram};
 ghost use Rattle.sg_graph.specs.declared.reports.EpochReport.{EpochReport as AnyEpoch};
@@ -12,8 +12,13 @@ ghost use Rattle.sg_run.specs.Worlds.{IsBetween, IsAtStop, ComesTo, IsInEpoch, H
 use crate::stop::{pause, serve};
 use sg_actor::Mutator;
 use sg_desc::Shape;
-use sg_graph::{Class, Config, EpochReport, Leave, Part, Program, StopReport};
-use sg_order::{first_opening, goes_so_far, held_is_sound, held_whoever, opens_so_far, orders_so_far, stays_ready};
+use sg_graph::{Class, Config, EpochReport, Leave, Part, Program, StopReport, keeps_pointed_into};
+use sg_order::{
+    first_opening, goes_so_far, held_is_sound, held_whoever, opens_so_far, orders_so_far,
+    runnable_makes, serves_ready, stays_ready,
+};
+use sg_program::items_do_what_is_written;
+use sg_rules::built_runs;
 use sg_space::{Layout, Space};
 use sg_words::List;
 use std::alloc::{AllocError, Global};
@@ -35,8 +40,10 @@ impl<'a> World<'a> {
         requires { IsAcceptedProgram program.now }
         ensures { IfOk result (IsBetween program.now []) }
     {
-        // The law that it rests on: this call does nothing.
+        // The laws that it rests on: these calls do nothing.
         first_opening();
+        items_do_what_is_written();
+        built_runs();
         let shapes = shapes_of(alloc, program.classes.as_slice())?;
         Ok(World {
             program,
@@ -53,6 +60,7 @@ impl<'a> World<'a> {
         ensures comes { IfOk result (λ report. (p : AnyProgram) (phases : Sequence Phase) → IsBetween p phases self.old → ComesTo p phases report self.new) }
         ensures ahead { IfOk result (λ report. report.last ≡ false → length self.new.mutator.script < length self.old.mutator.script) }
     {
+        // The laws that it rests on: these calls do nothing.
         orders_so_far();
         stays_ready();
         held_is_sound();
@@ -84,7 +92,7 @@ impl<'a> World<'a> {
         opens_so_far();
         goes_so_far();
         orders_so_far();
-        loop {
+        'steps: loop {
             if let Some(leave) = self.mutator.leave() {
                 return leave;
             }
@@ -99,6 +107,12 @@ impl<'a> World<'a> {
             IsAtStop p phases report order swept self.entry → IsBetween p (phases ++ Epoch report order swept ∷ Stop r.1 ∷ []) r.0) }
         ensures ahead { IfOk result (λ r. length r.0.mutator.script ≤ length self.entry.mutator.script) }
     {
+        // The laws that it rests on: these calls do nothing.
+        keeps_pointed_into();
+        stays_ready();
+        serves_ready();
+        held_is_sound();
+        runnable_makes();
         let mut mutator = self.mutator;
         let (space, minor) = pause(alloc, self.space, &mut mutator)?;
         let mut space = space;
