@@ -431,3 +431,9 @@ begins law p accepted scripts world shapes named space contents program owner ow
     same_actors (suc k) =
         let none : script_of p (suc k) ≡ [] = ap statements_at (beyond_none p.mutators (suc k) (let o = one_mutator p accepted in omega arith)) in
         put-other (λ _. fresh []) 0 (actor_of world.mutator) (suc k) (λ e. absurd (omega arith)) ∙ ap fresh (sym none)
+
+-- who has left and hasn't ended waits for an answer
+pub wants_waiting : (stage : Stage) (leave : Leave) → leave_of stage ≡ Some leave → is_end leave ≡ false → waiting stage ≡ 1
+wants_waiting Between leave e f = absurd (cc e)
+wants_waiting HasEnded leave e f = absurd (let q : true ≡ false = ap is_end (same_Some Ended leave e) ∙ f in cc q)
+wants_waiting (Asking statement request) leave e f = refl
