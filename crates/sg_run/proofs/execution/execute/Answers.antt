@@ -42,8 +42,8 @@ returns-in_err-world-clause-front g c =
     (text_epoch (g.O.Sink.taken c.args.sink.now) (g.O.Sink.taken c.loop-world.sink) (g.O.Sink.taken c.write_epoch.new.sink) i.0 w.0 comes.0 comes.1 i.2 w.3)
     (c.in_err-world.ensures.front p i.0 w.0 comes.0 comes.1 t))
 
-pub write_stop-world-requires : goal.write_stop-world-requires
-write_stop-world-requires g c =
+pub write_stop-requires : goal.write_stop-requires
+write_stop-requires g c =
     let p = c.args.program.now in
     let i = c.loop-world.invariant in
     let w = c.in_ok-last.ensures.written in
