@@ -1,5 +1,5 @@
 -- From the sentences of a text to what it reads as, and to its first fault.
-use Rattle.std.proofs.Common.{◌≡◌, ◌≢◌, ℕ, zero, suc, ◌<◌, ◌≤◌, ◌⊎◌, Some, List, [], ◌∷◌, length, take, slice_get, inl, inr, refl, sym, ap, ◌∙◌, subst, arith}
+use Rattle.std.proofs.Common.{◌≡◌, ◌≢◌, ℕ, suc, ◌<◌, ◌≤◌, Some, List, [], ◌∷◌, length, take, slice_get, inl, inr, refl, sym, ap, ◌∙◌, subst, arith}
 use Rattle.std.specs.Prelude.{Result, Ok, Err, IfOk, IfErr}
 use Rattle.std.specs.List.{AllByRecursion}
 use Rattle.sg_program.specs.declared.program.Program.{Program}
@@ -8,7 +8,7 @@ use Rattle.sg_program.specs.Laws.{ItemsUnfold}
 use Rattle.sg_program.specs.Invariants.{IsWithinLimits}
 use Rattle.sg_text.specs.Words.{lines_of}
 use Rattle.sg_text.specs.Lines.{Sentence, Begins}
-use Rattle.sg_text.specs.Numbered.{Numbered, sentences, SayBelow, Say}
+use Rattle.sg_text.specs.Numbered.{Numbered, sentences, SayBelow}
 use Rattle.sg_text.specs.Reading.{numbered, AreRead}
 use Rattle.sg_text.specs.Laws.{HaveOneSaying}
 use Rattle.sg_grammar.specs.Text.{IsProgram, IsWholeText, IsTextOf, StandsFor, HasOneReading}

@@ -1,15 +1,14 @@
 -- From what lines say to which line is refused first.
-use Rattle.std.proofs.Common.{◌≡◌, ℕ, zero, suc, ◌+◌, ◌<◌, ◌≤◌, true, false, Some, None, IsTrue, List, [], ◌∷◌, ◌++◌, length, take, drop, map, slice_get, codes, inl, inr, refl, sym, ap, ◌∙◌, subst, arith}
+use Rattle.std.proofs.Common.{◌≡◌, ℕ, zero, suc, ◌+◌, ◌<◌, true, false, Some, List, [], ◌∷◌, ◌++◌, length, take, slice_get, codes, inl, inr, refl, sym, ap, ◌∙◌, subst, arith}
 use Rattle.std.proofs.lemmas.List.{map-append, length-take, take-take}
 use Rattle.std.proofs.lemmas.Option.{none-some, same_Some}
 use Rattle.sg_program.specs.Scripts.{repeated}
-use Rattle.sg_program.specs.declared.program.Program.{Program}
-use Rattle.sg_text.specs.Words.{is_proper, words_of, is_empty}
-use Rattle.sg_text.specs.Lines.{Sentence, Heads, Ends, IsLine}
+use Rattle.sg_text.specs.Words.{is_empty}
+use Rattle.sg_text.specs.Lines.{Sentence, Heads, Ends}
 use Rattle.sg_text.specs.Numbered.{Numbered, sentences, SayBelow, Say}
 use Rattle.sg_text.specs.Reading.{IsNoLine}
 use Rattle.sg_text.specs.Laws.{HaveOneSaying}
-use Rattle.sg_grammar.specs.Text.{IsProgram, IsAnyName, defaults, IsWholeText, IsPrefix, CanGoOn, IsText, MayGoOn, IsFirstRefused}
+use Rattle.sg_grammar.specs.Text.{defaults, IsWholeText, IsPrefix, CanGoOn, IsText, MayGoOn, IsFirstRefused}
 
 abbrev pub at : ℕ → Sentence → Numbered
 at number sentence = record { number = number; sentence = sentence }

@@ -1,10 +1,10 @@
 -- Why a text isn't read, by what the scan and the order of its sentences say.
-use Rattle.std.proofs.Common.{◌≡◌, ℕ, zero, suc, ◌<◌, ◌≤◌, Some, List, [], ◌∷◌, ◌++◌, length, take, map, slice_get, refl, sym, ap, ◌∙◌, subst, inr, arith}
+use Rattle.std.proofs.Common.{◌≡◌, ℕ, zero, suc, ◌<◌, Some, List, [], ◌∷◌, length, take, slice_get, refl, sym, ap, ◌∙◌, subst, inr, arith}
 use Rattle.std.proofs.lemmas.List.{append-nil}
 use Rattle.std.proofs.lemmas.Option.{none-some, same_Some}
 use Rattle.sg_text.specs.Lines.{Sentence}
 use Rattle.sg_text.specs.Numbered.{Numbered, sentences}
-use Rattle.sg_text.specs.Reading.{numbered, AreRead, IsScan}
+use Rattle.sg_text.specs.Reading.{numbered, IsScan}
 use Rattle.sg_text.specs.declared.scanner.Extent.{Extent}
 use Rattle.sg_text.specs.declared.scanner.Extent.TheVariants.{Whole, Above}
 use Rattle.sg_text.specs.Laws.{HaveOneSaying}

@@ -4,7 +4,7 @@ use Rattle.sg_text.specs.declared.line.Line.{Line}
 use Rattle.sg_text.specs.Words.{lines_of}
 use Rattle.sg_text.specs.Lines.{Sentence}
 use Rattle.sg_text.specs.Reading.{sentence_of, IsScan}
-use Rattle.sg_grammar.specs.Text.{IsWholeText, IsPrefix, CanGoOn, IsFirstRefused}
+use Rattle.sg_grammar.specs.Text.{IsWholeText, IsPrefix, CanGoOn}
 use Rattle.sg_parse.proofs.Refused.{as_many_numbers, at_misplaced, at_wrong, at_wrong_whole, at_end}
 use Rattle.sg_parse.proofs.program.sentences.Goals as goal
 
