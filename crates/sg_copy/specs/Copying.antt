@@ -1,7 +1,7 @@
 -- What the code of a copier works on, and what it does with one slot.
 use Rattle.std.specs.Prelude.{◌≡◌, ◌≢◌, ℕ, ◌+◌, ◌-◌, ◌<◌, ◌≤◌, Bool, false, Option, Some, None, List, [], ◌∷◌, ◌++◌, map, length, slice_get}
 use Rattle.std.specs.List.{flat_map}
-use Rattle.std.proofs.Common.{ap, ◌∙◌}
+use Rattle.std.proofs.Common.{ap, sym, subst, ◌∙◌}
 use Rattle.sg_words.specs.Address.{IsAddress, byte_at, word_at}
 use Rattle.sg_words.specs.Tags.{plain_word}
 use Rattle.sg_words.specs.declared.pieces.Move.{Move}
@@ -37,6 +37,15 @@ IsStill old new = (new ≡ record old { words = new.words }) × (length new.word
 
 pub still_on : (s t u : Contents) → IsStill s t → IsStill t u → IsStill s u
 still_on s t u h k = (k.0 ∙ ap (λ (z : Contents). record z { words = u.words }) h.0, k.1 ∙ h.1)
+
+pub contents_still : (s t : Contents) → IsStill s t → IsContents s → IsContents t
+contents_still s t h contents = subst IsContents (sym h.0) (record {
+  layout = contents.layout;
+  shapes = contents.shapes;
+  words = h.1 ∙ contents.words;
+  fragments = contents.fragments;
+  few = contents.few;
+})
 
 pub area_still : (s t : Contents) → IsStill s t → area_of t ≡ area_of s
 area_still s t h = ap area_of h.0

@@ -16,7 +16,7 @@ use Rattle.sg_words.specs.Lists.{In, has}
 use Rattle.sg_words.specs.Objects.{size_of}
 use Rattle.sg_words.proofs.Members.{out}
 use Rattle.sg_words.proofs.Objects.{placed-grows, placed-in}
-use Rattle.sg_minor.specs.Pieces.{IsTaken, ArePieces}
+use Rattle.sg_nursery.specs.Pieces.{IsTaken, ArePieces}
 use Rattle.sg_minor.specs.Joined.{IsKept, IsTraced, IsPictured, IsPicture}
 use Rattle.sg_minor.specs.Law.{HaveWords}
 use Rattle.sg_minor.proofs.Ranges.{ranged, ranged-in, ranged-out, ranged-cases}

@@ -11,7 +11,8 @@ use Rattle.sg_graph.specs.Heap.{Owner, Of, layout_of, IsHeap}
 use Rattle.sg_words.specs.Lists.{In}
 use Rattle.sg_words.specs.Objects.{size_of}
 use Rattle.sg_copy.specs.Copying.{IsWhole}
-use Rattle.sg_minor.specs.Joined.{ArePins, HasTagged}
+use Rattle.sg_minor.specs.Joined.{ArePins}
+use Rattle.sg_nursery.specs.Parts.{HasTagged}
 use Rattle.sg_minor.proofs.Named.{common, in-nursery, pin-named, outer, tag-of, first, size-at}
 
 module _ (p : Program) (w : ℕ → ℕ) (g : Graph) (b : Book) (owner : ℕ → Owner) (t : IsHeap p w g b owner) where

@@ -25,7 +25,8 @@ use Rattle.sg_graph.specs.Copies.{IsMovable, name_in, names_in, targets_of, item
 use Rattle.sg_graph.specs.Heap.{Owner, IsKnownEntry, IsOfSort, layout_of, IsHeap}
 use Rattle.sg_copy.specs.Area.{Area, IsYoung, class_of}
 use Rattle.sg_copy.specs.Order.{is_plain, target, targets, slots_of, leads, Fits}
-use Rattle.sg_minor.specs.Joined.{ArePins, HasTagged, global_slots, slots_of_name, slots_outside, is_young_word, holds_young}
+use Rattle.sg_minor.specs.Joined.{ArePins, global_slots, slots_of_name, slots_outside, is_young_word, holds_young}
+use Rattle.sg_nursery.specs.Parts.{HasTagged}
 use Rattle.sg_minor.proofs.Areas.{area_for}
 use Rattle.sg_minor.proofs.Names.{ref-of}
 use Rattle.sg_minor.proofs.Named.{field_refers, common, young-named, in-nursery, nursery, young-section, inner-field, outer, tag-of, strong, len, first}

@@ -1,13 +1,7 @@
-pub mod Gaps
-pub mod Walk
 pub mod Added
 pub mod Sound
-pub mod Keeping
 pub mod OldSlots
-pub mod Cleaning
-pub mod Tagged
 pub mod Pinned
-pub mod Few
 pub mod Rounded
 pub mod Whole
 pub mod Ranges

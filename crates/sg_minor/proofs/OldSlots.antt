@@ -15,8 +15,7 @@ use Rattle.sg_words.proofs.Members.{in_contains, map_in, in-last, in-before, las
 use Rattle.sg_words.proofs.Sorted.{increasing_push}
 use Rattle.sg_program.specs.declared.program.Program.{Program}
 use Rattle.sg_program.specs.Scripts.{kind_of, fields_of}
-use Rattle.sg_desc.specs.Shapes.{strong_any}
-use Rattle.sg_desc.specs.Shapes.{is_strong as is_strong_by}
+use Rattle.sg_desc.specs.Shapes.{strong_any, is_strong as is_strong_by}
 use Rattle.sg_graph.specs.Graph.{Graph}
 use Rattle.sg_graph.specs.Book.{Book, Old, nursery_end, old_end}
 use Rattle.sg_graph.specs.Copies.{StandsOld}

@@ -12,7 +12,7 @@ use Rattle.sg_space.specs.Standing.{word}
 use Rattle.sg_minor.specs.Holding.{IsSpaceOf, HoldsHeap}
 use Rattle.sg_words.proofs.Fragments.{same_count}
 use Rattle.sg_copy.specs.Copying.{area_of}
-use Rattle.sg_minor.specs.Pieces.{ArePieces}
+use Rattle.sg_nursery.specs.Pieces.{ArePieces}
 use Rattle.sg_minor.specs.Joined.{ArePins, IsEnded}
 use Rattle.sg_minor.specs.Law.{IsReportOf, HaveWords, IsRefitted, HasPaused, PauseLaw}
 use Rattle.sg_minor.proofs.Bounds.{area-of-space}

@@ -9,8 +9,8 @@ use Rattle.sg_words.specs.declared.pieces.Move.{Move}
 use Rattle.sg_space.specs.declared.objects.Object.{Object}
 use Rattle.sg_words.proofs.Sorted.{rising}
 use Rattle.sg_minor.specs.Law.{AreTold, AreToldMoves, HaveWords}
-use Rattle.sg_minor.specs.Pieces.{AreStanding, IsTaken, first_word, word_behind}
-use Rattle.sg_minor.specs.Parts.{IsStaying, AreRounded, AreStaying, AreKept, AreCleaned}
+use Rattle.sg_nursery.specs.Pieces.{AreStanding, IsTaken, first_word, word_behind}
+use Rattle.sg_nursery.specs.Parts.{IsStaying, AreRounded, AreStaying, AreKept, AreCleaned, HasTagged}
 use Rattle.sg_words.specs.Address.{IsAddress, byte_at, word_at}
 use Rattle.sg_words.specs.Tags.{plain_word}
 use Rattle.sg_program.specs.declared.program.Program.{Program}
@@ -32,7 +32,7 @@ use Rattle.sg_copy.specs.Copying.{area_of, IsStill, fields_of, fields_of_all, ar
 use Rattle.sg_words.proofs.Numbers.{word_at-byte_at, is_address}
 use Rattle.sg_words.proofs.Members.{in-flat, in-left, in-right, out, in-cases, in-there, in-here, contains_in, in_contains, in_map, map_in}
 use Rattle.sg_words.proofs.Objects.{placed-in, slots-are}
-use Rattle.sg_minor.specs.Joined.{ArePins, HasSwept, HasTagged, AreSeeds}
+use Rattle.sg_minor.specs.Joined.{ArePins, HasSwept, AreSeeds}
 use Rattle.sg_minor.proofs.Added.{IsSeed, Global, Field, seeds-each}
 use Rattle.sg_minor.proofs.OldSlots.{strong_is, same_object}
 use Rattle.sg_minor.proofs.Sound.{owner_of, named_front, is_owned, owns, owns_first, owned, one_owner, inside, length_is, class_is, young_inside, young_there, few_classes, nursery_is}

@@ -15,7 +15,8 @@ use Rattle.sg_copy.specs.Round.{slots, slots_by}
 use Rattle.sg_copy.specs.Copying.{area_of, fields_of, fields_of_all}
 use Rattle.sg_words.proofs.Members.{in-left, in-right, in-cases, flat-in, in-flat}
 use Rattle.sg_words.proofs.Objects.{slots-in, slots-are}
-use Rattle.sg_minor.specs.Joined.{ArePins, HasTagged, AreSeeds}
+use Rattle.sg_minor.specs.Joined.{ArePins, AreSeeds}
+use Rattle.sg_nursery.specs.Parts.{HasTagged}
 use Rattle.sg_minor.proofs.Added.{IsSeed, Global, Field, seeds-each, seeds-all}
 use Rattle.sg_minor.proofs.Areas.{refers, area_for}
 use Rattle.sg_minor.proofs.Named.{field_refers, pin-named, class-as, refers-as, size-at}

@@ -17,7 +17,7 @@ use Rattle.sg_words.specs.Lists.{In, has}
 use Rattle.sg_words.specs.Objects.{size_of}
 use Rattle.sg_words.proofs.Members.{in-left, in-right, in-cases, not-in}
 use Rattle.sg_words.proofs.Objects.{placed-in}
-use Rattle.sg_minor.specs.Pieces.{IsTaken, IsGap}
+use Rattle.sg_nursery.specs.Pieces.{IsTaken, IsGap}
 use Rattle.sg_minor.specs.Joined.{ArePins, IsKept}
 use Rattle.sg_minor.specs.Law.{IsReportOf}
 use Rattle.sg_minor.proofs.Names.{of-same, some-name, name-some, exactly}

@@ -21,15 +21,15 @@ use Rattle.sg_space.specs.Standing.{word, IsSoundBy, TellsYoung}
 use Rattle.sg_minor.specs.Holding.{HoldsHeap}
 use Rattle.sg_words.specs.Objects.{size_of}
 use Rattle.sg_copy.specs.Image.{IsImage}
-use Rattle.sg_copy.specs.Copying.{area_of, IsStill, CanCopyFrom, HasCopiedTo, fields_of_all, area_still, still_on}
+use Rattle.sg_copy.specs.Copying.{area_of, IsStill, CanCopyFrom, HasCopiedTo, fields_of_all, area_still, still_on, contents_still}
 use Rattle.sg_words.proofs.Members.{out}
 use Rattle.sg_words.proofs.Numbers.{word_at-byte_at}
 use Rattle.sg_pins.specs.Pins.{ArePinned}
-use Rattle.sg_minor.specs.Joined.{ArePins, HasTagged, AreSeeds, IsBegun, IsEnded, JoinLaw}
+use Rattle.sg_minor.specs.Joined.{ArePins, AreSeeds, IsBegun, IsEnded, JoinLaw}
+use Rattle.sg_nursery.specs.Parts.{HasTagged, AreRounded, AreStaying, AreKept, ArePlain}
 use Rattle.sg_minor.specs.Law.{AreTold, HasPaused, PauseLaw}
-use Rattle.sg_minor.specs.Pieces.{ArePieces}
-use Rattle.sg_minor.specs.Parts.{AreRounded, AreStaying, AreKept, ArePlain, HasTraced, HasFinished}
-use Rattle.sg_minor.proofs.Tagged.{contents_still}
+use Rattle.sg_nursery.specs.Pieces.{ArePieces}
+use Rattle.sg_minor.specs.Parts.{HasTraced, HasFinished}
 use Rattle.sg_minor.proofs.Sound.{owner_of, sound_by, class_is, length_is, young_inside, old_inside, nursery_is, blocks_is}
 use Rattle.sg_minor.proofs.Pinned.{are_pins, are_plain}
 use Rattle.sg_minor.proofs.OldSlots.{IsBorder, border_next, first_border, object_here}

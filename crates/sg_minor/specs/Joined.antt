@@ -23,6 +23,7 @@ use Rattle.sg_minor.specs.Holding.{HoldsHeap}
 use Rattle.sg_copy.specs.Area.{Area, IsYoung, is_strong, Points}
 use Rattle.sg_words.specs.Lists.{In, has}
 use Rattle.sg_words.specs.Objects.{strong_slots, size_of, sent, Placed}
+use Rattle.sg_nursery.specs.Parts.{HasTagged}
 use Rattle.sg_copy.specs.Order.{Fits}
 use Rattle.sg_copy.specs.Copying.{area_of, IsStill, CanCopyFrom, HasCopiedTo, fields_of_all}
 
@@ -30,11 +31,6 @@ use Rattle.sg_copy.specs.Copying.{area_of, IsStill, CanCopyFrom, HasCopiedTo, fi
 pub record ArePins (g : Graph) (b : Book) (ambiguous pins : List ℕ) : Type 0 where
   pub each : (a : ℕ) → In a pins → (n : ℕ) × IsPinned g b ambiguous n × (b.address n ≡ a)
   pub all : (n : ℕ) → IsPinned g b ambiguous n → In (b.address n) pins
-
--- the first words of the pinned objects have the tag of pinned ones now
-pub record HasTagged (old : ℕ → ℕ) (pins : List ℕ) (new : ℕ → ℕ) : Type 0 where
-  pub tagged : (a : ℕ) → In a pins → new a ≡ old a + 2
-  pub same : (y : ℕ) → has y pins ≡ false → new y ≡ old y
 
 -- the first n globals' slots, by number
 abbrev pub global_slots : Layout → ℕ → List ℕ

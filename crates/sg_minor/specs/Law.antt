@@ -19,7 +19,7 @@ use Rattle.sg_space.specs.Standing.{word}
 use Rattle.sg_minor.specs.Holding.{HoldsHeap}
 use Rattle.sg_words.specs.Lists.{In}
 use Rattle.sg_words.specs.Objects.{size_of}
-use Rattle.sg_minor.specs.Pieces.{IsTaken, ArePieces}
+use Rattle.sg_nursery.specs.Pieces.{IsTaken, ArePieces}
 use Rattle.sg_minor.specs.Joined.{ArePins, IsEnded}
 
 -- the list has exactly the byte addresses of these words, by address

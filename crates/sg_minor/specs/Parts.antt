@@ -20,8 +20,9 @@ use Rattle.sg_words.specs.Pieces.{fronts_of, ends_of}
 use Rattle.sg_graph.specs.declared.reports.MinorReport.{MinorReport}
 use Rattle.sg_minor.specs.Holding.{HoldsHeap}
 use Rattle.sg_copy.specs.Copying.{area_of, IsStill, HasCopiedTo, fields_of_all}
-use Rattle.sg_minor.specs.Joined.{HasTagged, AreSeeds, slots_of_name, holds_young}
-use Rattle.sg_minor.specs.Pieces.{AreStanding, IsTaken, ArePieces, first_word, word_behind}
+use Rattle.sg_minor.specs.Joined.{AreSeeds, slots_of_name, holds_young}
+use Rattle.sg_nursery.specs.Parts.{HasTagged, AreKept, AreCleaned}
+use Rattle.sg_nursery.specs.Pieces.{AreStanding, IsTaken, ArePieces, first_word, word_behind}
 
 -- some program's graph stands in the space by some book
 abbrev pub HoldsSome : Contents → Type 0
@@ -36,56 +37,6 @@ pub record AddsOld (p : Program) (g : Graph) (b : Book) (s : Contents) (old new 
   pub names : List ℕ
   pub are : AreByAddress b (StandsOld b) names
   pub adds : Adds s (flat_map (slots_of_name p g b) names) old new
-
--- each is the byte address of a first word with a plain tag
-pub record ArePlain (s : Contents) (pins : List ℕ) : Type 0 where
-  pub whole : (a : ℕ) → Contains pins a → byte_at (word_at a) ≡ a
-  pub section : (a : ℕ) → Contains pins a → IsInSection s.layout (word_at a)
-  pub plain : (a : ℕ) → Contains pins a → (class : ℕ) × (class < 256) × (word s (word_at a) ≡ plain_word class)
-
--- the object's first word says that it stays
-abbrev pub IsStaying : (ℕ → ℕ) → Object → Type 0
-IsStaying w o = w (first_word o) ≡ plain_word o.class + 2
-
--- the object's first word says that it went to the byte address `to`
-abbrev pub WentTo : (ℕ → ℕ) → Object → ℕ → Type 0
-WentTo w o to = IsAddress to × (w (first_word o) ≡ to + 1)
-
--- after a round the object has moved, stays, or is left
-pub record IsRounded (w : ℕ → ℕ) (o : Object) : Type 0 where
-  pub class : o.class < 256
-  pub whole : byte_at (first_word o) ≡ o.at
-  pub state : ((to : ℕ) × WentTo w o to) ⊎ (IsStaying w o ⊎ (w (first_word o) ≡ plain_word o.class))
-
--- these are the objects after a round, by address and apart
-pub record AreRounded (layout : Layout) (w : ℕ → ℕ) (told : List Object) : Type 0 where
-  pub standing : AreStanding layout told
-  pub each : (o : Object) → Contains told o → IsRounded w o
-
--- each is the address of an object that stays, in increasing order
-pub record AreStaying (w : ℕ → ℕ) (told : List Object) (pins : List ℕ) : Type 0 where
-  pub in_order : IsStrictlyIncreasing pins
-  pub each : (a : ℕ) → Contains pins a → (o : Object) × Contains told o × IsStaying w o × (o.at ≡ a)
-
--- what stays, what moved, and what stays without being among these pins, each by address
-pub record AreKept (layout : Layout) (w : ℕ → ℕ) (told : List Object) (pins : List ℕ) (standing : List Object) (moves : List Move) (fails : List ℕ) : Type 0 where
-  pub apart : AreStanding layout standing
-  pub moves_in_order : IsStrictlyIncreasing (sources moves)
-  pub fails_in_order : IsStrictlyIncreasing fails
-  pub stand : (o : Object) → Contains standing o ↔ (Contains told o × IsStaying w o)
-  pub move : (move : Move) → Contains moves move ↔ ((o : Object) × Contains told o × WentTo w o move.to × (move.from ≡ o.at))
-  pub fail : (a : ℕ) → Contains fails a ↔ ((o : Object) × Contains told o × IsStaying w o × (o.at ≡ a) × (Contains pins a → ⊥))
-
--- what stays has its plain tag again, the words of all other objects are zero, and no other word has changed
-pub record AreCleaned (told : List Object) (old new : ℕ → ℕ) : Type 0 where
-  pub untagged : (o : Object) → Contains told o → IsStaying old o → new (first_word o) + 2 ≡ old (first_word o)
-  pub kept : (o : Object) (y : ℕ) → Contains told o → IsStaying old o → first_word o < y → y < word_behind o → new y ≡ old y
-  pub zero : (o : Object) (y : ℕ) → Contains told o → (IsStaying old o → ⊥) → first_word o ≤ y → y < word_behind o → new y ≡ 0
-  pub others : (y : ℕ) → (IsTaken told y → ⊥) → new y ≡ old y
-
--- the n words from x on are zero now, and no other word has changed
-abbrev pub AreZero : (ℕ → ℕ) → ℕ → ℕ → (ℕ → ℕ) → Type 0
-AreZero old x n new = ((y : ℕ) → x ≤ y → y < x + n → new y ≡ 0) × ((y : ℕ) → (x ≤ y → y < x + n → ⊥) → new y ≡ old y)
 
 -- From the space s, which holds g by b, a pause has told the young objects and the pinned ones, given these their tags, and copied
 -- from the seeds and the pinned objects' fields on.

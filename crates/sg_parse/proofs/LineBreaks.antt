@@ -16,7 +16,7 @@ use Rattle.sg_text.specs.declared.line.Setting.{Setting}
 use Rattle.sg_text.specs.declared.line.Setting.TheVariants.{Nursery as TheNursery, Blocks as TheBlocks, Pages as ThePages, Buffer as TheBuffer, Workers as TheWorkers, Cement as TheCement}
 use Rattle.sg_text.specs.Lines.{Maker, AsNew, AsVector, AsMature, Sentence, Heads, Sets, Declares, Begins, Repeats, Ends, Makes, Says}
 use Rattle.sg_parse.specs.Faults.{classes_in, class_in, open_behind, is_begin, Breaks, BreaksFirst, place}
-use Rattle.sg_parse.specs.Building.{HasSmallPlace, IsSmall}
+use Rattle.sg_parse.specs.Building.{HasSmallPlace, HasSmallNumbers}
 use Rattle.sg_parse.specs.LineLimits.{is_within, is_nursery_size, may_have, unless, setting_fault, class_fault, repeat_fault, maker_fault, statement_fault, fault_behind}
 
 -- a limit on what is counted at a mutator's end
@@ -342,7 +342,7 @@ repeat_small : (behind times : ℕ) → repeat_fault behind times ≡ None → t
 repeat_small behind times q =
     pick (is_within 1 most_times times) (unless (nat_le behind most_nesting) Nesting) (Some Times) None q (λ t e. (within_true 1 most_times times t).1) (λ f e. absurd cc)
 
-maker_small : (maker : Maker) (r : ℕ) (name : List ℕ) → maker_fault maker ≡ None → IsSmall (Makes maker r name)
+maker_small : (maker : Maker) (r : ℕ) (name : List ℕ) → maker_fault maker ≡ None → HasSmallNumbers (Makes maker r name)
 maker_small AsNew r name q = tt
 maker_small (AsVector count) r name q = le_true count most_vector (unless_none _ _ q)
 maker_small AsMature r name q = tt
@@ -372,7 +372,7 @@ statement_small (Same r t) q = tt
 statement_small (Collect major) q = tt
 statement_small Sections q = tt
 
-pub line_small : (before : List Sentence) (line : Sentence) → fault_behind before line ≡ None → IsSmall line
+pub line_small : (before : List Sentence) (line : Sentence) → fault_behind before line ≡ None → HasSmallNumbers line
 line_small before Heads q = tt
 line_small before (Sets at n) q = setting_small at n q
 line_small before (Declares name shape) q = (class_small (length (classes_in before)) shape q).1

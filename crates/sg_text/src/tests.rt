@@ -73,11 +73,7 @@ fn lines_say_what_their_words_do(rt: HostRuntime) {
         ("sections", Statement::Sections),
     ];
     for (text, statement) in statements {
-        assert_eq!(rt;
-            said(text),
-            Some(Line::Do(statement)),
-            "at {text}"
-        );
+        assert_eq!(rt; said(text), Some(Line::Do(statement)), "at {text}");
     }
 }
 
@@ -86,8 +82,20 @@ fn other_lines_say_theirs(rt: HostRuntime) {
     let name = b"Pair_2".as_slice();
     let lines = [
         ("sgen 1", Line::Head),
-        ("nursery 4096", Line::Setting { setting: Setting::Nursery, n: 4096 }),
-        ("cement 0", Line::Setting { setting: Setting::Cement, n: 0 }),
+        (
+            "nursery 4096",
+            Line::Setting {
+                setting: Setting::Nursery,
+                n: 4096,
+            },
+        ),
+        (
+            "cement 0",
+            Line::Setting {
+                setting: Setting::Cement,
+                n: 0,
+            },
+        ),
         (
             "class Pair_2 plain 63",
             Line::Class {

@@ -6,6 +6,7 @@ ghost use Rattle.sg_text.specs.Steps.{Only};
 ghost use Rattle.sg_text.specs.Sentences.{number_in, register_in};
 
 /// The number that the word spells.
+#[inline(never)]
 fn spelled(word: &[u8]) -> Option<u64>
     ensures found { IfSome result (IsNumber word.now) }
     ensures only { Only (IsNumber word.now) result }
@@ -26,6 +27,7 @@ fn spelled(word: &[u8]) -> Option<u64>
 }
 
 /// The number that a single byte spells.
+#[inline]
 fn digit(byte: u8) -> Option<u64>
     ensures found { IfSome result (IsNumber (byte ∷ [])) }
     ensures only { Only (IsNumber (byte ∷ [])) result }
@@ -39,7 +41,8 @@ fn digit(byte: u8) -> Option<u64>
     Some(u64::from(byte - b'0'))
 }
 
-/// The number that the word spells. Most words are single digits.
+/// The number that the word spells: most numbers of a text are single digits.
+#[inline]
 fn spelled_fast(word: &[u8]) -> Option<u64>
     ensures found { IfSome result (IsNumber word.now) }
     ensures only { Only (IsNumber word.now) result }

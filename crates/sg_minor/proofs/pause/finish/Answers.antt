@@ -3,16 +3,14 @@ use Rattle.sg_words.specs.Pieces.{fronts_of, ends_of}
 use Rattle.sg_words.specs.declared.pieces.Move.{Move}
 use Rattle.sg_words.specs.declared.pieces.Piece.{Piece}
 use Rattle.sg_space.specs.Standing.{word}
-use Rattle.sg_minor.specs.Pieces.{ArePieces}
-use Rattle.sg_minor.specs.Parts.{AreKept, AreCleaned}
-use Rattle.sg_minor.proofs.Few.{few_fragments}
-use Rattle.sg_minor.proofs.Tagged.{contents_still}
+use Rattle.sg_nursery.specs.Pieces.{ArePieces}
+use Rattle.sg_nursery.specs.Parts.{AreKept, AreCleaned}
 use Rattle.sg_minor.proofs.pause.finish.Goals as goal
 
 pub set_fragments-requires : goal.set_fragments-requires
 set_fragments-requires c =
     subst (λ (z : List Piece). length (fronts_of z) ≤ 2048) (sym c.as_slice-3.ensures)
-    (few_fragments c.sweep.new.space.layout c.deref.result.now (contents_still c.args.traced.space c.sweep.new.space c.in_ok-kept.ensures.still c.requires.contents).layout c.in_ok-pieces.pieces c.in_ok-pieces.ensures)
+    c.in_ok-pieces.ensures.few
 
 pub returns : goal.returns
 returns c =
@@ -32,7 +30,7 @@ returns c =
         kept = subst (λ (z : List Move). AreKept round.layout (word round) told pins standing z c.from_vec-2.result) (sym c.from_vec.ensures)
             (subst (λ (z : List ℕ). AreKept round.layout (word round) told pins standing lists.moves.items z) (sym c.from_vec-2.ensures) kept);
         cleaned = subst (λ z. AreCleaned z (word round) (word swept)) c.as_slice.ensures c.in_ok-kept.ensures.cleaned;
-        tiles = subst (λ z. ArePieces swept.layout z c.in_ok-pieces.pieces) c.deref.ensures.value c.in_ok-pieces.ensures;
+        tiles = subst (λ z. ArePieces swept.layout z c.in_ok-pieces.pieces) c.deref.ensures.value c.in_ok-pieces.ensures.pieces;
         fitted = subst (λ (z : List Piece). c.set_fragments.new.self ≡ record swept { next = fronts_of z; ends = ends_of z }) c.as_slice-3.ensures c.set_fragments.ensures.set;
         pins_are = refl;
         spares = refl;

@@ -4,8 +4,7 @@ use Rattle.sg_words.specs.Address.{byte_at, word_at}
 use Rattle.sg_space.specs.declared.objects.Object.{Object}
 use Rattle.sg_space.specs.Standing.{word, TellsYoung}
 use Rattle.sg_copy.specs.Copying.{CanCopyFrom, HasCopiedTo, fields_of_all}
-use Rattle.sg_minor.specs.Joined.{HasTagged}
-use Rattle.sg_minor.specs.Parts.{ArePlain}
+use Rattle.sg_nursery.specs.Parts.{HasTagged, ArePlain}
 use Rattle.sg_minor.proofs.Sound.{sound_of_heap}
 use Rattle.sg_minor.proofs.Whole.{plain_pins, can_copy, pins_told}
 use Rattle.sg_minor.proofs.pause.trace.Goals as goal
