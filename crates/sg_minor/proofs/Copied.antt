@@ -26,7 +26,7 @@ module _ (c : Ended) where
               here.0,
               cond-true _ _ _ (moved x (subst (λ (l : List ℕ). In x l) (sym q.1) (in-here x x q.0 refl))),
               subst (λ (z : ℕ). AreCopied c.p c.g c.b (booked c) (at + z) names) size
-              (copied (at + size_of c.w x) q.0 fails names q.3 here.1 (λ a i. moved a (subst (λ (l : List ℕ). In a l) (sym q.1) (in-there a x q.0 i))) failed more),
+                  (copied (at + size_of c.w x) q.0 fails names q.3 here.1 (λ a i. moved a (subst (λ (l : List ℕ). In a l) (sym q.1) (in-there a x q.0 i))) failed more),
             ))
         | inr q ↦ (let stays = failed x (subst (λ (l : List ℕ). In x l) (sym q.1) (in-here x x q.0 refl)) in
             inr (

@@ -141,13 +141,15 @@ module _ (p : Program) (w : ℕ → ℕ) (g : Graph) (b : Book) (owner : ℕ →
   movable : (n : ℕ) → b.stands n ≡ true → moves n ≡ true → IsMovable g b ambiguous n
   movable n s e =
       let q = plain-of (area_for p) w1 (b.address n) e in
-      let d = young-named p w g b owner t n q.0 in
-      ((d, s, young-section p w g b owner t n s q.0), λ k. (
-      let i = ps.all n k in
-      let f = first p w g b owner t n s d in
-      let g1 = tg.tagged (b.address n) i in
-      let z = q.1 in
-      omega arith))
+      let d = young-named p w g b owner t n q.0 in (
+        (d, s, young-section p w g b owner t n s q.0),
+        λ k. (
+            let i = ps.all n k in
+            let f = first p w g b owner t n s d in
+            let g1 = tg.tagged (b.address n) i in
+            let z = q.1 in
+            omega arith),
+      )
 
   moves-is : (n : ℕ) → IsMovable g b ambiguous n → moves n ≡ true
   moves-is n m =
@@ -199,9 +201,14 @@ module _ (p : Program) (w : ℕ → ℕ) (g : Graph) (b : Book) (owner : ℕ →
   -- a strong field and the name in it
   field-ref : (n i : ℕ) → b.stands n ≡ true → i < g.size n → field_refers p g n i ≡ true → (k : ℕ) × (g.field n i ≡ Ref k) × Holds (b.address n + 2 + i) k
   field-ref n i s l e =
-      let k = ref-of (g.field n i) (subst (λ (z : Bool). IsOfSort z (g.field n i)) (strong_holds (kind_of p (g.class n)) i (g.size n) e) (t.laid.fields.sorted n i s l)) in
-      (k.0, k.1, (inner-field p w g b owner t ambiguous pins ps w1 tg n i s l ∙ t.laid.fields.holds n i s l ∙ ap (λ (z : Entry). word_of b.address z) k.1,
-      (subst (λ (z : Entry). IsKnownEntry w g b z) k.1 (t.laid.fields.known n i s l)).0))
+      let k = ref-of (g.field n i) (subst (λ (z : Bool). IsOfSort z (g.field n i)) (strong_holds (kind_of p (g.class n)) i (g.size n) e) (t.laid.fields.sorted n i s l)) in (
+        k.0,
+        k.1,
+        (
+          inner-field p w g b owner t ambiguous pins ps w1 tg n i s l ∙ t.laid.fields.holds n i s l ∙ ap (λ (z : Entry). word_of b.address z) k.1,
+          (subst (λ (z : Entry). IsKnownEntry w g b z) k.1 (t.laid.fields.known n i s l)).0,
+        ),
+      )
 
   hold-fields : (n : ℕ) → b.stands n ≡ true → (i k : ℕ) → i + k ≤ g.size n → Hold (strong_slots (field_refers p g n) (b.address n) i k) (names_in (field_refers p g n) (g.field n) i k)
   hold-fields n s i zero l = tt
@@ -291,7 +298,7 @@ module _ (p : Program) (w : ℕ → ℕ) (g : Graph) (b : Book) (owner : ℕ →
     named _ (Finds before x more first) =
         let q = named before more in
         let e : map b.address (filter moves (leads_of p g (items_of p g old pinned) q.names)) ≡ first.passed ++ x ∷ first.rest =
-            sym (leads-are q.names q.each) ∙ ap (λ (l : List ℕ). leads (area_for p) w1 items l) q.at ∙ first.split in
+        sym (leads-are q.names q.each) ∙ ap (λ (l : List ℕ). leads (area_for p) w1 items l) q.at ∙ first.split in
         let s = split-at b.address moves (leads_of p g (items_of p g old pinned) q.names) first.passed x first.rest e in
         let mine : In s.name (leads_of p g (items_of p g old pinned) q.names) = subst (λ (l : List ℕ). In s.name l) (sym s.split) (in-middle s.before s.name s.rest) in
         let is = movable s.name (leads-stand q.names q.each s.name mine) s.passes in

@@ -130,8 +130,11 @@ module _ (p : Program) (s : Contents) (g : Graph) (b : Book) (ambiguous pins slo
         old_are = seeds-for.old_are;
         pinned_are = record {
           in_order = subst IsStrictlyIncreasing (sym names.1) begun.in_order;
-          exact = λ n. (names.2 n, λ k. in-names p (word s) g b begun.heap.1.0 begun.heap.1.1 ambiguous pins begun.pinned (word tagged) begun.tags names.0 (λ m i. (names.2 m i).0.1) n k.0.1
-          (subst (λ (l : List ℕ). In (b.address n) l) (sym names.1) (begun.pinned.all n k)));
+          exact = λ n. (
+            names.2 n,
+            λ k. in-names p (word s) g b begun.heap.1.0 begun.heap.1.1 ambiguous pins begun.pinned (word tagged) begun.tags names.0 (λ m i. (names.2 m i).0.1) n k.0.1
+                (subst (λ (l : List ℕ). In (b.address n) l) (sym names.1) (begun.pinned.all n k)),
+          );
         };
         each = q.each;
         searched = q.searched;

@@ -4,6 +4,7 @@ use Rattle.sg_program.specs.declared.program.Program.{Program}
 use Rattle.sg_graph.specs.declared.reports.MinorReport.{MinorReport}
 use Rattle.sg_graph.specs.Graph.{Graph}
 use Rattle.sg_graph.specs.Book.{Book}
+use Rattle.sg_graph.specs.Laws.{QuietPause}
 use Rattle.sg_graph.specs.Invariants.{IsPlain}
 use Rattle.sg_words.specs.declared.layout.Layout.{Layout}
 use Rattle.sg_space.specs.declared.objects.Object.{Object}
@@ -23,7 +24,7 @@ use Rattle.sg_minor.proofs.Holds.{held}
 use Rattle.sg_minor.proofs.Told.{minor}
 
 module _ (p : Program) (s : Contents) (g : Graph) (b : Book) (ambiguous pins moves fails : List ℕ) (m : ℕ → ℕ) (v : Contents) (end : ℕ) (standing : List Object) (report : MinorReport)
-    (heap : HoldsHeap p s g b) (plain : IsPlain p g) (pinned : ArePins g b ambiguous pins) (ended : IsEnded p s g b ambiguous pins moves fails m (word v) end)
+    (law : QuietPause) (heap : HoldsHeap p s g b) (plain : IsPlain p g) (pinned : ArePins g b ambiguous pins) (ended : IsEnded p s g b ambiguous pins moves fails m (word v) end)
     (words : HaveWords standing (word s) (pins ++ fails)) (tiles : ArePieces s.layout standing report.pieces) (fitted : IsRefitted s v report.pieces) where
   abbrev the_pause : Ended
   the_pause = record {
@@ -41,6 +42,7 @@ module _ (p : Program) (s : Contents) (g : Graph) (b : Book) (ambiguous pins mov
     owner = heap.1.0;
     standing = standing;
     pieces = report.pieces;
+    law = law;
     plain = plain;
     tie = area-of-space p s b heap.0;
     heap = heap.1.1;
@@ -79,6 +81,6 @@ module _ (p : Program) (s : Contents) (g : Graph) (b : Book) (ambiguous pins mov
     };
   }
 
-pub pause_law : PauseLaw
-pause_law p s g b ambiguous pins moves fails m v end standing report heap plain contents pinned ended told words tiles fitted =
-    paused p s g b ambiguous pins moves fails m v end standing report heap plain pinned ended words tiles fitted told
+pub pause_law : QuietPause → PauseLaw
+pause_law law p s g b ambiguous pins moves fails m v end standing report heap plain contents pinned ended told words tiles fitted =
+    paused p s g b ambiguous pins moves fails m v end standing report law heap plain pinned ended words tiles fitted told
