@@ -18,13 +18,12 @@ use Rattle.sg_program.specs.Scripts.{made_in, written_out, statements_at, script
 use Rattle.sg_program.specs.Invariants.{IsWithinLimits}
 use Rattle.sg_space.specs.Space.{Contents, words_of}
 use Rattle.sg_rules.specs.Rules.{Actor, owning}
-use Rattle.sg_rules.specs.Resting.{IsRunnable, sections_of, IsInHeap, IsProgramObject, HoldsObject, HoldsInner, HasPlaces, RestsOn, MayDo, answered_register, word_in, with_word}
-use Rattle.sg_rules.specs.Resting.{IsReference as IsReferenceIn}
+use Rattle.sg_rules.specs.Resting.{IsRunnable, sections_of, IsInHeap, IsReference, IsProgramObject, HoldsObject, HoldsInner, HasPlaces, RestsOn, MayDo, answered_register, word_in, with_word}
 use Rattle.sg_actor.specs.declared.hands.Hands.{Hands}
 use Rattle.sg_actor.specs.declared.mutator.Stage.{Stage}
 use Rattle.sg_actor.specs.declared.mutator.Stage.TheVariants.{Between, Asking}
-use Rattle.sg_actor.specs.Views.{constants_of, slot_of, acting, EndsInside, KeepsSpace, HasByteAddresses, IsReference, IsObjectIn, FindsObject, FindsInner, IsBufferIn, CanDo, CanGo, IsFresh, IsEmptied, IsAnswered, HasAsked}
-use Rattle.sg_actor.specs.State.{Mutating, seen, actor_of, mid_of, DropsBuffer, BeginsEpoch, HasServed, IsSpaceFor, MayStep, HasStepped, IsWhole}
+use Rattle.sg_actor.specs.Views.{constants_of, slot_of, acting, EndsInside, KeepsSpace, HasByteAddresses, IsAddressOrNone, IsObjectIn, FindsObject, FindsInner, IsBufferIn, CanDo, CanGo, IsFresh, IsEmptied, IsAnswered, LeavesAsking}
+use Rattle.sg_actor.specs.State.{Mutating, seen, actor_of, mid_of, DropsBuffer, BeginsEpoch, HasServed, IsSpaceFor, MayStep, HasStepped, IsSoundMutator}
 
 module _ (p : Program) (s : Contents) (of : IsSpaceFor p s) (few : length p.classes ≤ 256) where
   abbrev w : Words
@@ -42,7 +41,7 @@ module _ (p : Program) (s : Contents) (of : IsSpaceFor p s) (few : length p.clas
   is_address : (a : ℕ) → IsInHeap p a → IsAddress a
   is_address a i = (omega (arith, i.above), omega (arith, i.below, heap_end.1), i.whole)
 
-  is_reference : (v : ℕ) → IsReferenceIn p v → IsReference v
+  is_reference : (v : ℕ) → IsReference p v → IsAddressOrNone v
   is_reference v r = elim r [ inl none ↦ inl none | inr i ↦ inr (is_address v i) ]
 
   object_in_space : (x : ℕ) → IsProgramObject p w x → IsObjectIn p w (words_end s.layout) x
@@ -120,7 +119,8 @@ makes_in p (NewV r class count) is = let l : r ≤ 15 = is.good.operands.0 in om
 makes_in p s is = omega arith
 
 -- the mutator did its next statement
-pub steps_on : (p : Program) (number first : ℕ) (stage : Stage) (s t : Contents) (h o : Hands) (statement : Statement) (rest script next : List Statement) → stage ≡ Between → script ≡ statement ∷ rest → next ≡ rest →
+pub steps_on : (p : Program) (number first : ℕ) (stage : Stage) (s t : Contents) (h o : Hands) (statement : Statement) (rest script next : List Statement) →
+    stage ≡ Between → script ≡ statement ∷ rest → next ≡ rest →
     IsAnswered p s h statement t o → KeepsSpace s t → HasStepped s (seen p number first stage h script) t (seen p number first stage o next)
 steps_on p number first stage s t h o statement rest script next between is past done keeps =
     subst (λ stage. HasStepped s (seen p number first stage h script) t (seen p number first stage o next)) (sym between)
@@ -135,8 +135,10 @@ steps_on p number first stage s t h o statement rest script next between is past
     })))
 
 -- the mutator left with its next statement
-pub steps_out : (p : Program) (number first : ℕ) (stage : Stage) (s t : Contents) (h o : Hands) (statement : Statement) (request : Request) (rest script next : List Statement) → stage ≡ Between → script ≡ statement ∷ rest →
-    next ≡ rest → HasAsked p s h statement t o request → KeepsSpace s t → HasStepped s (seen p number first stage h script) t (seen p number first (Asking statement request) o next)
+pub steps_out : (p : Program) (number first : ℕ) (stage : Stage) (s t : Contents) (h o : Hands) (statement : Statement) (request : Request)
+    (rest script next : List Statement) → stage ≡ Between → script ≡ statement ∷ rest →
+    next ≡ rest → LeavesAsking p s h statement t o request → KeepsSpace s t →
+    HasStepped s (seen p number first stage h script) t (seen p number first (Asking statement request) o next)
 steps_out p number first stage s t h o statement request rest script next between is past asked keeps =
     subst (λ stage. HasStepped s (seen p number first stage h script) t (seen p number first (Asking statement request) o next)) (sym between)
     (subst (λ script. HasStepped s (seen p number first Between h script) t (seen p number first (Asking statement request) o next)) (sym is)
@@ -150,29 +152,34 @@ steps_out p number first stage s t h o statement request rest script next betwee
     })))
 
 -- and it is whole
-pub whole_out : (p : Program) (number first : ℕ) (stage : Stage) (h o : Hands) (statement : Statement) (request : Request) (rest script next : List Statement) → stage ≡ Between → script ≡ statement ∷ rest → next ≡ rest →
-    made_in statement < 16 → o ≡ h → IsWhole p number first stage h script → IsWhole p number first (Asking statement request) o next
+pub whole_out : (p : Program) (number first : ℕ) (stage : Stage) (h o : Hands) (statement : Statement) (request : Request)
+    (rest script next : List Statement) → stage ≡ Between → script ≡ statement ∷ rest → next ≡ rest →
+    made_in statement < 16 → o ≡ h → IsSoundMutator p number first stage h script → IsSoundMutator p number first (Asking statement request) o next
 whole_out p number first stage h o statement request rest script next between is past register same whole =
-    subst (λ o. IsWhole p number first (Asking statement request) o next) (sym same)
-    (subst (λ next. IsWhole p number first (Asking statement request) h next) (sym past)
-    (let before = subst (λ stage. IsWhole p number first stage h (statement ∷ rest)) between (subst (λ script. IsWhole p number first stage h script) is whole) in
+    subst (λ o. IsSoundMutator p number first (Asking statement request) o next) (sym same)
+    (subst (λ next. IsSoundMutator p number first (Asking statement request) h next) (sym past)
+    (let before = subst (λ stage. IsSoundMutator p number first stage h (statement ∷ rest)) between
+    (subst (λ script. IsSoundMutator p number first stage h script) is whole) in
     record { counted = omega (arith, before.counted); few = before.few; classes = before.classes; room = before.room; piled = before.piled; register = register }))
 
 -- a mutator by its parts, which may do its next statement
-module _ (p : Program) (number first : ℕ) (stage : Stage) (h : Hands) (script : List Statement) (now : Mutating) (is : seen p number first stage h script ≡ now) (s : Contents) where
+module _ (p : Program) (number first : ℕ) (stage : Stage) (h : Hands) (script : List Statement) (now : Mutating)
+    (is : seen p number first stage h script ≡ now) (s : Contents) where
   pub between_now : now.stage ≡ Between → stage ≡ Between
   between_now between = ap (λ (m : Mutating). m.stage) is ∙ between
 
   pub space_now : IsSpaceFor now.program s → IsSpaceFor p s
   space_now of = subst (λ (m : Mutating). IsSpaceFor m.program s) (sym is) of
 
-  pub may_now : now.stage ≡ Between → MayStep s now → (statement : Statement) (rest : List Statement) → script ≡ statement ∷ rest → MayDo p (constants_of s) (words_of s) (acting h script) statement
+  pub may_now : now.stage ≡ Between → MayStep s now → (statement : Statement) (rest : List Statement) → script ≡ statement ∷ rest →
+      MayDo p (constants_of s) (words_of s) (acting h script) statement
   may_now between may statement rest next =
       subst (λ stage. MayDo p (constants_of s) (words_of s) (actor_of (seen p number first stage h script)) statement) (between_now between)
       (subst (λ (m : Mutating). MayStep s m) (sym is) may statement rest next)
 
 -- its hands hold something else, and its first number is another
-pub drops_buffer : (p : Program) (number first : ℕ) (stage : Stage) (h o : Hands) (script : List Statement) (now : Mutating) → seen p number first stage h script ≡ now →
+pub drops_buffer : (p : Program) (number first : ℕ) (stage : Stage) (h o : Hands) (script : List Statement) (now : Mutating) →
+    seen p number first stage h script ≡ now →
     ((rest : List Statement) → acting o rest ≡ owning (acting h rest) 0 0) → DropsBuffer now (seen p number first stage o script)
 drops_buffer p number first stage h o script now is emptied = subst (λ (m : Mutating). DropsBuffer m (seen p number first stage o script)) is (record {
   actor = ap (λ (a : Actor). record a { mid = mid_of stage }) (emptied script);
@@ -181,17 +188,22 @@ drops_buffer p number first stage h o script now is emptied = subst (λ (m : Mut
   same = record { program = refl; number = refl };
 })
 
-pub begins_epoch : (p : Program) (number first done next : ℕ) (stage : Stage) (h o : Hands) (script : List Statement) (now : Mutating) → seen p number first stage h script ≡ now → IsEmptied h o → next ≡ first + done → done ≡ length h.answers.items →
+pub begins_epoch : (p : Program) (number first done next : ℕ) (stage : Stage) (h o : Hands) (script : List Statement) (now : Mutating) →
+    seen p number first stage h script ≡ now → IsEmptied h o → next ≡ first + done → done ≡ length h.answers.items →
     BeginsEpoch now (seen p number next stage o script)
-begins_epoch p number first done next stage h o script now is emptied e d = subst (λ (m : Mutating). BeginsEpoch m (seen p number next stage o script)) is (record {
-  actor = ap (λ (a : Actor). record a { mid = mid_of stage }) (emptied.is script);
-  stage = refl;
-  first = e ∙ ap (λ n. first + n) d;
-  same = record { program = refl; number = refl };
-})
+begins_epoch p number first done next stage h o script now is emptied e d = subst (λ (m : Mutating). BeginsEpoch m (seen p number next stage o script)) is
+    (record {
+      actor = ap (λ (a : Actor). record a { mid = mid_of stage }) (emptied.is script);
+      stage = refl;
+      first = e ∙ ap (λ n. first + n) d;
+      same = record { program = refl; number = refl };
+    })
 
-pub serves : (p : Program) (number first next : ℕ) (stage : Stage) (h e o : Hands) (script : List Statement) (now : Mutating) (statement : Statement) (request : Request) (answer : Answer) → seen p number first stage h script ≡ now →
-    stage ≡ Asking statement request → IsEmptied h e → ((rest : List Statement) → acting o rest ≡ record (acting e rest) { reg = with_word (answered_register statement) (word_in answer) (acting e rest).reg }) →
+pub serves : (p : Program) (number first next : ℕ) (stage : Stage) (h e o : Hands) (script : List Statement) (now : Mutating) (statement : Statement)
+    (request : Request) (answer : Answer) → seen p number first stage h script ≡ now →
+    stage ≡ Asking statement request → IsEmptied h e →
+    ((rest : List Statement) → acting o rest ≡ record
+    (acting e rest) { reg = with_word (answered_register statement) (word_in answer) (acting e rest).reg }) →
     next ≡ first + (length h.answers.items + 1) → HasServed now answer (seen p number next Between o script)
 serves p number first next stage h e o script now statement request answer is asking emptied set n =
     subst (λ (m : Mutating). HasServed m answer (seen p number next Between o script)) is
@@ -203,27 +215,32 @@ serves p number first next stage h e o script now statement request answer is as
       same = record { program = refl; number = refl };
     }))
 
-statements_there : (scripts : List Script) (k : ℕ) (d : Script) → k < length scripts → statements_at (slice_get scripts k) ≡ written_out (get_or scripts k d).items
+statements_there : (scripts : List Script) (k : ℕ) (d : Script) → k < length scripts →
+    statements_at (slice_get scripts k) ≡ written_out (get_or scripts k d).items
 statements_there [] k d l = absurd (omega arith)
 statements_there (x ∷ xs) zero d l = refl
 statements_there (x ∷ xs) (suc k) d l = statements_there xs k d (omega arith)
 
 -- the statements of a script are some of the program's
-script_in : (scripts : List Script) (k : ℕ) → k < length scripts → length (statements_at (slice_get scripts k)) ≤ sum_by (λ (script : Script). length (written_out script.items)) scripts
+script_in : (scripts : List Script) (k : ℕ) → k < length scripts →
+    length (statements_at (slice_get scripts k)) ≤ sum_by (λ (script : Script). length (written_out script.items)) scripts
 script_in [] k l = absurd (omega arith)
 script_in (x ∷ xs) k l =
     let one = get_or-le-sum_by (λ (script : Script). length (written_out script.items)) (x ∷ xs) k x l in
     omega (arith, one, ap length (statements_there (x ∷ xs) k x l))
 
-pub script_is : (p : Program) (k : ℕ) → k < length p.mutators → (scripts : List Script) → scripts ≡ p.mutators → (script : Script) → script ≡ get_or scripts k script → (items : List Item) → items ≡ script.items → written_out items ≡ script_of p k
-script_is p k l scripts are script is items items_are = ap written_out items_are ∙ at scripts k (let q = ap length are in omega arith) is ∙ ap (λ xs. statements_at (slice_get xs k)) are
+pub script_is : (p : Program) (k : ℕ) → k < length p.mutators → (scripts : List Script) → scripts ≡ p.mutators → (script : Script) →
+    script ≡ get_or scripts k script → (items : List Item) → items ≡ script.items → written_out items ≡ script_of p k
+script_is p k l scripts are script is items items_are = ap written_out items_are ∙ at scripts k (let q = ap length are in omega arith) is ∙ ap
+    (λ xs. statements_at (slice_get xs k)) are
   where
     at : (xs : List Script) (k : ℕ) → k < length xs → script ≡ get_or xs k script → written_out script.items ≡ statements_at (slice_get xs k)
     at [] k l e = absurd (omega arith)
     at (x ∷ xs) zero l e = ap (λ (y : Script). written_out y.items) e
     at (x ∷ xs) (suc k) l e = at xs k (omega arith) e
 
-pub whole_new : (p : Program) (k n : ℕ) (h : Hands) (script : List Statement) → k < length p.mutators → IsWithinLimits p → IsFresh h n → script ≡ script_of p k → n ≡ min (length (script_of p k)) 18446744073709551615 → IsWhole p k 0 Between h script
+pub whole_new : (p : Program) (k n : ℕ) (h : Hands) (script : List Statement) → k < length p.mutators → IsWithinLimits p → IsFresh h n →
+    script ≡ script_of p k → n ≡ min (length (script_of p k)) 18446744073709551615 → IsSoundMutator p k 0 Between h script
 whole_new p k n h script there limits fresh is count =
     let few : length (script_of p k) ≤ 1048576 = omega (arith, script_in p.mutators k there, limits.statements) in
     record {

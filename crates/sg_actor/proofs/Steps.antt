@@ -66,13 +66,15 @@ pub went_none : (p : Program) (lay : Constants) (a b : Actor) (w v : Words) → 
 went_none p lay a b w v e f = record { ticks = []; legal = tt; after = f; follows = e }
 
 -- one step, and then more
-pub went_first : (p : Program) (lay : Constants) (a a1 b : Actor) (w v1 v : Words) (s : Step) (d : Bool) → Comes p lay a s d a1 → Saw w s → v1 ≡ after_step w s → Went p lay a1 v1 b v → Went p lay a w b v
+pub went_first : (p : Program) (lay : Constants) (a a1 b : Actor) (w v1 v : Words) (s : Step) (d : Bool) → Comes p lay a s d a1 → Saw w s →
+    v1 ≡ after_step w s → Went p lay a1 v1 b v → Went p lay a w b v
 went_first p lay a a1 b w v1 v s d c q e r =
     let m = subst (λ x. Went p lay a1 x b v) e r in
     record { ticks = record { step = s; decides = d } ∷ m.ticks; legal = (q, m.legal); after = m.after; follows = (a1, c, m.follows) }
 
 -- the last step
-pub went_last : (p : Program) (lay : Constants) (a b c : Actor) (w v : Words) (s : Step) (d : Bool) → Comes p lay a s d b → Saw w s → v ≡ after_step w s → c ≡ b → Went p lay a w c v
+pub went_last : (p : Program) (lay : Constants) (a b c : Actor) (w v : Words) (s : Step) (d : Bool) → Comes p lay a s d b → Saw w s → v ≡ after_step w s →
+    c ≡ b → Went p lay a w c v
 went_last p lay a b c w v s d r q e f = went_first p lay a b c w v v s d r q e (went_none p lay b c v v f refl)
 
 after-append : (w : Words) (ss ts : List Tick) → after w (ss ++ ts) ≡ after (after w ss) ts
@@ -83,7 +85,8 @@ legal-append : (w : Words) (ss ts : List Tick) → Legal w ss → Legal (after w
 legal-append w [] ts p q = q
 legal-append w (s ∷ ss) ts p q = (p.0, legal-append (after_step w s.step) ss ts p.1 q)
 
-follows-append : (p : Program) (lay : Constants) (a b c : Actor) (ss ts : List Tick) → Follows p lay a ss b → Follows p lay b ts c → Follows p lay a (ss ++ ts) c
+follows-append : (p : Program) (lay : Constants) (a b c : Actor) (ss ts : List Tick) → Follows p lay a ss b → Follows p lay b ts c →
+    Follows p lay a (ss ++ ts) c
 follows-append p lay a b c [] ts f g = subst (λ x. Follows p lay x ts c) f g
 follows-append p lay a b c (s ∷ ss) ts f g = (f.0, f.1, follows-append p lay f.0 b c ss ts f.2 g)
 
@@ -112,17 +115,20 @@ module _ (p : Program) (lay : Constants) (a : Actor) (rest : List Statement) (w 
 
     -- the ways through an object whose byte is asked for
     module _ (d s offset : ℕ) (b : Actor) (some : a.reg s ≢ 0) where
-      went_length : (c : Actor) (len : ℕ) → w.word (object_in a s + 1) ≡ len → Comes p lay (within a rest (HideLength d s offset)) (Load (Word (object_in a s + 1)) len) true c → b ≡ c →
+      went_length : (c : Actor) (len : ℕ) → w.word (object_in a s + 1) ≡ len →
+          Comes p lay (within a rest (HideLength d s offset)) (Load (Word (object_in a s + 1)) len) true c → b ≡ c →
           Went p lay (before a (Hide d s offset) rest) w b w
       went_length c len l comes e =
           went_first p lay _ _ b w w w (Load Stop 0) false (hide_begins a rest d s offset some) going refl
           (went_last p lay _ _ b w w (Load (Word (object_in a s + 1)) len) true comes l refl e)
 
-      pub went_fits : (len : ℕ) → w.word (object_in a s + 1) ≡ len → offset < byte_at (words_for len) → b ≡ over_with a rest (put a.reg d (a.reg s + offset)) (put a.offset d offset) a.stack Fine →
+      pub went_fits : (len : ℕ) → w.word (object_in a s + 1) ≡ len → offset < byte_at (words_for len) →
+          b ≡ over_with a rest (put a.reg d (a.reg s + offset)) (put a.offset d offset) a.stack Fine →
           Went p lay (before a (Hide d s offset) rest) w b w
       went_fits len l f e = went_length _ len l (hide_fits a rest d s offset len f) e
 
-      pub went_past : (len : ℕ) → w.word (object_in a s + 1) ≡ len → byte_at (words_for len) ≤ offset → b ≡ hides_none a rest d Field → Went p lay (before a (Hide d s offset) rest) w b w
+      pub went_past : (len : ℕ) → w.word (object_in a s + 1) ≡ len → byte_at (words_for len) ≤ offset → b ≡ hides_none a rest d Field →
+          Went p lay (before a (Hide d s offset) rest) w b w
       went_past len l f e = went_length _ len l (hide_misses a rest d s offset len f) e
 
     -- the ways through an object test
@@ -131,20 +137,23 @@ module _ (p : Program) (lay : Constants) (a : Actor) (rest : List Statement) (w 
       went_null b z e = went_last p lay _ _ b w w (Load Stop 0) true (test_null a s rest test is z) going refl e
 
       -- up to the load of the length
-      went_tests : (b : Actor) (v : Words) (class : ℕ) → a.reg test.register ≢ 0 → w.word (object_in a test.register) ≡ plain_word class → Went p lay (within a rest (TestLength s test class)) w b v →
+      went_tests : (b : Actor) (v : Words) (class : ℕ) → a.reg test.register ≢ 0 → w.word (object_in a test.register) ≡ plain_word class →
+          Went p lay (within a rest (TestLength s test class)) w b v →
           Went p lay (before a s rest) w b v
       went_tests b v class some tag f =
           went_first p lay _ _ b w w v (Load Stop 0) false (test_begins a s rest test is some) going refl
           (went_first p lay _ _ b w w v (Load (Word (object_in a test.register)) (plain_word class)) false (loads_tag a s rest test class) tag refl f)
 
-      pub went_misses : (b : Actor) → IsMeasured p w (a.reg test.register) test.field test.sort false → b ≡ over a rest (cleared s a.reg) Field → Went p lay (before a s rest) w b w
+      pub went_misses : (b : Actor) → IsMeasured p w (a.reg test.register) test.field test.sort false → b ≡ over a rest (cleared s a.reg) Field →
+          Went p lay (before a s rest) w b w
       went_misses b m e =
           let x = object_in a test.register in
           let len = w.word (x + 1) in
           went_tests b w m.class m.some m.tag
           (went_last p lay _ _ b w w (Load (Word (x + 1)) len) true (test_fails a s rest test m.class len m.finds) refl refl e)
 
-      pub went_finds : (b : Actor) (v : Words) → IsMeasured p w (a.reg test.register) test.field test.sort true → Went p lay (within a rest (Access s)) w b v → Went p lay (before a s rest) w b v
+      pub went_finds : (b : Actor) (v : Words) → IsMeasured p w (a.reg test.register) test.field test.sort true →
+          Went p lay (within a rest (Access s)) w b v → Went p lay (before a s rest) w b v
       went_finds b v m f =
           let x = object_in a test.register in
           let len = w.word (x + 1) in
@@ -170,29 +179,38 @@ module _ (p : Program) (lay : Constants) (a : Actor) (rest : List Statement) (w 
   pub went_leaves : (s : Statement) (v : Words) → v ≡ write w Stop 1 → Went p lay (within a rest (Ask s)) w (within a rest (Left s)) v
   went_leaves s v e = went_last p lay _ _ _ w v (Store Stop 1) false (asks a rest s) tt e refl
 
-  pub went_put : (r i s x val : ℕ) (b : Actor) (v : Words) → x ≡ object_in a r + 2 + i → val ≡ a.reg s → v ≡ write w (Word x) val → b ≡ over a rest a.reg Fine → Went p lay (within a rest (Access (Put r i s))) w b v
-  went_put r i s x val b v ex ev st e = went_last p lay _ _ b w v _ true (put_stores a rest r i s) tt (st ∙ ap (λ y. write w (Word y) val) ex ∙ ap (λ y. write w (Word (object_in a r + 2 + i)) y) ev) e
+  pub went_put : (r i s x val : ℕ) (b : Actor) (v : Words) → x ≡ object_in a r + 2 + i → val ≡ a.reg s → v ≡ write w (Word x) val →
+      b ≡ over a rest a.reg Fine → Went p lay (within a rest (Access (Put r i s))) w b v
+  went_put r i s x val b v ex ev st e = went_last p lay _ _ b w v _ true (put_stores a rest r i s) tt
+      (st ∙ ap (λ y. write w (Word y) val) ex ∙ ap (λ y. write w (Word (object_in a r + 2 + i)) y) ev) e
 
-  pub went_putd : (r i s x val : ℕ) (b : Actor) (v : Words) → x ≡ object_in a r + 2 + i → val ≡ a.reg s → v ≡ write w (Word x) val → b ≡ over a rest a.reg Fine → Went p lay (within a rest (Access (PutD r i s))) w b v
-  went_putd r i s x val b v ex ev st e = went_last p lay _ _ b w v _ true (putd_stores a rest r i s) tt (st ∙ ap (λ y. write w (Word y) val) ex ∙ ap (λ y. write w (Word (object_in a r + 2 + i)) y) ev) e
+  pub went_putd : (r i s x val : ℕ) (b : Actor) (v : Words) → x ≡ object_in a r + 2 + i → val ≡ a.reg s → v ≡ write w (Word x) val →
+      b ≡ over a rest a.reg Fine → Went p lay (within a rest (Access (PutD r i s))) w b v
+  went_putd r i s x val b v ex ev st e = went_last p lay _ _ b w v _ true (putd_stores a rest r i s) tt
+      (st ∙ ap (λ y. write w (Word y) val) ex ∙ ap (λ y. write w (Word (object_in a r + 2 + i)) y) ev) e
 
-  pub went_get : (d r i x val : ℕ) (b : Actor) → x ≡ object_in a r + 2 + i → w.word x ≡ val → b ≡ over a rest (put a.reg d val) (reference_answer val) → Went p lay (within a rest (Access (Get d r i))) w b w
+  pub went_get : (d r i x val : ℕ) (b : Actor) → x ≡ object_in a r + 2 + i → w.word x ≡ val → b ≡ over a rest (put a.reg d val) (reference_answer val) →
+      Went p lay (within a rest (Access (Get d r i))) w b w
   went_get d r i x val b ex l e = went_last p lay _ _ b w w _ true (get_loads a rest d r i val) (subst (λ y. w.word y ≡ val) ex l) refl e
 
-  pub went_getd : (d r i x val : ℕ) (b : Actor) → x ≡ object_in a r + 2 + i → w.word x ≡ val → b ≡ over a rest (put a.reg d val) (Number val) → Went p lay (within a rest (Access (GetD d r i))) w b w
+  pub went_getd : (d r i x val : ℕ) (b : Actor) → x ≡ object_in a r + 2 + i → w.word x ≡ val → b ≡ over a rest (put a.reg d val) (Number val) →
+      Went p lay (within a rest (Access (GetD d r i))) w b w
   went_getd d r i x val b ex l e = went_last p lay _ _ b w w _ true (getd_loads a rest d r i val) (subst (λ y. w.word y ≡ val) ex l) refl e
 
   module _ (s : Statement) where
     -- the exchange of a next word
-    pub went_claims : (f next n t : ℕ) (v : Words) → made_words p s ≡ n → t ≡ taken p lay f next n → w.next f ≡ byte_at next → v ≡ write w (Next f) (byte_at (next + t)) →
+    pub went_claims : (f next n t : ℕ) (v : Words) → made_words p s ≡ n → t ≡ taken p lay f next n → w.next f ≡ byte_at next →
+        v ≡ write w (Next f) (byte_at (next + t)) →
         Went p lay (within a rest (Claim s f next)) w (within (owning a (next + n) (next + t)) rest (StoreLength s next)) v
     went_claims f next n t v e h q st =
         subst (λ x. Went p lay (within a rest (Claim s f next)) w (within (owning a (next + n) (next + x)) rest (StoreLength s next)) v) (sym h)
         (subst (λ m. Went p lay (within a rest (Claim s f next)) w (within (owning a (next + m) (next + taken p lay f next m)) rest (StoreLength s next)) v) e
-        (went_last p lay _ _ _ w v _ true (claim_wins a s rest f next) q (st ∙ ap (λ x. write w (Next f) (byte_at (next + x))) (h ∙ ap (taken p lay f next) (sym e))) refl))
+        (went_last p lay _ _ _ w v _ true (claim_wins a s rest f next) q
+        (st ∙ ap (λ x. write w (Next f) (byte_at (next + x))) (h ∙ ap (taken p lay f next) (sym e))) refl))
 
     -- the header of a new object
-    pub went_header : (class x n tag : ℕ) (u v : Words) → made_class s ≡ class → made_fields p s ≡ n → tag ≡ plain_word class → u ≡ write w (Word (x + 1)) n → v ≡ write u (Word x) tag →
+    pub went_header : (class x n tag : ℕ) (u v : Words) → made_class s ≡ class → made_fields p s ≡ n → tag ≡ plain_word class → u ≡ write w (Word (x + 1)) n →
+        v ≡ write u (Word x) tag →
         Went p lay (within a rest (StoreLength s x)) w (over a rest (put a.reg (made_in s) (byte_at x)) (At (byte_at x))) v
     went_header class x n tag u v c e h f g =
         went_first p lay _ _ _ w u v _ false (stores_length a s rest x) tt (f ∙ ap (λ y. write w (Word (x + 1)) y) (sym e))
@@ -213,16 +231,19 @@ module _ (s : Contents) (n f : ℕ) (so : Searches s n f) where
       (cond-true (nat_lt f (length s.ends)) (Look making f) (Ask making) (lt-ltb f (length s.ends) l)) (so.looks p a rest making e)
 
   -- fragment f has room
-  pub search_finds : (next : ℕ) → f < length s.ends → get_or s.next f 0 ≡ byte_at next → next + n ≤ word_at (get_or s.ends f 0) → LooksTo s n (λ making. Claim making f next)
+  pub search_finds : (next : ℕ) → f < length s.ends → get_or s.next f 0 ≡ byte_at next → next + n ≤ word_at (get_or s.ends f 0) →
+      LooksTo s n (λ making. Claim making f next)
   search_finds next l q room p a rest making e =
       went_then p (constants_of s) _ _ _ _ _ _ (looks_at l p a rest making e)
-      (went_last p (constants_of s) _ _ _ (words_of s) (words_of s) _ false (look_finds a making rest f next (subst (λ m. next + m ≤ word_at (get_or s.ends f 0)) (sym e) room)) q refl refl)
+      (went_last p (constants_of s) _ _ _ (words_of s) (words_of s) _ false
+      (look_finds a making rest f next (subst (λ m. next + m ≤ word_at (get_or s.ends f 0)) (sym e) room)) q refl refl)
 
   -- fragment f has none
   pub search_goes_on : (next : ℕ) → f < length s.ends → get_or s.next f 0 ≡ byte_at next → word_at (get_or s.ends f 0) < next + n → Searches s n (f + 1)
   search_goes_on next l q full = record {
     looks = λ p a rest making e. went_then p (constants_of s) _ _ _ _ _ _ (looks_at l p a rest making e)
-        (went_last p (constants_of s) _ _ _ (words_of s) (words_of s) _ false (look_goes_on a making rest f next (subst (λ m. word_at (get_or s.ends f 0) < next + m) (sym e) full)) q refl refl);
+        (went_last p (constants_of s) _ _ _ (words_of s) (words_of s) _ false
+        (look_goes_on a making rest f next (subst (λ m. word_at (get_or s.ends f 0) < next + m) (sym e) full)) q refl refl);
     passed = λ j before. elim (cases_lt j f) [
       | inl earlier ↦ so.passed j earlier
       | inr late ↦ let here : j ≡ f = omega arith in subst (λ i. LacksWords s n i) (sym here) (omega (arith, q, full))

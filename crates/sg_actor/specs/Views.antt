@@ -29,7 +29,17 @@ slot_of held = record { word = held.word; offset = held.offset }
 
 -- between two statements, before this script; the code's stack has its top last
 abbrev pub acting : Hands → List Statement → Actor
-acting m script = record { reg = λ r. slice_index m.registers r; offset = λ r. slice_index m.offsets r; stack = reverse (map slot_of m.stack.items); from = m.from; to = m.to; script = script; told = m.answers.items; mid = Idle }
+acting m script = record {
+  reg = λ r. slice_index m.registers r;
+  offset = λ r. slice_index m.offsets r;
+  stack = reverse
+      (map slot_of m.stack.items);
+  from = m.from;
+  to = m.to;
+  script = script;
+  told = m.answers.items;
+  mid = Idle;
+}
 
 -- each fragment ends in the nursery
 abbrev pub EndsInside : Contents → Type 0
@@ -81,7 +91,8 @@ pub record FindsRoom (s : Contents) (n f next : ℕ) : Type 0 where
 
 -- Any mutator whose new object has the word x stores its header.
 abbrev pub StoresHeader : Contents → Contents → ℕ → ℕ → ℕ → Type 0
-StoresHeader s t x class fields = (p : Program) (lay : Constants) (a : Actor) (rest : List Statement) (making : Statement) → made_class making ≡ class → made_fields p making ≡ fields →
+StoresHeader s t x class fields = (p : Program) (lay : Constants) (a : Actor) (rest : List Statement) (making : Statement) → made_class making ≡ class →
+    made_fields p making ≡ fields →
     Went p lay (within a rest (StoreLength making x)) (words_of s) (over a rest (put a.reg (made_in making) (byte_at x)) (At (byte_at x))) (words_of t)
 
 -- the space with the header of an object of this class, and with so many fields, at the word x
@@ -116,8 +127,8 @@ sort_of true = Reference
 sort_of false = Plain
 
 -- a word of a reference: none, or an address
-abbrev pub IsReference : ℕ → Type 0
-IsReference v = (v ≡ 0) ⊎ IsAddress v
+abbrev pub IsAddressOrNone : ℕ → Type 0
+IsAddressOrNone v = (v ≡ 0) ⊎ IsAddress v
 
 -- the word x is the first one of an object of the program, among the words below n
 pub record IsObjectIn (p : Program) (w : Words) (n x : ℕ) : Type 0 where
@@ -126,11 +137,12 @@ pub record IsObjectIn (p : Program) (w : Words) (n x : ℕ) : Type 0 where
   pub there : class < length p.classes
   pub above : nursery_base ≤ x
   pub inside : x + 2 + w.word (x + 1) ≤ n
-  pub references : (i : ℕ) → has_field Reference (kind_of p class) (w.word (x + 1)) i ≡ true → IsReference (w.word (x + 2 + i))
+  pub references : (i : ℕ) → has_field Reference (kind_of p class) (w.word (x + 1)) i ≡ true → IsAddressOrNone (w.word (x + 2 + i))
 
 -- register r holds an object or none
 abbrev pub FindsObject : Program → Contents → Hands → ℕ → Type 0
-FindsObject p s m r = (r < 16) × (length p.classes ≤ 256) × (slice_index m.registers r ≢ 0 → IsObjectIn p (words_of s) (words_end s.layout) (word_at (slice_index m.registers r)))
+FindsObject p s m r = (r < 16) × (length p.classes ≤ 256) ×
+    (slice_index m.registers r ≢ 0 → IsObjectIn p (words_of s) (words_end s.layout) (word_at (slice_index m.registers r)))
 
 -- the object in a register that holds `held` has such a field, or not
 pub record IsMeasured (p : Program) (w : Words) (held field : ℕ) (sort : Sort) (has : Bool) : Type 0 where
@@ -159,7 +171,8 @@ pub record CanMake (p : Program) (s : Statement) : Type 0 where
 
 -- register r is empty, or holds an address at some bytes behind that of an object
 abbrev pub FindsInner : Hands → ℕ → Type 0
-FindsInner m r = slice_index m.registers r ≢ 0 → (slice_index m.offsets r ≤ slice_index m.registers r) × IsAddress (slice_index m.registers r - slice_index m.offsets r)
+FindsInner m r = slice_index m.registers r ≢ 0 →
+    (slice_index m.offsets r ≤ slice_index m.registers r) × IsAddress (slice_index m.registers r - slice_index m.offsets r)
 
 -- what a statement asks of the words and its mutator; what isn't run yet is asked for by no program
 abbrev pub CanDo : Program → Contents → Hands → Statement → Type 0
@@ -191,8 +204,9 @@ pub record IsAnswered (p : Program) (s : Contents) (m : Hands) (statement : Stat
   pub keeps : KeepsGoing s t
 
 -- the mutator has asked for a stop and left: its statement waits for the answer, and nothing but the stop word has changed
-pub record HasAsked (p : Program) (s : Contents) (m : Hands) (statement : Statement) (t : Contents) (o : Hands) (request : Request) : Type 0 where
-  pub went : (rest : List Statement) → Went p (constants_of s) (acting m (statement ∷ rest)) (words_of s) (within (acting o rest) rest (Left statement)) (words_of t)
+pub record LeavesAsking (p : Program) (s : Contents) (m : Hands) (statement : Statement) (t : Contents) (o : Hands) (request : Request) : Type 0 where
+  pub went : (rest : List Statement) → Went p (constants_of s) (acting m (statement ∷ rest)) (words_of s) (within (acting o rest) rest (Left statement))
+      (words_of t)
   pub fits : IsRequestOf p statement request
   pub space : t ≡ record s { stop = 1 }
   pub mutator : o ≡ m
@@ -216,7 +230,8 @@ pub record GetsNone (p : Program) (s : Contents) (m : Hands) (n : ℕ) (t : Cont
 -- the exchange for n words at the word `next` of fragment f
 abbrev pub WinsRoom : Program → Contents → Hands → ℕ → ℕ → ℕ → Contents → Hands → Type 0
 WinsRoom p s m n f next t o = (rest : List Statement) (making : Statement) → made_words p making ≡ n →
-    Went p (constants_of s) (within (acting m rest) rest (Claim making f next)) (words_of s) (within (acting o rest) rest (StoreLength making next)) (words_of t)
+    Went p (constants_of s) (within (acting m rest) rest (Claim making f next)) (words_of s) (within (acting o rest) rest (StoreLength making next))
+    (words_of t)
 
 -- Fragment f is the lowest one with room for a new object of this class, and with so many fields. It gives its front, whose
 -- byte address is a: its next word is the one behind the object, whose header is written, and nothing else changes.

@@ -8,6 +8,3 @@ mod shared;
 pub use hands::Held;
 pub use mutator::{Mutator, Stage};
 pub use shared::place;
-
-#[cfg(test)]
-mod tests;

@@ -1,6 +1,7 @@
 -- What the code of a copier works on, and what it does with one slot.
 use Rattle.std.specs.Prelude.{◌≡◌, ◌≢◌, ℕ, ◌+◌, ◌-◌, ◌<◌, ◌≤◌, Bool, false, Option, Some, None, List, [], ◌∷◌, ◌++◌, map, length, slice_get}
-use Rattle.std.proofs.Common.{ap, ◌∙◌}
+use Rattle.std.specs.List.{flat_map}
+use Rattle.std.proofs.Common.{ap, sym, subst, ◌∙◌}
 use Rattle.sg_words.specs.Address.{IsAddress, byte_at, word_at}
 use Rattle.sg_words.specs.Tags.{plain_word}
 use Rattle.sg_words.specs.declared.pieces.Move.{Move}
@@ -36,6 +37,15 @@ IsStill old new = (new ≡ record old { words = new.words }) × (length new.word
 
 pub still_on : (s t u : Contents) → IsStill s t → IsStill t u → IsStill s u
 still_on s t u h k = (k.0 ∙ ap (λ (z : Contents). record z { words = u.words }) h.0, k.1 ∙ h.1)
+
+pub contents_still : (s t : Contents) → IsStill s t → IsContents s → IsContents t
+contents_still s t h contents = subst IsContents (sym h.0) (record {
+  layout = contents.layout;
+  shapes = contents.shapes;
+  words = h.1 ∙ contents.words;
+  fragments = contents.fragments;
+  few = contents.few;
+})
 
 pub area_still : (s t : Contents) → IsStill s t → area_of t ≡ area_of s
 area_still s t h = ap area_of h.0
@@ -106,8 +116,7 @@ abbrev pub fields_of : Contents → ℕ → List ℕ
 fields_of s h = slots_by (area_of s) (class_of (word s h)) h 0 (word s (h + 1))
 
 abbrev pub fields_of_all : Contents → List ℕ → List ℕ
-fields_of_all s [] = []
-fields_of_all s (h ∷ hs) = fields_of s h ++ fields_of_all s hs
+fields_of_all s hs = flat_map (fields_of s) hs
 
 -- the object is pinned, of one of the classes, and lies in the nursery
 pub record IsWhole (s : Contents) (h : ℕ) : Type 0 where

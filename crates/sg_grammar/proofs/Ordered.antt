@@ -6,9 +6,9 @@ use Rattle.sg_text.specs.declared.line.Line.{Line}
 use Rattle.sg_grammar.specs.declared.order.Place.{Place}
 use Rattle.sg_grammar.specs.declared.order.Place.TheVariants.{Start, Settings, Classes, Within, Outside}
 use Rattle.sg_text.specs.Lines.{Sentence, Heads, Sets, Begins, Repeats, Ends}
-use Rattle.sg_grammar.specs.Text.{IsWhole, IsPrefix, CanGoOn}
+use Rattle.sg_grammar.specs.Text.{IsWholeText, IsPrefix, CanGoOn}
 use Rattle.sg_text.specs.Reading.{sentence_of}
-use Rattle.sg_grammar.specs.Order.{index_of, marked, next, depth_of, is_end}
+use Rattle.sg_grammar.specs.Order.{index_of, marked, next, depth_of, may_end_at}
 use Rattle.sg_grammar.proofs.Runs.{run, run-append, stopped}
 use Rattle.sg_grammar.proofs.Stands.{are_whole, are_prefix, not_whole}
 
@@ -67,11 +67,11 @@ misplaced lines i d place b e n = (b, are_prefix (said_by lines i) place e, stop
 all : (lines : List Line) (i : ℕ) → length lines ≤ i → said_by lines i ≡ map sentence_of lines
 all lines i b = let l = length-map lines sentence_of in take_all i (map sentence_of lines) (omega arith)
 
-pub whole_read : (lines : List Line) (i : ℕ) (place : Place) → length lines ≤ i → run (Some Start) (said_by lines i) ≡ Some place → is_end place ≡ true → IsWhole (map sentence_of lines)
+pub whole_read : (lines : List Line) (i : ℕ) (place : Place) → length lines ≤ i → run (Some Start) (said_by lines i) ≡ Some place → may_end_at place ≡ true → IsWholeText (map sentence_of lines)
 whole_read lines i place b e t = are_whole (map sentence_of lines) place (ap (run (Some Start)) (sym (all lines i b)) ∙ e) t
 
-pub part_read : (lines : List Line) (i : ℕ) (place : Place) → length lines ≤ i → run (Some Start) (said_by lines i) ≡ Some place → is_end place ≡ false →
-    IsPrefix (map sentence_of lines) × ¬ IsWhole (map sentence_of lines)
+pub part_read : (lines : List Line) (i : ℕ) (place : Place) → length lines ≤ i → run (Some Start) (said_by lines i) ≡ Some place → may_end_at place ≡ false →
+    IsPrefix (map sentence_of lines) × ¬ IsWholeText (map sentence_of lines)
 part_read lines i place b e t =
     let r = ap (run (Some Start)) (sym (all lines i b)) ∙ e in
     (are_prefix (map sentence_of lines) place r, not_whole (map sentence_of lines) place r t)

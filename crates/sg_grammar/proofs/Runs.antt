@@ -3,7 +3,6 @@ use Rattle.std.proofs.Common.{◌≡◌, ◌≢◌, ℕ, zero, suc, ◌<◌, Boo
 use Rattle.std.proofs.lemmas.Option.{slice_get-get_or, slice_get_within, get_or_from_slice_get}
 use Rattle.std.specs.List.{Contains, AllByRecursion, slice_get, slice_set}
 use Rattle.sg_desc.specs.declared.shapes.Shape.{Shape}
-use Rattle.sg_program.specs.declared.program.Config.{Config}
 use Rattle.sg_program.specs.declared.program.Class.{Class}
 use Rattle.sg_program.specs.declared.program.Item.{Item}
 use Rattle.sg_program.specs.declared.program.Script.{Script}
@@ -13,8 +12,8 @@ use Rattle.sg_grammar.specs.declared.order.Place.TheVariants.{Start, Settings, C
 use Rattle.sg_text.specs.declared.line.Setting.{Setting}
 use Rattle.sg_text.specs.declared.line.Setting.TheVariants.{Nursery, Blocks, Pages, Buffer, Workers, Cement}
 use Rattle.sg_text.specs.Lines.{Sentence, Sets, Declares, Begins, Ends}
-use Rattle.sg_grammar.specs.Text.{AreItems, NoItem, OneSays, OneMakes, NoRepeat, OneRepeat, AreScripts, IsClass, IsSetting, IsAnyName, IsWhole, CanGoOn}
-use Rattle.sg_grammar.specs.Order.{none_given, index_of, marked, next, is_end}
+use Rattle.sg_grammar.specs.Text.{AreItems, NoItem, OneSays, OneMakes, NoRepeat, OneRepeat, AreScripts, IsClass, IsSetting, IsAnyName, IsWholeText, CanGoOn}
+use Rattle.sg_grammar.specs.Order.{none_given, index_of, marked, next, may_end_at}
 
 -- the place behind a sentence, where the place before it is known
 abbrev pub moved : Option Place → Sentence → Option Place
@@ -48,10 +47,10 @@ items_run (OneRepeat times body rest whole item inner items e b n o d) depth =
 
 -- the sentences take a reader from here to where a text may end
 Finishes : Option Place → List Sentence → Type 0
-Finishes from l = (place : Place) × (run from l ≡ Some place) × (is_end place ≡ true)
+Finishes from l = (place : Place) × (run from l ≡ Some place) × (may_end_at place ≡ true)
 
 scripts_run : (names : List ℕ → ℕ → Type 0) (l : List Sentence) (a : List Script) → AreScripts names l a →
-    (place : Place) → next place Begins ≡ Some (Within 0) → is_end place ≡ true → Finishes (Some place) l
+    (place : Place) → next place Begins ≡ Some (Within 0) → may_end_at place ≡ true → Finishes (Some place) l
 unfolding Finishes
 scripts_run names l [] p place b e = (place, ap (run (Some place)) p, e)
 scripts_run names l (x ∷ xs) p place b e =
@@ -64,7 +63,7 @@ scripts_run names l (x ∷ xs) p place b e =
 
 -- classes and mutators may come here
 Opens : Place → Type 0
-Opens place = (next place Begins ≡ Some (Within 0)) × (is_end place ≡ true) × ((name : List ℕ) (shape : Shape) → next place (Declares name shape) ≡ Some Classes)
+Opens place = (next place Begins ≡ Some (Within 0)) × (may_end_at place ≡ true) × ((name : List ℕ) (shape : Shape) → next place (Declares name shape) ≡ Some Classes)
 
 classes_run : (l : List Sentence) (a : List Class) → Pairwise IsClass l a → (place : Place) → Opens place → (q : Place) × (run (Some place) l ≡ Some q) × Opens q
 unfolding Opens
@@ -141,7 +140,7 @@ fresh Buffer = refl
 fresh Workers = refl
 fresh Cement = refl
 
-pub whole_runs : (l : List Sentence) → IsWhole l → (place : Place) × (run (Some Start) l ≡ Some place) × (is_end place ≡ true)
+pub whole_runs : (l : List Sentence) → IsWholeText l → (place : Place) × (run (Some Start) l ≡ Some place) × (may_end_at place ≡ true)
 unfolding Finishes Opens
 whole_runs l w =
     let p = w.1 in

@@ -1,6 +1,6 @@
 -- What was read where a reader stands, and how the right number of ends makes it whole.
 use Rattle.std.proofs.Common.{◌≡◌, ◌≢◌, ℕ, zero, suc, ◌<◌, ◌⊎◌, inl, inr, Bool, true, false, Option, Some, None, List, [], ◌∷◌, ◌++◌, length, refl, sym, ap, ◌∙◌, subst, append_assoc, arith}
-use Rattle.std.proofs.lemmas.List.{append-nil, length-set}
+use Rattle.std.proofs.lemmas.List.{append-nil}
 use Rattle.std.proofs.lemmas.Option.{slice_get_within}
 use Rattle.std.specs.List.{AllByRecursion, slice_get, slice_set}
 use Rattle.sg_desc.specs.declared.shapes.Shape.{Shape}
@@ -18,8 +18,8 @@ use Rattle.sg_grammar.specs.declared.order.Place.TheVariants.{Start, Settings, C
 use Rattle.sg_text.specs.declared.line.Setting.{Setting}
 use Rattle.sg_text.specs.declared.line.Setting.TheVariants.{Nursery, Blocks, Pages, Buffer, Workers, Cement}
 use Rattle.sg_text.specs.Lines.{Maker, made_by, Sentence, Heads, Sets, Declares, Begins, Repeats, Ends, Makes, Says}
-use Rattle.sg_grammar.specs.Text.{AreItems, NoItem, OneSays, OneMakes, NoRepeat, OneRepeat, AreScripts, IsClass, value_in, defaults, IsFinishedBy, IsPrefix, IsSetting, AreSettings, IsAnyName, IsProgram, IsWhole}
-use Rattle.sg_grammar.specs.Order.{none_given, index_of, marked, closed, next, is_end}
+use Rattle.sg_grammar.specs.Text.{AreItems, NoItem, OneSays, OneMakes, NoRepeat, OneRepeat, AreScripts, IsClass, value_in, defaults, IsFinishedBy, IsPrefix, IsSetting, AreSettings, IsAnyName, IsProgram, IsWholeText}
+use Rattle.sg_grammar.specs.Order.{none_given, index_of, marked, closed, next, may_end_at}
 use Rattle.sg_grammar.proofs.Runs.{moved, run, is_in, contains, get_other, get_same, same_setting, whole_runs}
 
 -- lists that grow at their end
@@ -82,7 +82,7 @@ scripts-append l m (x ∷ a) b p q =
     (p.0, p.1 ++ m, ap (λ w. w ++ m) p.2 ∙ ap (λ w. Begins ∷ w) (append_assoc p.0 (Ends ∷ p.1) m), p.3, scripts-append p.1 m a b p.4 q)
 
 -- a mutator behind a whole text
-one_more : (w l : List Sentence) → IsWhole w → HasItems l → IsWhole ((w ++ Begins ∷ l) ++ Ends ∷ [])
+one_more : (w l : List Sentence) → IsWholeText w → HasItems l → IsWholeText ((w ++ Begins ∷ l) ++ Ends ∷ [])
 one_more w l a h =
     let p = a.1 in
     let script : Script = record { items = h.0 } in (
@@ -273,8 +273,8 @@ abbrev Stands : Place → List Sentence → Type 0
 Stands Start l = l ≡ []
 Stands (Settings given) l = (settings : List Sentence) × (l ≡ Heads ∷ settings) × AreGiven settings given
 Stands Classes l = IsOpening l
-Stands (Within depth) l = (whole body : List Sentence) × (l ≡ whole ++ Begins ∷ body) × IsWhole whole × Open depth body
-Stands Outside l = IsWhole l
+Stands (Within depth) l = (whole body : List Sentence) × (l ≡ whole ++ Begins ∷ body) × IsWholeText whole × Open depth body
+Stands Outside l = IsWholeText l
 
 abbrev StandsAt : Option Place → List Sentence → Type 0
 StandsAt None l = Unit {0}
@@ -295,10 +295,10 @@ opening l settings given e g = (
   refl,
 )
 
-begin : (l : List Sentence) → IsWhole l → Stands (Within 0) (l ++ Begins ∷ [])
+begin : (l : List Sentence) → IsWholeText l → Stands (Within 0) (l ++ Begins ∷ [])
 begin l w = (l, [], refl, w, ([], NoItem))
 
-is_whole : (l : List Sentence) → IsOpening l → IsWhole l
+is_whole : (l : List Sentence) → IsOpening l → IsWholeText l
 is_whole l o = (o.0, o.1)
 
 marks : (l settings : List Sentence) (given : List Bool) (at : Setting) (n : ℕ) → l ≡ Heads ∷ settings → AreGiven settings given →
@@ -311,7 +311,7 @@ deeper : (l more whole body : List Sentence) → l ≡ whole ++ Begins ∷ body 
 deeper l more whole body e = ap (λ w. w ++ more) e ∙ append_assoc whole (Begins ∷ body) more
 
 ended : (depth : ℕ) (l : List Sentence) → Stands (Within depth) l → Stands (closed depth) (l ++ Ends ∷ [])
-ended zero l s = subst (λ w. IsWhole (w ++ Ends ∷ [])) (sym s.2) (one_more s.0 s.1 s.3 s.4)
+ended zero l s = subst (λ w. IsWholeText (w ++ Ends ∷ [])) (sym s.2) (one_more s.0 s.1 s.3 s.4)
 ended (suc depth) l s = (s.0, s.1 ++ Ends ∷ [], deeper l (Ends ∷ []) s.0 s.1 s.2, s.3, open_end depth s.1 s.4)
 
 inside : (depth : ℕ) (l m : List Sentence) → Stands (Within depth) l → HasItems m → Stands (Within depth) (l ++ m)
@@ -349,10 +349,10 @@ stands l place e = subst (λ o. StandsAt o l) e (stands_run (Some Start) l [] re
 -- the ends of the repeats and of the mutator make the text whole
 finished : (depth : ℕ) (l : List Sentence) → Stands (Within depth) l → IsFinishedBy l (suc depth)
 finished zero l s = ended zero l s
-finished (suc depth) l s = subst IsWhole (append_assoc l (Ends ∷ []) (repeated (suc depth) (Ends ∷ []))) (finished depth (l ++ Ends ∷ []) (ended (suc depth) l s))
+finished (suc depth) l s = subst IsWholeText (append_assoc l (Ends ∷ []) (repeated (suc depth) (Ends ∷ []))) (finished depth (l ++ Ends ∷ []) (ended (suc depth) l s))
 
-whole_prefix : (l : List Sentence) → IsWhole l → IsPrefix l
-whole_prefix l w = inr (0, subst IsWhole (sym (append-nil l)) w)
+whole_prefix : (l : List Sentence) → IsWholeText l → IsPrefix l
+whole_prefix l w = inr (0, subst IsWholeText (sym (append-nil l)) w)
 
 prefix : (place : Place) (l : List Sentence) → Stands place l → IsPrefix l
 prefix Start l s = inl s
@@ -361,23 +361,23 @@ prefix Classes l s = whole_prefix l (is_whole l s)
 prefix (Within depth) l s = inr (suc depth, finished depth l s)
 prefix Outside l s = whole_prefix l s
 
-whole : (place : Place) (l : List Sentence) → Stands place l → is_end place ≡ true → IsWhole l
+whole : (place : Place) (l : List Sentence) → Stands place l → may_end_at place ≡ true → IsWholeText l
 whole Start l s e = cc
 whole (Settings given) l s e = is_whole l (opening l s.0 given s.1 s.2)
 whole Classes l s e = is_whole l s
 whole (Within depth) l s e = cc
 whole Outside l s e = s
 
-pub are_whole : (l : List Sentence) (place : Place) → run (Some Start) l ≡ Some place → is_end place ≡ true → IsWhole l
+pub are_whole : (l : List Sentence) (place : Place) → run (Some Start) l ≡ Some place → may_end_at place ≡ true → IsWholeText l
 are_whole l place e t = whole place l (stands l place e) t
 
 pub are_prefix : (l : List Sentence) (place : Place) → run (Some Start) l ≡ Some place → IsPrefix l
 are_prefix l place e = prefix place l (stands l place e)
 
-pub not_whole : (l : List Sentence) (place : Place) → run (Some Start) l ≡ Some place → is_end place ≡ false → ¬ IsWhole l
+pub not_whole : (l : List Sentence) (place : Place) → run (Some Start) l ≡ Some place → may_end_at place ≡ false → ¬ IsWholeText l
 not_whole l place e t w =
     let r = whole_runs l w in
     let r1 = r.1 in
     let same : place ≡ r.0 = cc in
-    let at : is_end place ≡ true = ap is_end same ∙ r.2 in
+    let at : may_end_at place ≡ true = ap may_end_at same ∙ r.2 in
     cc

@@ -70,9 +70,9 @@ depth_of (Within depth) = depth
 depth_of place = 0
 
 -- a text may end here
-abbrev pub is_end : Place → Bool
-is_end Start = false
-is_end (Settings given) = true
-is_end Classes = true
-is_end (Within depth) = false
-is_end Outside = true
+abbrev pub may_end_at : Place → Bool
+may_end_at Start = false
+may_end_at (Settings given) = true
+may_end_at Classes = true
+may_end_at (Within depth) = false
+may_end_at Outside = true

@@ -88,16 +88,16 @@ abbrev pub IsAnyName : List ℕ → ℕ → Type 0
 IsAnyName word c = Unit {0}
 
 -- sentences of a whole text, whatever the names stand for
-abbrev pub IsWhole : List Sentence → Type 0
-IsWhole lines = (p : Program) × IsProgram IsAnyName lines p
+abbrev pub IsWholeText : List Sentence → Type 0
+IsWholeText lines = (p : Program) × IsProgram IsAnyName lines p
 
 -- sentences with which a text may begin
 abbrev pub CanGoOn : List Sentence → Type 0
-CanGoOn lines = (more : List Sentence) × IsWhole (lines ++ more)
+CanGoOn lines = (more : List Sentence) × IsWholeText (lines ++ more)
 
 -- the sentences and n ends are a whole text
 abbrev pub IsFinishedBy : List Sentence → ℕ → Type 0
-IsFinishedBy lines n = IsWhole (lines ++ repeated n (Ends ∷ []))
+IsFinishedBy lines n = IsWholeText (lines ++ repeated n (Ends ∷ []))
 
 -- a text may begin with the sentences: there are none, or some number of ends makes them whole
 abbrev pub IsPrefix : List Sentence → Type 0
@@ -105,7 +105,7 @@ IsPrefix lines = (lines ≡ []) ⊎ ((n : ℕ) × IsFinishedBy lines n)
 
 -- the lines are a text of the grammar, which says this
 abbrev pub IsTextOf : List (List ℕ) → List Numbered → Type 0
-IsTextOf lines found = Say lines found × IsWhole (sentences found)
+IsTextOf lines found = Say lines found × IsWholeText (sentences found)
 
 -- the lines are a text of the grammar
 abbrev pub IsText : List (List ℕ) → Type 0
@@ -123,9 +123,9 @@ IsFirstRefused lines k =
     ⊎ ((k ≡ length lines) × MayGoOn lines × ¬ IsText lines)
 
 -- the bytes read as the program
-abbrev pub Reads : List ℕ → Program → Type 0
-Reads bytes p = (found : List Numbered) × Say (lines_of bytes) found × IsProgram (StandsFor p.classes) (sentences found) p
+abbrev pub ReadsAs : List ℕ → Program → Type 0
+ReadsAs bytes p = (found : List Numbered) × Say (lines_of bytes) found × IsProgram (StandsFor p.classes) (sentences found) p
 
 -- a text has at most one reading
 pub record HasOneReading : Type 0 where
-  pub one : (bytes : List ℕ) (p q : Program) → Reads bytes p → Reads bytes q → p ≡ q
+  pub one : (bytes : List ℕ) (p q : Program) → ReadsAs bytes p → ReadsAs bytes q → p ≡ q

@@ -1,8 +1,8 @@
 //! Whether sentences stand in the order that the grammar gives them.
 ghost use Rattle.std.specs.Prelude.{◌≡◌, ℕ, suc, ◌^◌, ◌<◌, ◌≤◌, length, map, take, slice_get};
 ghost use Rattle.sg_text.specs.Reading.{sentence_of};
-ghost use Rattle.sg_grammar.specs.Text.{IsWhole, IsPrefix, CanGoOn};
-ghost use Rattle.sg_grammar.specs.Order.{index_of, marked, from_start, from_settings, from_classes, from_within, from_outside, next, depth_of, is_end};
+ghost use Rattle.sg_grammar.specs.Text.{IsWholeText, IsPrefix, CanGoOn};
+ghost use Rattle.sg_grammar.specs.Order.{index_of, marked, from_start, from_settings, from_classes, from_within, from_outside, next, depth_of, may_end_at};
 ghost use Rattle.sg_grammar.specs.declared.order.Order.TheVariants.{Whole, Unfinished, Misplaced};
 
 use sg_text::{Line, Setting};
@@ -134,7 +134,7 @@ fn step(place: Place, line: &Line<'_>) -> Option<Place>
 
 /// Whether a text may end here.
 fn may_end(place: Place) -> bool
-    ensures { result ≡ is_end place }
+    ensures { result ≡ may_end_at place }
 {
     match place {
         Place::Settings { .. } | Place::Classes | Place::Outside => true,
@@ -144,8 +144,8 @@ fn may_end(place: Place) -> bool
 
 /// Whether the lines stand in the order of a whole text. Linear in the lines.
 pub fn order_of(lines: &[Line<'_>]) -> Order
-    ensures whole { result ≡ Whole → IsWhole (map sentence_of lines.now) }
-    ensures unfinished { result ≡ Unfinished → IsPrefix (map sentence_of lines.now) × ¬ IsWhole (map sentence_of lines.now) }
+    ensures whole { result ≡ Whole → IsWholeText (map sentence_of lines.now) }
+    ensures unfinished { result ≡ Unfinished → IsPrefix (map sentence_of lines.now) × ¬ IsWholeText (map sentence_of lines.now) }
     ensures misplaced { (i : ℕ) → result ≡ Misplaced i → (i < length lines.now) × IsPrefix (take i (map sentence_of lines.now)) × ¬ CanGoOn (take (suc i) (map sentence_of lines.now)) }
 {
     let mut place = Place::Start;
@@ -164,8 +164,8 @@ pub fn order_of(lines: &[Line<'_>]) -> Order
 #[cfg(test)]
 mod tests {
     use super::{Order, order_of};
-    use sg_text::{Form, Line, Setting};
     use sg_program::Statement;
+    use sg_text::{Form, Line, Setting};
     use std::alloc::Global;
     use std::test::Fail;
 
@@ -185,7 +185,14 @@ mod tests {
     #[test]
     fn texts_that_are_whole(rt: HostRuntime) {
         assert!(rt; order_of(&[Line::Head]) == Order::Whole);
-        assert!(rt; order_of(&[Line::Head, setting(Setting::Cement), setting(Setting::Nursery), PAIR]) == Order::Whole);
+        assert!(rt;
+            order_of(&[
+                Line::Head,
+                setting(Setting::Cement),
+                setting(Setting::Nursery),
+                PAIR
+            ]) == Order::Whole
+        );
         assert!(rt;
             order_of(&[
                 Line::Head,
@@ -228,7 +235,13 @@ mod tests {
         assert!(rt; order_of(&[Line::Mutator, Line::End]) == first);
         assert!(rt; order_of(&[Line::Head, Line::Head]) == second);
         assert!(rt; order_of(&[Line::Head, PUSH]) == second);
-        assert!(rt; order_of(&[Line::Head, setting(Setting::Nursery), setting(Setting::Nursery)]) == third);
+        assert!(rt;
+            order_of(&[
+                Line::Head,
+                setting(Setting::Nursery),
+                setting(Setting::Nursery)
+            ]) == third
+        );
         assert!(rt; order_of(&[Line::Head, PAIR, setting(Setting::Nursery)]) == third);
         assert!(rt; order_of(&[Line::Head, Line::Mutator, Line::Mutator]) == third);
         assert!(rt; order_of(&[Line::Head, Line::Mutator, Line::End, Line::End]) == fourth);

@@ -6,6 +6,7 @@ pub mod Epoch
 pub mod Pause
 pub mod Tiling
 pub mod Minor
+pub mod Copies
 pub mod Stop
 pub mod Run
 pub mod Heap

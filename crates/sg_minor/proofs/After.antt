@@ -8,6 +8,7 @@ use Rattle.sg_program.specs.Scripts.{words_for}
 use Rattle.sg_graph.specs.Graph.{Graph}
 use Rattle.sg_graph.specs.Book.{Book, Section, Young, Old, nursery_end, old_end}
 use Rattle.sg_words.specs.Sections.{nursery_base}
+use Rattle.sg_graph.specs.Laws.{QuietPause}
 use Rattle.sg_graph.specs.Invariants.{IsPlain}
 use Rattle.sg_space.specs.declared.objects.Object.{Object}
 use Rattle.sg_graph.specs.Heap.{Owner, Of, Frag, Buf, Nobody, IsHeap, layout_of}
@@ -16,7 +17,7 @@ use Rattle.sg_words.specs.Lists.{In, has}
 use Rattle.sg_words.specs.Objects.{size_of}
 use Rattle.sg_words.proofs.Members.{out}
 use Rattle.sg_words.proofs.Objects.{placed-grows, placed-in}
-use Rattle.sg_minor.specs.Pieces.{IsTaken, ArePieces}
+use Rattle.sg_nursery.specs.Pieces.{IsTaken, ArePieces}
 use Rattle.sg_minor.specs.Joined.{IsKept, IsTraced, IsPictured, IsPicture}
 use Rattle.sg_minor.specs.Law.{HaveWords}
 use Rattle.sg_minor.proofs.Ranges.{ranged, ranged-in, ranged-out, ranged-cases}
@@ -40,6 +41,7 @@ pub record Ended : Type 0 where
   pub owner : ℕ → Owner
   pub standing : List Object
   pub pieces : List Piece
+  pub law : QuietPause
   pub plain : IsPlain p g
   pub tie : IsAreaOf p area
   pub heap : IsHeap p w g b owner

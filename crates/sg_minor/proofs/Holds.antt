@@ -6,7 +6,6 @@ use Rattle.sg_program.specs.Scripts.{kind_of, words_for}
 use Rattle.sg_graph.specs.Graph.{Entry, Ref, Int, Inner}
 use Rattle.sg_graph.specs.Book.{Young, Old, nursery_end, word_of}
 use Rattle.sg_words.specs.Sections.{nursery_base, ready_base}
-use Rattle.sg_graph.proofs.Quiet.{strong_here}
 use Rattle.sg_graph.specs.Heap.{Of, IsHeaded, IsKnown, IsKnownEntry, IsOfSort, Objects, Fields, Globals, Clear, Fragments, IsHeap, layout_of}
 use Rattle.sg_copy.specs.Area.{IsYoung, is_strong}
 use Rattle.sg_words.specs.Lists.{In}
@@ -38,7 +37,7 @@ module _ (c : Ended) where
       let d = has-field n i l in
       let s = stood c n k in
       let len = size-is c.p c.area c.tie c.w c.g c.b c.ambiguous c.owner c.heap n d s in
-      let st = strong-of c.p c.area c.tie c.w c.g c.b c.ambiguous c.owner c.heap n i s d ∙ strong_here c.p c.g c.plain n i (some-name n d) (c.heap.laid.objects.given n s) in
+      let st = strong-of c.p c.area c.tie c.w c.g c.b c.ambiguous c.owner c.heap n i s d ∙ c.law.strong c.p c.g c.plain n i (some-name n d) (c.heap.laid.objects.given n s) in
       (pictured c n d s (place c n d k)).fields i (omega arith)
       ∙ entry-word c.b.address c.m (c.g.field n i) (is_strong c.area c.w (c.b.address n) i) (c.w (c.b.address n + 2 + i))
       (subst (λ (z : Bool). IsOfSort z (c.g.field n i)) (sym st) (c.heap.laid.fields.sorted n i s l))
@@ -66,7 +65,7 @@ module _ (c : Ended) where
     | inr d ↦
         let s = stood c n h in
         let r = sort-of-ref (holds_reference (kind_of c.p (c.g.class n)) i (c.g.size n)) k (subst (λ z. IsOfSort (holds_reference (kind_of c.p (c.g.class n)) i (c.g.size n)) z) e (c.heap.laid.fields.sorted n i s l)) in
-        let here = strong_here c.p c.g c.plain n i (some-name n (has-field n i l)) (c.heap.laid.objects.given n s) ∙ r in
+        let here = c.law.strong c.p c.g c.plain n i (some-name n (has-field n i l)) (c.heap.laid.objects.given n s) ∙ r in
         target-kept c.p c.area c.tie c.w c.g c.b c.ambiguous c.owner c.heap c.stays c.moves c.traced n k (has-field n i l) h (d, (i, l, here, e))
   ]
 

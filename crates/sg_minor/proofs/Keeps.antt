@@ -13,7 +13,8 @@ use Rattle.sg_copy.specs.Area.{IsYoung, Points, Traces}
 use Rattle.sg_words.specs.Lists.{In, has}
 use Rattle.sg_copy.specs.Image.{IsImage}
 use Rattle.sg_words.proofs.Members.{in-left, in-right, in-cases, out}
-use Rattle.sg_minor.specs.Joined.{ArePins, HasTagged, IsItem, IsKept, IsTraced}
+use Rattle.sg_minor.specs.Joined.{ArePins, IsItem, IsKept, IsTraced}
+use Rattle.sg_nursery.specs.Parts.{HasTagged}
 use Rattle.sg_minor.proofs.Areas.{area_for}
 use Rattle.sg_minor.proofs.Named.{field_refers, first, length, strong-of, pin-named, in-nursery, inner-field, len, tag-of, strong, field-of}
 use Rattle.sg_minor.proofs.Slots.{IsStart, AtGlobal, AtField, AreStarts}

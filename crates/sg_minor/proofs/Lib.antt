@@ -1,13 +1,7 @@
-pub mod Gaps
-pub mod Walk
-pub mod Grown
+pub mod Added
 pub mod Sound
-pub mod Keeping
 pub mod OldSlots
-pub mod Cleaning
-pub mod Tagged
 pub mod Pinned
-pub mod Few
 pub mod Rounded
 pub mod Whole
 pub mod Ranges
@@ -29,3 +23,5 @@ pub mod Pictures
 pub mod Joins
 pub mod Bounds
 pub mod Empty
+pub mod InOrder
+pub mod Copied

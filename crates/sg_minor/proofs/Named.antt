@@ -13,7 +13,8 @@ use Rattle.sg_graph.specs.Heap.{Owner, IsKnownEntry, IsOfSort, IsHeap}
 use Rattle.sg_copy.specs.Area.{IsYoung, class_of, is_strong, Points}
 use Rattle.sg_words.specs.Lists.{has, In}
 use Rattle.sg_words.proofs.Members.{out}
-use Rattle.sg_minor.specs.Joined.{ArePins, HasTagged}
+use Rattle.sg_minor.specs.Joined.{ArePins}
+use Rattle.sg_nursery.specs.Parts.{HasTagged}
 use Rattle.sg_minor.proofs.Areas.{refers, area_for}
 use Rattle.sg_minor.proofs.Names.{of-same, class-of-plain, ref-of}
 

@@ -1,6 +1,7 @@
 -- What is traced in the words, and what the graph's roots reach.
 use Rattle.std.proofs.Common.{◌≡◌, ◌≢◌, ℕ, ◌+◌, ◌≤◌, ◌<◌, ◌⊎◌, ◌↔◌, ltb, leb, cond, Bool, true, false, List, sym, refl, ap, ◌∙◌, subst, inl, inr, arith, le_refl}
 use Rattle.std.proofs.lemmas.Bool.{cond-true, cond-false, cases_lt, cases_Bool, le-leb, lt-ltb, lt-leb, le-ltb}
+use Rattle.std.specs.List.{Contains}
 use Rattle.sg_words.specs.Address.{byte_at}
 use Rattle.sg_words.specs.Tags.{plain_word}
 use Rattle.sg_program.specs.declared.program.Program.{Program}
@@ -13,7 +14,7 @@ use Rattle.sg_graph.specs.Pause.{IsTarget, IsReached, IsRoot}
 use Rattle.sg_graph.specs.Invariants.{IsPlain}
 use Rattle.sg_words.specs.Reach.{Reached, Root, Next}
 use Rattle.sg_words.proofs.Closure.{from_rounds, within_closed, to_rounds}
-use Rattle.sg_graph.proofs.Quiet.{none_ready, as_rounds}
+use Rattle.sg_graph.specs.Laws.{QuietPause}
 use Rattle.sg_graph.specs.Heap.{Owner, Of, IsOfSort, IsKnownEntry, IsHeap, layout_of}
 use Rattle.sg_copy.specs.Area.{Area, IsYoung, class_of, is_strong, Points}
 use Rattle.sg_words.specs.Lists.{has}
@@ -244,7 +245,7 @@ module _ (p : Program) (area : Area) (tie : IsAreaOf p area) (w : ℕ → ℕ) (
           | inl q ↦ tr.items (b.address n) (y, inl (n, ((r.0, r.1, young-section n r.1 y), q), refl))
           | inr h ↦ elim h [
             | inl x ↦ tr.items (b.address n) (y, inr (inl (x.0, x.1, t.laid.globals.holds x.0 x.1 ∙ ap (λ z. byte_at (b.address z)) x.2)))
-            | inr x ↦ absurd (none_ready p g plain n x)
+            | inr x ↦ absurd (let here = subst (λ (l : List ℕ). Contains l n) plain.ready x in let l = here.1 in omega arith)
           ]
         ]
       ]
@@ -272,10 +273,10 @@ module _ (p : Program) (area : Area) (tie : IsAreaOf p area) (w : ℕ → ℕ) (
         ]
 
     -- exactly what the roots reach is kept
-    pub exactly : IsPlain p g → (n : ℕ) → n ≢ 0 → kept n ≡ true ↔ IsReached p g (IsRoot p g b ambiguous) n
-    exactly plain n d = (
-      λ k. (as_rounds p g plain (IsRoot p g b ambiguous) bound n).1 (to_rounds (IsTarget p g) (IsRoot p g b ambiguous) g.count bound n (kept-reached n d k)),
-      λ r. (reached-kept plain n (from_rounds (IsTarget p g) (IsRoot p g b ambiguous) g.count n ((as_rounds p g plain (IsRoot p g b ambiguous) bound n).0 r))).1,
+    pub exactly : QuietPause → IsPlain p g → (n : ℕ) → n ≢ 0 → kept n ≡ true ↔ IsReached p g (IsRoot p g b ambiguous) n
+    exactly law plain n d = (
+      λ k. (law.reaches p g b ambiguous plain bound n).1 (kept-reached n d k),
+      λ r. (reached-kept plain n ((law.reaches p g b ambiguous plain bound n).0 r)).1,
     )
       where
         bound : (m : ℕ) → Reached (IsTarget p g) (IsRoot p g b ambiguous) m → (1 ≤ m) × (m ≤ g.count)

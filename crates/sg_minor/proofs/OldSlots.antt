@@ -1,58 +1,48 @@
 -- The slots outside of the nursery that refer to young objects.
-use Rattle.std.proofs.Common.{◌≡◌, ◌≢◌, ℕ, ◌+◌, ◌<◌, ◌≤◌, ◌⊎◌, inl, inr, List, [], length, true, false, sym, ap, ◌∙◌, subst, arith}
-use Rattle.std.proofs.lemmas.Bool.{cases_eq, cases_lt, false≢true}
-use Rattle.sg_words.specs.Address.{byte_at}
+use Rattle.std.proofs.Common.{◌≡◌, ◌≢◌, ℕ, ◌+◌, ◌<◌, ◌≤◌, ◌⊎◌, inl, inr, Bool, List, [], ◌∷◌, ◌++◌, map, filter, length, true, sym, ap, ◌∙◌, subst, arith}
+use Rattle.std.specs.List.{flat_map}
+use Rattle.std.specs.List.Sorted.{IsStrictlyIncreasing}
+use Rattle.std.proofs.Math.Path.{fun_ext}
+use Rattle.std.proofs.lemmas.Bool.{cases_eq, cases_lt}
+use Rattle.std.proofs.lemmas.Grind.{flat_map-append}
+use Rattle.std.proofs.lemmas.List.{append-nil, map-append}
+use Rattle.sg_words.specs.Address.{word_at}
+use Rattle.sg_words.specs.Lists.{In}
+use Rattle.sg_words.specs.Objects.{strong_slots}
 use Rattle.sg_words.specs.Tags.{plain_word}
+use Rattle.sg_words.specs.Sections.{old_base, large_base}
+use Rattle.sg_words.proofs.Members.{in_contains, map_in, in-last, in-before, last-cases}
+use Rattle.sg_words.proofs.Sorted.{increasing_push}
 use Rattle.sg_program.specs.declared.program.Program.{Program}
-use Rattle.sg_desc.specs.Shapes.{is_strong as is_strong_by, strong_any}
 use Rattle.sg_program.specs.Scripts.{kind_of, fields_of}
+use Rattle.sg_desc.specs.Shapes.{strong_any, is_strong as is_strong_by}
 use Rattle.sg_graph.specs.Graph.{Graph}
 use Rattle.sg_graph.specs.Book.{Book, Old, nursery_end, old_end}
-use Rattle.sg_words.specs.Sections.{globals_base, old_base, large_base}
+use Rattle.sg_graph.specs.Copies.{StandsOld}
+use Rattle.sg_graph.specs.Heap.{Owner, Of, IsHeap, layout_of}
 use Rattle.sg_space.specs.Space.{Contents, IsContents}
 use Rattle.sg_space.specs.Standing.{word}
-use Rattle.sg_graph.specs.Heap.{Owner, Of, IsHeap}
-use Rattle.sg_minor.specs.Holding.{IsSpaceOf, HoldsHeap}
-use Rattle.sg_copy.specs.Area.{Area, IsYoung, class_of}
-use Rattle.sg_words.specs.Lists.{In}
+use Rattle.sg_copy.specs.Area.{class_of}
+use Rattle.sg_copy.specs.Round.{slots_by}
 use Rattle.sg_copy.specs.Copying.{area_of, is_strong_in}
-use Rattle.sg_minor.specs.Joined.{IsSeed, Global, Field, AreSeeds}
-use Rattle.sg_minor.specs.Parts.{GrowsBy, IsGlobal, IsFieldOf, IsOldField}
-use Rattle.sg_minor.proofs.Grown.{grown_more, grown_as, grown_none}
+use Rattle.sg_minor.specs.Holding.{IsSpaceOf, HoldsHeap}
+use Rattle.sg_minor.specs.Joined.{global_slots, slots_of_name, holds_young, AreSeeds}
+use Rattle.sg_minor.specs.Parts.{Adds, AddsOld}
+use Rattle.sg_minor.proofs.Added.{adds-none, adds-more}
 use Rattle.sg_minor.proofs.Sound.{length_is, class_is, shape_is, owned, owns, owns_first, one_owner, old_inside, few_fields, few_classes, known_class, nursery_is, blocks_is, inside}
-
-module _ (area : Area) (w : ℕ → ℕ) (c h i : ℕ) (xs ys : List ℕ) where
-  -- the next field is a reference, and its slot is handled
-  pub field_taken : (zs : List ℕ) (slot : ℕ) → area.strong c i ≡ true → slot ≡ h + 2 + i → GrowsBy area w (IsFieldOf area c h i) xs ys → GrowsBy area w (λ t. t ≡ slot) ys zs → GrowsBy area w (IsFieldOf area c h (i + 1)) xs zs
-  field_taken zs slot strong is f g = grown_more area w (IsFieldOf area c h i) (λ t. t ≡ slot) (IsFieldOf area c h (i + 1)) xs ys zs f g
-      (λ t q. (q.0, (let l = q.1 in omega arith), q.2, q.3))
-      (λ t e. (i, omega arith, strong, e ∙ is))
-      (λ t q. elim (cases_eq q.0 i) [
-        | inl e ↦ inr (q.3 ∙ ap (λ z. h + 2 + z) e ∙ sym is)
-        | inr n ↦ inl (q.0, (let l = q.1 in omega arith), q.2, q.3)
-      ])
-
-  -- the next field is no reference
-  pub field_passed : area.strong c i ≡ false → GrowsBy area w (IsFieldOf area c h i) xs ys → GrowsBy area w (IsFieldOf area c h (i + 1)) xs ys
-  field_passed plain f = grown_as area w (IsFieldOf area c h i) (IsFieldOf area c h (i + 1)) xs ys f
-      (λ t q. (q.0, (let l = q.1 in omega arith), q.2, q.3))
-      (λ t q. elim (cases_eq q.0 i) [
-        | inl e ↦ absurd (false≢true (sym plain ∙ ap (area.strong c) (sym e) ∙ q.2))
-        | inr n ↦ (q.0, (let l = q.1 in omega arith), q.2, q.3)
-      ])
-
--- a slot of an old object that begins below the word x
-abbrev pub IsOldBelow : Program → Graph → Book → ℕ → ℕ → Type 0
-IsOldBelow p g b x t = (n : ℕ) × (i : ℕ) × (n ≢ 0) × (b.stands n ≡ true) × (b.section n ≡ Old) × (b.address n < x) × (i < g.size n) × (is_strong_by (kind_of p (g.class n)) i (g.size n) ≡ true) × (t ≡ b.address n + 2 + i)
 
 -- the word x is the first one of an old object, or the filled part of the major heap ends there
 abbrev pub IsBorder : Program → Graph → Book → ℕ → Type 0
 IsBorder p g b x = (x ≡ b.fill) ⊎ ((n : ℕ) × (n ≢ 0) × (b.stands n ≡ true) × (b.section n ≡ Old) × (b.address n ≡ x))
 
--- the walk has come to the word x
+-- the walk has come to the word x: what it added are slots of the old objects that begin below
 pub record IsSeeded (p : Program) (s : Contents) (g : Graph) (b : Book) (x : ℕ) (old new : List ℕ) : Type 0 where
   pub border : IsBorder p g b x
-  pub grown : GrowsBy (area_of s) (word s) (IsOldBelow p g b x) old new
+  pub names : List ℕ
+  pub in_order : IsStrictlyIncreasing (map b.address names)
+  pub each : (n : ℕ) → In n names → StandsOld b n × (b.address n < x)
+  pub all : (n : ℕ) → StandsOld b n → b.address n < x → In n names
+  pub adds : Adds s (flat_map (slots_of_name p g b) names) old new
 
 module _ (p : Program) (s : Contents) (g : Graph) (b : Book) (is : IsSpaceOf p s b) (owner : ℕ → Owner) (heap : IsHeap p (word s) g b owner) (contents : IsContents s) where
   -- the strong fields by the words are those by the class
@@ -118,42 +108,53 @@ module _ (p : Program) (s : Contents) (g : Graph) (b : Book) (is : IsSpaceOf p s
   pub seeded_first : (xs : List ℕ) → IsSeeded p s g b (nursery_end p) xs xs
   seeded_first xs = record {
     border = first_border;
-    grown = grown_none (area_of s) (word s) (IsOldBelow p g b (nursery_end p)) xs (λ t q. let place = old_inside p s g b is owner heap contents q.0 q.2 q.3 q.4 in let from = place.0 in let below = q.5 in absurd (omega arith));
+    names = [];
+    in_order = λ k l. absurd (omega arith);
+    each = λ n i. absurd (let z = i in cc);
+    all = λ n o below. let place = old_inside p s g b is owner heap contents n o.0 o.1 o.2 in let from = place.0 in absurd (omega arith);
+    adds = adds-none (holds_young (area_of s) (word s)) (map word_at xs);
   }
+
+  -- the strong fields of an object by the words are those of its name
+  slots_are : (n : ℕ) → n ≢ 0 → b.stands n ≡ true → slots_by (area_of s) (g.class n) (b.address n) 0 (g.size n) ≡ slots_of_name p g b n
+  slots_are n some stands = ap (λ (f : ℕ → Bool). strong_slots f (b.address n) 0 (g.size n)) (fun_ext (λ i. strong_is n i some stands))
 
   -- the walk's step over an object
   pub seeded_next : (n : ℕ) (xs ys zs : List ℕ) → n ≢ 0 → b.stands n ≡ true → b.section n ≡ Old → IsSeeded p s g b (b.address n) xs ys →
-      GrowsBy (area_of s) (word s) (IsFieldOf (area_of s) (g.class n) (b.address n) (g.size n)) ys zs → IsSeeded p s g b (b.address n + (g.size n + 2)) xs zs
-  seeded_next n xs ys zs some stands old before grows =
-      let place = old_inside p s g b is owner heap contents n some stands old in
-      let from = place.0 in
-      let to = place.1 in
+      Adds s (slots_by (area_of s) (g.class n) (b.address n) 0 (g.size n)) ys zs → IsSeeded p s g b (b.address n + (g.size n + 2)) xs zs
+  seeded_next n xs ys zs some stands old before adds =
       let x = b.address n + (g.size n + 2) in
-      let below : (m : ℕ) → b.stands m ≡ true → b.address m < x → (b.address m < b.address n) ⊎ (m ≡ n) = λ m standing less. elim (cases_lt (b.address m) (b.address n)) [
-        | inl l ↦ inl l
-        | inr up ↦ inr (one_owner p s g b is owner heap contents m n (b.address m) (owns_first p s g b is owner heap contents m standing) (owns p s g b is owner heap contents n (b.address m) stands up less))
-      ] in
       record {
         border = border_next n some stands old;
-        grown = grown_more (area_of s) (word s) (IsOldBelow p g b (b.address n)) (IsFieldOf (area_of s) (g.class n) (b.address n) (g.size n)) (IsOldBelow p g b x) xs ys zs before.grown grows
-            (λ t q. (q.0, q.1, q.2, q.3, q.4, (let l = q.5 in omega arith), q.6, q.7, q.8))
-            (λ t q. (n, q.0, some, stands, old, omega arith, q.1, sym (strong_is n q.0 some stands) ∙ q.2, q.3))
-            (λ t q. elim (below q.0 q.3 q.5) [
-              | inl l ↦ inl (q.0, q.1, q.2, q.3, q.4, l, q.6, q.7, q.8)
-              | inr e ↦ inr (
-                q.1,
-                subst (λ z. q.1 < g.size z) e q.6,
-                strong_is n q.1 some stands ∙ subst (λ z. is_strong_by (kind_of p (g.class z)) q.1 (g.size z) ≡ true) e q.7,
-                subst (λ z. t ≡ b.address z + 2 + q.1) e q.8,
-              )
-            ]);
+        names = before.names ++ n ∷ [];
+        in_order = subst IsStrictlyIncreasing (sym (map-append b.address before.names (n ∷ [])))
+            (increasing_push (map b.address before.names) (b.address n) before.in_order
+            (λ y h. let q = map_in b.address y before.names (in_contains y (map b.address before.names) h) in let e = q.2 in let l = (before.each q.0 q.1).1 in omega arith));
+        each = λ m h. elim (last-cases m n before.names h) [
+          | inl e ↦ (subst (StandsOld b) (sym e) (some, stands, old), (let at = ap b.address e in omega arith))
+          | inr i ↦ let q = before.each m i in (q.0, (let l = q.1 in omega arith))
+        ];
+        all = λ m o less. elim (cases_lt (b.address m) (b.address n)) [
+          | inl l ↦ in-before m n before.names (before.all m o l)
+          | inr up ↦ in-last m n before.names
+              (one_owner p s g b is owner heap contents m n (b.address m) (owns_first p s g b is owner heap contents m o.1) (owns p s g b is owner heap contents n (b.address m) stands up less))
+        ];
+        adds = subst (λ (l : List ℕ). map word_at zs ≡ map word_at xs ++ filter (holds_young (area_of s) (word s)) l)
+            (ap (λ (l : List ℕ). flat_map (slots_of_name p g b) before.names ++ l) (slots_are n some stands ∙ sym (append-nil (slots_of_name p g b n)))
+            ∙ sym (flat_map-append (slots_of_name p g b) before.names (n ∷ [])))
+            (adds-more (holds_young (area_of s) (word s)) (map word_at xs) (map word_at ys) (map word_at zs) (flat_map (slots_of_name p g b) before.names) (slots_by (area_of s) (g.class n) (b.address n) 0 (g.size n)) before.adds adds);
       }
 
   -- the walk's end: all old objects begin below it
-  pub seeded_last : (xs ys : List ℕ) → IsSeeded p s g b b.fill xs ys → GrowsBy (area_of s) (word s) (IsOldField p g b) xs ys
-  seeded_last xs ys end = grown_as (area_of s) (word s) (IsOldBelow p g b b.fill) (IsOldField p g b) xs ys end.grown
-      (λ t q. (q.0, q.1, q.2, q.3, q.4, q.6, q.7, q.8))
-      (λ t q. let place = old_inside p s g b is owner heap contents q.0 q.2 q.3 q.4 in let to = place.1 in (q.0, q.1, q.2, q.3, q.4, omega arith, q.5, q.6, q.7))
+  pub seeded_last : (xs ys : List ℕ) → IsSeeded p s g b b.fill xs ys → AddsOld p g b s xs ys
+  seeded_last xs ys end = record {
+    names = end.names;
+    are = record {
+      in_order = end.in_order;
+      exact = λ n. ((λ i. (end.each n i).0), (λ o. end.all n o (let place = old_inside p s g b is owner heap contents n o.0 o.1 o.2 in let to = place.1 in omega arith)));
+    };
+    adds = end.adds;
+  }
 
   -- a border is an object where a word stands there, and else the end of the filled part
   pub object_here : (x : ℕ) → IsBorder p g b x → x < old_end p → word s x ≢ 0 → (n : ℕ) × (n ≢ 0) × (b.stands n ≡ true) × (b.section n ≡ Old) × (b.address n ≡ x)
@@ -229,21 +230,21 @@ module _ (p : Program) (s : Contents) (g : Graph) (b : Book) (heap : HoldsHeap p
       omega arith
 
   pub met_next : (xs ys zs : List ℕ) → IsSeeded p s g b x xs ys → x < large_base s.layout → word s x ≢ 0 →
-      GrowsBy (area_of s) (word s) (IsFieldOf (area_of s) (class_of (word s x)) x (word s (x + 1))) ys zs → IsSeeded p s g b (x + (word s (x + 1) + 2)) xs zs
-  met_next xs ys zs before below there grows =
+      Adds s (slots_by (area_of s) (class_of (word s x)) x 0 (word s (x + 1))) ys zs → IsSeeded p s g b (x + (word s (x + 1) + 2)) xs zs
+  met_next xs ys zs before below there adds =
       let n = met before.border below there in
       let size = met_length n.0 n.1 n.2 n.4 in
       let first = ap (word s) (sym n.4) ∙ class_is p s g b heap.0 heap.1.0 heap.1.1 contents n.0 n.1 n.2 in
       let class : class_of (word s x) ≡ g.class n.0 = omega arith in
       let at = n.4 in
       let end : b.address n.0 + (g.size n.0 + 2) ≡ x + (word s (x + 1) + 2) = omega arith in
-      let fields = subst (λ c. GrowsBy (area_of s) (word s) (IsFieldOf (area_of s) c x (word s (x + 1))) ys zs) class grows in
-      let sized = subst (λ z. GrowsBy (area_of s) (word s) (IsFieldOf (area_of s) (g.class n.0) x z) ys zs) size fields in
-      let placed = subst (λ z. GrowsBy (area_of s) (word s) (IsFieldOf (area_of s) (g.class n.0) z (g.size n.0)) ys zs) (sym at) sized in
+      let classed = subst (λ c. Adds s (slots_by (area_of s) c x 0 (word s (x + 1))) ys zs) class adds in
+      let sized = subst (λ z. Adds s (slots_by (area_of s) (g.class n.0) x 0 z) ys zs) size classed in
+      let placed = subst (λ z. Adds s (slots_by (area_of s) (g.class n.0) z 0 (g.size n.0)) ys zs) (sym at) sized in
       subst (λ z. IsSeeded p s g b z xs zs) end
       (seeded_next p s g b heap.0 heap.1.0 heap.1.1 contents n.0 xs ys zs n.1 n.2 n.3 (subst (λ z. IsSeeded p s g b z xs ys) (sym at) before) placed)
 
-  pub met_end : (xs ys : List ℕ) → IsSeeded p s g b x xs ys → x ≡ b.fill → GrowsBy (area_of s) (word s) (IsOldField p g b) xs ys
+  pub met_end : (xs ys : List ℕ) → IsSeeded p s g b x xs ys → x ≡ b.fill → AddsOld p g b s xs ys
   met_end xs ys end fill = seeded_last p s g b heap.0 heap.1.0 heap.1.1 contents xs ys (subst (λ z. IsSeeded p s g b z xs ys) fill end)
 
   pub met_zero : IsBorder p g b x → word s x ≡ 0 → x ≡ b.fill
@@ -255,20 +256,14 @@ module _ (p : Program) (s : Contents) (g : Graph) (b : Book) (heap : HoldsHeap p
   pub met_first : (xs : List ℕ) → x ≡ old_base s.layout → IsSeeded p s g b x xs xs
   met_first xs e = subst (λ z. IsSeeded p s g b z xs xs) (let nursery = nursery_is p s g b heap.0 heap.1.0 heap.1.1 contents in omega arith) (seeded_first p s g b heap.0 heap.1.0 heap.1.1 contents xs)
 
--- the globals and the fields of old objects are all seeds
-pub are_seeds : (p : Program) (s : Contents) (g : Graph) (b : Book) (ys zs : List ℕ) → HoldsHeap p s g b →
-    GrowsBy (area_of s) (word s) (IsGlobal s.layout 64) [] ys → GrowsBy (area_of s) (word s) (IsOldField p g b) ys zs → AreSeeds p (word s) (area_of s) g b zs
-are_seeds p s g b ys zs heap globals old = record {
-  each = λ t i. elim (old.each t i) [
-    | inl in_globals ↦ elim (globals.each t in_globals) [
-      | inl none ↦ let z = none in cc
-      | inr q ↦ Global q.0 q.1 (q.2 ∙ ap (λ l. globals_base l + q.0) heap.0.layout)
-    ]
-    | inr q ↦ Field q.0 q.1 q.2 q.3 q.4 q.5 q.6 q.7
-  ];
-  all = λ t x seed e young. go t x e young seed;
+-- the globals, and then the fields of old objects, are the seeds
+pub are_seeds : (p : Program) (s : Contents) (g : Graph) (b : Book) (xs ys zs : List ℕ) → HoldsHeap p s g b → xs ≡ [] →
+    Adds s (global_slots s.layout 64) xs ys → AddsOld p g b s ys zs → AreSeeds p (word s) (area_of s) g b (map word_at zs)
+are_seeds p s g b xs ys zs heap none globals old = record {
+  old = old.names;
+  old_are = old.are;
+  list = adds-more (holds_young (area_of s) (word s)) [] (map word_at ys) (map word_at zs) (global_slots (layout_of p) 64) (flat_map (slots_of_name p g b) old.names)
+      (globals ∙ ap (λ (l : List ℕ). map word_at l ++ filter (holds_young (area_of s) (word s)) (global_slots s.layout 64)) none
+      ∙ ap (λ l. filter (holds_young (area_of s) (word s)) (global_slots l 64)) heap.0.layout)
+      old.adds;
 }
-  where
-    go : (t x : ℕ) → word s t ≡ byte_at x → IsYoung (area_of s) x → IsSeed p g b t → In t zs
-    go t x e young (Global j l is) = old.kept t (globals.all t x (j, l, is ∙ ap (λ z. globals_base z + j) (sym heap.0.layout)) e young)
-    go t x e young (Field n i some stands is_old l ref is) = old.all t x (n, i, some, stands, is_old, l, ref, is) e young

@@ -11,7 +11,8 @@ use Rattle.sg_graph.specs.Heap.{Owner, layout_of, IsHeap}
 use Rattle.sg_copy.specs.Area.{IsYoung, is_strong, Points, Traces}
 use Rattle.sg_words.specs.Lists.{In}
 use Rattle.sg_copy.specs.Round.{IsOpening}
-use Rattle.sg_minor.specs.Joined.{ArePins, HasTagged}
+use Rattle.sg_minor.specs.Joined.{ArePins}
+use Rattle.sg_nursery.specs.Parts.{HasTagged}
 use Rattle.sg_minor.proofs.Areas.{area_for}
 use Rattle.sg_minor.proofs.Named.{field_refers, byte-same, common, first, young-named, in-nursery, in-old, nursery, field-name, outer, inner-field, tag-of, strong, field-of, size-at}
 use Rattle.sg_minor.proofs.Slots.{IsStart, AtGlobal, AtField, AreStarts}

@@ -11,7 +11,8 @@ use Rattle.sg_words.specs.Objects.{size_of, sent, Placed}
 use Rattle.sg_copy.specs.Image.{IsImage}
 use Rattle.sg_words.proofs.Members.{in-here, in-there, in-left, in-right, in-cases, out}
 use Rattle.sg_words.proofs.Objects.{placed-grows, placed-in}
-use Rattle.sg_minor.specs.Joined.{ArePins, HasTagged, IsPictured, IsPicture, HasSwept}
+use Rattle.sg_minor.specs.Joined.{ArePins, IsPictured, IsPicture, HasSwept}
+use Rattle.sg_nursery.specs.Parts.{HasTagged}
 use Rattle.sg_minor.proofs.Areas.{area_for}
 use Rattle.sg_minor.proofs.Named.{field_refers, length, strong-of, pin-named, in-nursery, in-old, nursery, inner, outer, inner-field, strong, size-at}
 use Rattle.sg_minor.proofs.Slots.{IsStart, AtGlobal, AtField, AreStarts}

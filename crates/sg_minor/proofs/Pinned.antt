@@ -14,7 +14,7 @@ use Rattle.sg_words.specs.Lists.{In}
 use Rattle.sg_words.proofs.Numbers.{word_at-byte_at}
 use Rattle.sg_pins.specs.Pins.{ArePinned}
 use Rattle.sg_minor.specs.Joined.{ArePins}
-use Rattle.sg_minor.specs.Parts.{ArePlain}
+use Rattle.sg_nursery.specs.Parts.{ArePlain}
 use Rattle.sg_words.proofs.Members.{contains_in, in_contains, in_map, map_in}
 use Rattle.sg_minor.proofs.Sound.{owner_of, named_front, is_owned, owns, owns_first, owned, young_inside, young_there, class_is, few_classes, nursery_is}
 

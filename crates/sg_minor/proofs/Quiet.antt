@@ -11,7 +11,8 @@ use Rattle.sg_words.specs.Objects.{size_of, sent}
 use Rattle.sg_copy.specs.Image.{IsImage}
 use Rattle.sg_words.proofs.Members.{out, not-in}
 use Rattle.sg_words.proofs.Objects.{sent-fixed}
-use Rattle.sg_minor.specs.Joined.{ArePins, HasTagged}
+use Rattle.sg_minor.specs.Joined.{ArePins}
+use Rattle.sg_nursery.specs.Parts.{HasTagged}
 use Rattle.sg_minor.proofs.Areas.{area_for}
 use Rattle.sg_minor.proofs.Named.{field_refers, common, inner-field, size-at}
 use Rattle.sg_minor.proofs.Slots.{IsStart, AtGlobal, AtField, AreStarts}

@@ -9,8 +9,8 @@ use Rattle.sg_words.specs.declared.pieces.Move.{Move}
 use Rattle.sg_space.specs.declared.objects.Object.{Object}
 use Rattle.sg_words.proofs.Sorted.{rising}
 use Rattle.sg_minor.specs.Law.{AreTold, AreToldMoves, HaveWords}
-use Rattle.sg_minor.specs.Pieces.{AreStanding, IsTaken, first_word, word_behind}
-use Rattle.sg_minor.specs.Parts.{IsStaying, AreRounded, AreStaying, AreKept, AreCleaned}
+use Rattle.sg_nursery.specs.Pieces.{AreStanding, IsTaken, first_word, word_behind}
+use Rattle.sg_nursery.specs.Parts.{IsStaying, AreRounded, AreStaying, AreKept, AreCleaned, HasTagged}
 use Rattle.sg_words.specs.Address.{IsAddress, byte_at, word_at}
 use Rattle.sg_words.specs.Tags.{plain_word}
 use Rattle.sg_program.specs.declared.program.Program.{Program}
@@ -30,19 +30,19 @@ use Rattle.sg_words.specs.Objects.{size_of}
 use Rattle.sg_copy.specs.Image.{IsImage}
 use Rattle.sg_copy.specs.Copying.{area_of, IsStill, fields_of, fields_of_all, area_still}
 use Rattle.sg_words.proofs.Numbers.{word_at-byte_at, is_address}
-use Rattle.sg_words.proofs.Members.{in-left, in-right, out, in-cases, in-there, in-here, contains_in, in_contains, in_map, map_in}
+use Rattle.sg_words.proofs.Members.{in-flat, in-left, in-right, out, in-cases, in-there, in-here, contains_in, in_contains, in_map, map_in}
 use Rattle.sg_words.proofs.Objects.{placed-in, slots-are}
-use Rattle.sg_minor.specs.Joined.{ArePins, HasSwept, HasTagged, AreSeeds, IsSeed, Global, Field}
+use Rattle.sg_minor.specs.Joined.{ArePins, HasSwept, AreSeeds}
+use Rattle.sg_minor.proofs.Added.{IsSeed, Global, Field, seeds-each}
 use Rattle.sg_minor.proofs.OldSlots.{strong_is, same_object}
 use Rattle.sg_minor.proofs.Sound.{owner_of, named_front, is_owned, owns, owns_first, owned, one_owner, inside, length_is, class_is, young_inside, young_there, few_classes, nursery_is}
 
 -- a field of a whole object
 fields_all : (t : Contents) (hs : List ℕ) (x : ℕ) → In x (fields_of_all t hs) → (h : ℕ) × In h hs × ((j : ℕ) × (j < word t (h + 1)) × ((area_of t).strong (class_of (word t h)) j ≡ true) × (x ≡ h + 2 + j))
-fields_all t [] x i = let z = i in cc
-fields_all t (h ∷ hs) x i = elim (in-cases x (fields_of t h) (fields_of_all t hs) i) [
-  | inl here ↦ let q = slots-are ((area_of t).strong (class_of (word t h))) h 0 (word t (h + 1)) x here in (h, in-here h h hs refl, (q.0, (let l = q.1 in omega arith), q.2, q.3))
-  | inr there ↦ let q = fields_all t hs x there in (q.0, in-there q.0 h hs q.1, q.2)
-]
+fields_all t hs x i =
+    let f = in-flat (fields_of t) x hs i in
+    let q = slots-are ((area_of t).strong (class_of (word t f.0))) f.0 0 (word t (f.0 + 1)) x f.2 in
+    (f.0, f.1, (q.0, (let l = q.1 in omega arith), q.2, q.3))
 
 named_or_free : (o : Owner) → ((n : ℕ) × (o ≡ Of n)) ⊎ ((n : ℕ) → o ≢ Of n)
 named_or_free (Of n) = inl (n, refl)
@@ -150,7 +150,7 @@ module _ (p : Program) (s : Contents) (g : Graph) (b : Book) (is : IsSpaceOf p s
 
     item : (t : ℕ) → In t (slots ++ fields_of_all tagged pins) → IsItem t
     item t i = elim (in-cases t slots (fields_of_all tagged pins) i) [
-      | inl in_slots ↦ seed_item t (seeds.each t in_slots)
+      | inl in_slots ↦ seed_item t (seeds-each p (word s) (area_of s) g b slots seeds t in_slots)
       | inr in_fields ↦
           let q = fields_all tagged pins t in_fields in
           let name = are_pins.each q.0 q.1 in

@@ -13,9 +13,11 @@ use Rattle.sg_copy.specs.Area.{Area, IsYoung, class_of}
 use Rattle.sg_words.specs.Lists.{In}
 use Rattle.sg_copy.specs.Round.{slots, slots_by}
 use Rattle.sg_copy.specs.Copying.{area_of, fields_of, fields_of_all}
-use Rattle.sg_words.proofs.Members.{has-cases, in-here, in-there, in-left, in-right, in-cases}
+use Rattle.sg_words.proofs.Members.{in-left, in-right, in-cases, flat-in, in-flat}
 use Rattle.sg_words.proofs.Objects.{slots-in, slots-are}
-use Rattle.sg_minor.specs.Joined.{ArePins, HasTagged, IsSeed, Global, Field, AreSeeds}
+use Rattle.sg_minor.specs.Joined.{ArePins, AreSeeds}
+use Rattle.sg_nursery.specs.Parts.{HasTagged}
+use Rattle.sg_minor.proofs.Added.{IsSeed, Global, Field, seeds-each, seeds-all}
 use Rattle.sg_minor.proofs.Areas.{refers, area_for}
 use Rattle.sg_minor.proofs.Named.{field_refers, pin-named, class-as, refers-as, size-at}
 use Rattle.sg_minor.proofs.Names.{class-of-plain}
@@ -31,21 +33,6 @@ pub record AreStarts (p : Program) (w : ℕ → ℕ) (g : Graph) (b : Book) (pin
   pub each : (s : ℕ) → In s items → IsStart p g b pins s
   pub all : (s x : ℕ) → IsStart p g b pins s → w s ≡ byte_at x → IsYoung (area_for p) x → In s items
 
--- a field of one of several objects
-pub fields-in : (s : Contents) (hs : List ℕ) (h x : ℕ) → In h hs → In x (fields_of s h) → In x (fields_of_all s hs)
-fields-in s [] h x i f = absurd (let z = i in cc)
-fields-in s (k ∷ hs) h x i f = elim (has-cases h k hs i) [
-  | inl e ↦ in-left x (fields_of s k) (fields_of_all s hs) (subst (λ (z : ℕ). In x (fields_of s z)) e f)
-  | inr j ↦ in-right x (fields_of s k) (fields_of_all s hs) (fields-in s hs h x j f)
-]
-
-pub fields-are : (s : Contents) (hs : List ℕ) (x : ℕ) → In x (fields_of_all s hs) → (h : ℕ) × In h hs × In x (fields_of s h)
-fields-are s [] x i = absurd (let z = i in cc)
-fields-are s (k ∷ hs) x i = elim (in-cases x (fields_of s k) (fields_of_all s hs) i) [
-  | inl j ↦ (k, in-here k k hs refl, j)
-  | inr j ↦ (let q = fields-are s hs x j in (q.0, in-there q.0 k hs q.1, q.2))
-]
-
 module _ (p : Program) (w : ℕ → ℕ) (g : Graph) (b : Book) (owner : ℕ → Owner) (t : IsHeap p w g b owner) (ambiguous pins slots : List ℕ) (ps : ArePins g b ambiguous pins)
     (tagged : Contents) (area : area_of tagged ≡ area_for p) (tg : HasTagged w pins (word tagged)) (sd : AreSeeds p w (area_for p) g b slots) where
   strong-as : (n i : ℕ) → n ≢ 0 → b.stands n ≡ true → (area_of tagged).strong (class_of (word tagged (b.address n))) i ≡ field_refers p g n i
@@ -56,8 +43,8 @@ module _ (p : Program) (w : ℕ → ℕ) (g : Graph) (b : Book) (owner : ℕ →
   pub starts : AreStarts p w g b pins (slots ++ fields_of_all tagged pins)
   starts = record {
     each = λ s h. elim (in-cases s slots (fields_of_all tagged pins) h) [
-      | inl i ↦ of-seed s (sd.each s i)
-      | inr i ↦ (let q = fields-are tagged pins s i in
+      | inl i ↦ of-seed s (seeds-each p w (area_for p) g b slots sd s i)
+      | inr i ↦ (let q = in-flat (fields_of tagged) s pins i in
           let n = pin-named p w g b owner t ambiguous pins ps q.0 q.1 in
           of-field s n.0 n.1 n.2 (subst (λ (z : ℕ). In z pins) (sym n.4) q.1) (subst (λ (z : ℕ). In s (fields_of tagged z)) (sym n.4) q.2))
     ];
@@ -74,9 +61,9 @@ module _ (p : Program) (w : ℕ → ℕ) (g : Graph) (b : Book) (owner : ℕ →
           AtField n q.0 d st (inr i) (let l = q.1 in let z = size-at p w g b owner t ambiguous pins ps (word tagged) tg (b.address n) n st d refl in omega arith) (sym (strong-as n q.0 d st) ∙ q.2) q.3
 
       held : (s x : ℕ) → IsStart p g b pins s → w s ≡ byte_at x → IsYoung (area_for p) x → In s (slots ++ fields_of_all tagged pins)
-      held s x (AtGlobal j l e) q y = in-left s slots (fields_of_all tagged pins) (sd.all s x (Global j l e) q y)
-      held s x (AtField n i d st (inl o) l e u) q y = in-left s slots (fields_of_all tagged pins) (sd.all s x (Field n i d st o l e u) q y)
-      held s x (AtField n i d st (inr o) l e u) q y = in-right s slots (fields_of_all tagged pins) (fields-in tagged pins (b.address n) s o
+      held s x (AtGlobal j l e) q y = in-left s slots (fields_of_all tagged pins) (seeds-all p w (area_for p) g b slots sd s x (Global j l e) q y)
+      held s x (AtField n i d st (inl o) l e u) q y = in-left s slots (fields_of_all tagged pins) (seeds-all p w (area_for p) g b slots sd s x (Field n i d st o l e u) q y)
+      held s x (AtField n i d st (inr o) l e u) q y = in-right s slots (fields_of_all tagged pins) (flat-in (fields_of tagged) (b.address n) s pins o
           (subst (λ (z : ℕ). In z (fields_of tagged (b.address n))) (sym u)
           (slots-in ((area_of tagged).strong (class_of (word tagged (b.address n)))) (b.address n) 0 (word tagged (b.address n + 1)) i (omega arith)
           (let z = size-at p w g b owner t ambiguous pins ps (word tagged) tg (b.address n) n st d refl in omega arith) (strong-as n i d st ∙ e))))

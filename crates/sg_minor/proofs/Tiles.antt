@@ -9,7 +9,7 @@ use Rattle.sg_words.specs.declared.pieces.Piece.TheVariants.{Frag, Waste}
 use Rattle.sg_words.specs.Pieces.{fronts_of, ends_of, place}
 use Rattle.sg_words.specs.declared.layout.Layout.{Layout}
 use Rattle.sg_space.specs.declared.objects.Object.{Object}
-use Rattle.sg_minor.specs.Pieces.{IsGap, ArePieces}
+use Rattle.sg_nursery.specs.Pieces.{IsGap, ArePieces}
 
 contains-there : (piece other : Piece) (pieces : List Piece) → Contains pieces piece → Contains (other ∷ pieces) piece
 contains-there piece other pieces h = (suc h.0, let l = h.1 in omega arith, h.2)

@@ -8,7 +8,6 @@ use Rattle.sg_program.specs.Scripts.{words_for}
 use Rattle.sg_graph.specs.Book.{Young, Old, nursery_end, old_end, IsWordOf, IsApart}
 use Rattle.sg_words.specs.Sections.{nursery_base}
 use Rattle.sg_graph.specs.Pause.{IsPinned, StandsYoung, IsRoot}
-use Rattle.sg_graph.proofs.Quiet.{quiet}
 use Rattle.sg_graph.specs.Tiling.{IsCovered, IsTiled, IsGap as IsGapOf}
 use Rattle.sg_graph.specs.Minor.{IsLoose, HasMoved, HasFailed, IsStill, Keeping, Staying, Telling, Tidying, IsMinorPause, move_of}
 use Rattle.sg_graph.specs.Heap.{layout_of}
@@ -17,7 +16,7 @@ use Rattle.sg_words.specs.Lists.{In, has}
 use Rattle.sg_words.specs.Objects.{size_of}
 use Rattle.sg_words.proofs.Members.{in-left, in-right, in-cases, not-in}
 use Rattle.sg_words.proofs.Objects.{placed-in}
-use Rattle.sg_minor.specs.Pieces.{IsTaken, IsGap}
+use Rattle.sg_nursery.specs.Pieces.{IsTaken, IsGap}
 use Rattle.sg_minor.specs.Joined.{ArePins, IsKept}
 use Rattle.sg_minor.specs.Law.{IsReportOf}
 use Rattle.sg_minor.proofs.Names.{of-same, some-name, name-some, exactly}
@@ -242,7 +241,7 @@ module _ (c : Ended) where
     keeps : Keeping c.p c.g c.b c.ambiguous c.g (booked c)
     keeps = record {
       kept = stays_on;
-      pause = quiet c.p c.g c.plain (IsRoot c.p c.g c.b c.ambiguous) stays_on among (λ n d. (let e = exactly c.p c.area c.tie c.w c.g c.b c.ambiguous c.owner c.heap c.stays c.moves c.traced c.plain n d in
+      pause = c.law.pause c.p c.g c.b c.ambiguous c.plain stays_on among (λ n d. (let e = exactly c.p c.area c.tie c.w c.g c.b c.ambiguous c.owner c.heap c.stays c.moves c.traced c.law c.plain n d in
           ((λ k. e.0 (sym (stays_as n d) ∙ k)), (λ r. stays_as n d ∙ e.1 r))));
       nothing = (stands-nothing c, unmoved-nil c);
       stands = λ n d. sym (stays_as n d);

@@ -1,5 +1,8 @@
 -- How the parts of a pause meet: tags of the pinned objects, a round of copying, tags away and sweep.
-use Rattle.std.specs.Prelude.{◌≡◌, ◌≢◌, ℕ, ◌+◌, ◌<◌, ◌≤◌, ◌⊎◌, true, false, if◌then◌else◌, List, ◌++◌}
+use Rattle.std.specs.Prelude.{◌≡◌, ◌≢◌, ℕ, ◌+◌, ◌<◌, ◌≤◌, ◌⊎◌, nat_le, nat_lt, ◌==◌, ◌&&◌, Bool, true, false, if◌then◌else◌, List, ◌++◌, map, filter}
+use Rattle.std.specs.List.{flat_map}
+use Rattle.std.specs.List.Sorted.{IsStrictlyIncreasing}
+use Rattle.sg_words.specs.Found.{IsSearched}
 use Rattle.sg_words.specs.Address.{byte_at, word_at}
 use Rattle.sg_words.specs.declared.pieces.Move.{Move}
 use Rattle.sg_program.specs.declared.program.Program.{Program}
@@ -8,6 +11,9 @@ use Rattle.sg_program.specs.Scripts.{kind_of}
 use Rattle.sg_graph.specs.Graph.{Graph}
 use Rattle.sg_graph.specs.Book.{Book, Old, old_end}
 use Rattle.sg_graph.specs.Pause.{IsPinned}
+use Rattle.sg_graph.specs.Epoch.{numbers_below}
+use Rattle.sg_graph.specs.Copies.{StandsOld, IsMovable, AreByAddress, items_of, leads_of}
+use Rattle.sg_words.specs.declared.layout.Layout.{Layout}
 use Rattle.sg_words.specs.Reach.{Reached}
 use Rattle.sg_words.specs.Sections.{globals_base}
 use Rattle.sg_space.specs.Space.{Contents, IsContents}
@@ -16,29 +22,41 @@ use Rattle.sg_graph.specs.Heap.{layout_of}
 use Rattle.sg_minor.specs.Holding.{HoldsHeap}
 use Rattle.sg_copy.specs.Area.{Area, IsYoung, is_strong, Points}
 use Rattle.sg_words.specs.Lists.{In, has}
-use Rattle.sg_words.specs.Objects.{size_of, sent, Placed}
-use Rattle.sg_copy.specs.Copying.{area_of, IsStill, CanCopyAll, HasCopiedTo, fields_of_all}
+use Rattle.sg_words.specs.Objects.{strong_slots, size_of, sent, Placed}
+use Rattle.sg_nursery.specs.Parts.{HasTagged}
+use Rattle.sg_copy.specs.Order.{Fits}
+use Rattle.sg_copy.specs.Copying.{area_of, IsStill, CanCopyFrom, HasCopiedTo, fields_of_all}
 
 -- these are the first words of exactly the pinned objects
 pub record ArePins (g : Graph) (b : Book) (ambiguous pins : List ℕ) : Type 0 where
   pub each : (a : ℕ) → In a pins → (n : ℕ) × IsPinned g b ambiguous n × (b.address n ≡ a)
   pub all : (n : ℕ) → IsPinned g b ambiguous n → In (b.address n) pins
 
--- the first words of the pinned objects have the tag of pinned ones now
-pub record HasTagged (old : ℕ → ℕ) (pins : List ℕ) (new : ℕ → ℕ) : Type 0 where
-  pub tagged : (a : ℕ) → In a pins → new a ≡ old a + 2
-  pub same : (y : ℕ) → has y pins ≡ false → new y ≡ old y
+-- the first n globals' slots, by number
+abbrev pub global_slots : Layout → ℕ → List ℕ
+global_slots layout n = map (λ x. globals_base layout + x) (numbers_below n)
 
--- a slot outside of the nursery: a global, or a strong field of an old object
-pub data IsSeed (p : Program) (g : Graph) (b : Book) (s : ℕ) : Type 0 where
-  Global : (x : ℕ) → x < 64 → s ≡ globals_base (layout_of p) + x → IsSeed p g b s
-  Field : (n i : ℕ) → n ≢ 0 → b.stands n ≡ true → b.section n ≡ Old → i < g.size n → is_strong_by (kind_of p (g.class n)) i (g.size n) ≡ true →
-      s ≡ b.address n + 2 + i → IsSeed p g b s
+-- the slots of an object's strong fields, by number
+abbrev pub slots_of_name : Program → Graph → Book → ℕ → List ℕ
+slots_of_name p g b n = strong_slots (λ i. is_strong_by (kind_of p (g.class n)) i (g.size n)) (b.address n) 0 (g.size n)
 
--- these are such slots, and all of them that refer to a young object
+-- the slots outside of the nursery: the globals, and the strong fields of these old objects
+abbrev pub slots_outside : Program → Graph → Book → List ℕ → List ℕ
+slots_outside p g b old = global_slots (layout_of p) 64 ++ flat_map (slots_of_name p g b) old
+
+-- whether the word is the address of a word of the nursery, and whether the slot holds one
+abbrev pub is_young_word : Area → ℕ → Bool
+is_young_word area v = (v == byte_at (word_at v)) && (nat_le area.low (word_at v) && nat_lt (word_at v) area.high)
+
+abbrev pub holds_young : Area → (ℕ → ℕ) → ℕ → Bool
+holds_young area w s = is_young_word area (w s)
+
+-- Those of the slots outside of the nursery that refer to young objects: the globals by number, then the strong fields of the old
+-- objects by address and number.
 pub record AreSeeds (p : Program) (w : ℕ → ℕ) (area : Area) (g : Graph) (b : Book) (slots : List ℕ) : Type 0 where
-  pub each : (s : ℕ) → In s slots → IsSeed p g b s
-  pub all : (s x : ℕ) → IsSeed p g b s → w s ≡ byte_at x → IsYoung area x → In s slots
+  pub old : List ℕ
+  pub old_are : AreByAddress b (StandsOld b) old
+  pub list : slots ≡ filter (holds_young area w) (slots_outside p g b old)
 
 -- What a pause begins from: the young object is pinned, or a global or a strong field of an old object refers to it.
 abbrev pub IsItem : Program → Area → (ℕ → ℕ) → Graph → Book → List ℕ → ℕ → Type 0
@@ -94,9 +112,21 @@ pub record IsBegun (p : Program) (s : Contents) (g : Graph) (b : Book) (ambiguou
   pub heap : HoldsHeap p s g b
   pub contents : IsContents s
   pub pinned : ArePins g b ambiguous pins
+  pub in_order : IsStrictlyIncreasing pins
   pub still : IsStill s tagged
   pub tags : HasTagged (word s) pins (word tagged)
   pub seeds : AreSeeds p (word s) (area_of s) g b slots
+
+-- The order in which the movable objects are found: of them those move that fit in turn, and the others fail.
+pub record IsOrdered (p : Program) (w : ℕ → ℕ) (g : Graph) (b : Book) (ambiguous moves fails : List ℕ) (end : ℕ) : Type 0 where
+  pub old : List ℕ
+  pub pinned : List ℕ
+  pub found : List ℕ
+  pub old_are : AreByAddress b (StandsOld b) old
+  pub pinned_are : AreByAddress b (IsPinned g b ambiguous) pinned
+  pub each : (n : ℕ) → In n found → IsMovable g b ambiguous n
+  pub searched : IsSearched (IsMovable g b ambiguous) (leads_of p g (items_of p g old pinned)) found
+  pub parts : Fits w (old_end p) b.fill moves fails (map b.address found) end
 
 -- where the objects are after a pause, and what stayed and what moved
 pub record IsEnded (p : Program) (s : Contents) (g : Graph) (b : Book) (ambiguous pins : List ℕ) (moves fails : List ℕ) (m : ℕ → ℕ) (v : ℕ → ℕ) (end : ℕ) : Type 0 where
@@ -105,11 +135,12 @@ pub record IsEnded (p : Program) (s : Contents) (g : Graph) (b : Book) (ambiguou
   -- what failed wasn't pinned by a word, and the major heap has fewer words left than it
   pub failed : (a : ℕ) → In a fails → has a pins ≡ false
   pub full : (a : ℕ) → In a fails → old_end p < end + size_of (word s) a
+  pub order : IsOrdered p (word s) g b ambiguous moves fails end
 
 -- The parts up to the round open it, and after it, with what it moved and failed, a sweep ends the pause.
 pub record JoinLaw : Type 0 where
   pub opens : (p : Program) (s : Contents) (g : Graph) (b : Book) (ambiguous pins slots : List ℕ) (tagged : Contents) →
-      IsBegun p s g b ambiguous pins slots tagged → CanCopyAll tagged slots pins
+      IsBegun p s g b ambiguous pins slots tagged → CanCopyFrom tagged (byte_at b.fill) slots pins
   pub closes : (p : Program) (s : Contents) (g : Graph) (b : Book) (ambiguous pins slots : List ℕ) (tagged round : Contents) (told_moves : List Move) (told_fails : List ℕ) (end : ℕ) →
       IsBegun p s g b ambiguous pins slots tagged →
       (copied : HasCopiedTo tagged (byte_at b.fill) (slots ++ fields_of_all tagged pins) round told_moves told_fails end) →

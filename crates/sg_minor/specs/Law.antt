@@ -11,6 +11,7 @@ use Rattle.sg_graph.specs.declared.reports.MinorReport.{MinorReport}
 use Rattle.sg_graph.specs.Graph.{Graph}
 use Rattle.sg_graph.specs.Book.{Book}
 use Rattle.sg_graph.specs.Invariants.{IsPlain}
+use Rattle.sg_graph.specs.Copies.{CopiesInOrder}
 use Rattle.sg_graph.specs.Minor.{sources, IsMinorPause}
 use Rattle.sg_space.specs.declared.objects.Object.{Object}
 use Rattle.sg_space.specs.Space.{Contents, IsContents}
@@ -18,7 +19,7 @@ use Rattle.sg_space.specs.Standing.{word}
 use Rattle.sg_minor.specs.Holding.{HoldsHeap}
 use Rattle.sg_words.specs.Lists.{In}
 use Rattle.sg_words.specs.Objects.{size_of}
-use Rattle.sg_minor.specs.Pieces.{IsTaken, ArePieces}
+use Rattle.sg_nursery.specs.Pieces.{IsTaken, ArePieces}
 use Rattle.sg_minor.specs.Joined.{ArePins, IsEnded}
 
 -- the list has exactly the byte addresses of these words, by address
@@ -46,10 +47,11 @@ HaveWords standing w stays = (x : ℕ) → IsTaken standing x ↔ ((a : ℕ) × 
 abbrev pub IsRefitted : Contents → Contents → List Piece → Type 0
 IsRefitted s v pieces = (v ≡ record s { words = v.words; next = fronts_of pieces; ends = ends_of pieces }) × (length v.words ≡ length s.words)
 
--- the pause leads from the space s, which holds g by b, to v, which holds g by another book
+-- The pause leads from the space s, which holds g by b, to v, which holds g by another book. One worker copies, in order.
 pub record HasPaused (p : Program) (g : Graph) (b : Book) (ambiguous : List ℕ) (v : Contents) (report : MinorReport) : Type 0 where
   pub book : Book
   pub pause : IsMinorPause p g b ambiguous report g book
+  pub copies : CopiesInOrder p g b ambiguous book
   pub heap : HoldsHeap p v g book
 
 abbrev pub PauseLaw : Type 0

@@ -4,15 +4,12 @@
 mod join;
 mod law;
 mod pause;
-mod pieces;
 mod seeds;
-mod sweep;
-mod tag;
 
 pub use join::join_law;
 pub use law::pause_law;
 pub use pause::minor;
-pub use pieces::build;
+pub use sg_nursery::build;
 
 #[cfg(test)]
 mod tests;

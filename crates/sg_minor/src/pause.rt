@@ -6,19 +6,21 @@ ghost use Rattle.sg_graph.specs.Invariants.{IsPlain};
 ghost use Rattle.sg_space.specs.Space.{IsContents};
 ghost use Rattle.sg_minor.specs.Holding.{HoldsHeap};
 ghost use Rattle.sg_minor.specs.Law.{HasPaused};
-ghost use Rattle.sg_minor.specs.Parts.{HoldsSome};
+ghost use Rattle.sg_space.specs.Standing.{word};
+ghost use Rattle.sg_minor.specs.Parts.{HoldsSome, HasTraced, HasFinished};
+ghost use Rattle.sg_nursery.specs.Parts.{AreRounded, AreStaying};
 
 use crate::join::join_law;
 use crate::law::pause_law;
-use crate::pieces::build;
 use crate::seeds::seeds;
-use crate::sweep::sweep;
-use crate::tag::tag;
-use sg_copy::copy_one;
+use sg_copy::copy_from;
 use sg_graph::MinorReport;
-use sg_pins::pin_queue;
-use sg_space::Space;
-use sg_words::List;
+use sg_nursery::build;
+use sg_nursery::sweep::sweep;
+use sg_nursery::tag::tag;
+use sg_pins::pinned_among;
+use sg_space::{Object, Space};
+use sg_words::{Addr, List};
 use std::alloc::{AllocError, Global};
 
 /// A minor pause with these ambiguous words. Of the young objects it keeps those that a word points into, those to which
@@ -26,8 +28,8 @@ use std::alloc::{AllocError, Global};
 /// major heap, unless that has no room for them. The nursery is zero but for what stays, and its gaps of 32 words or more
 /// are the fragments from now on.
 ///
-/// Takes time linear in the words of the nursery, the objects of the major heap with their fields and the words of what is kept, and
-/// the time of a sort of the ambiguous words. Where memory runs out the space is lost.
+/// Takes time linear in the words of the nursery that aren't the rest of a fragment, the fragments, the objects of the major heap
+/// with their strong fields and the words of what is kept, and the time of a sort of the ambiguous words. Where memory runs out the space is lost.
 pub fn minor(
     alloc: Global,
     space: Space,
@@ -40,25 +42,67 @@ pub fn minor(
     ensures layout { IfOk result (λ r. r.0.layout ≡ space.layout) }
     ensures shapes { IfOk result (λ r. r.0.shapes ≡ space.shapes) }
 {
-    // The two laws, and what is true of every space: these calls do nothing.
+    // The two laws: these calls do nothing.
     pause_law();
     join_law();
-    let mut space = space;
-    space.sections();
+    let traced = trace(alloc, space, ambiguous)?;
+    finish(alloc, traced)
+}
+
+/// A pause between its round of copying and its sweep.
+#[derive(Drop)]
+struct Traced {
+    /// The space after the round. The first words of what stood in the nursery tell what has become of it.
+    space: Space,
+    /// The objects that stood in the nursery, by address.
+    told: List<Object>,
+    /// Those of them that an ambiguous word points into, by address.
+    pins: List<Addr>,
+}
+
+// Finds what the pause begins from, and copies what it leads to.
+fn trace(alloc: Global, space: Space, ambiguous: &[u64]) -> Result<Traced, AllocError>
+    requires { HoldsSome space }
+    ensures traced { IfOk result (λ traced. (p : Program) (g : Graph) (b : Book) → HoldsHeap p space g b → HasTraced p g b space ambiguous.now traced.told traced.pins traced.space) }
+    ensures before { IfOk result (λ _. IsContents space) }
+{
+    // The law: this call does nothing.
+    join_law();
+    let layout = space.layout();
     let told = space.walk_nursery(alloc)?;
-    let pins = pin_queue(alloc, ambiguous, &space)?;
-    let slots = seeds(alloc, &space)?;
+    let pins = pinned_among(alloc, ambiguous, told.as_slice())?;
+    let seeds = seeds(alloc, &space, layout)?;
+    let mut space = space;
     tag(&mut space, pins.as_slice());
-    let round = copy_one(alloc, space, &slots, pins.as_slice())?;
-    let mut space = round.space;
-    let kept = sweep(alloc, &mut space, told.as_slice(), pins.as_slice())?;
+    let round = copy_from(alloc, space, seeds.front, &seeds.slots, pins.as_slice())?;
+    Ok(Traced {
+        space: round.space,
+        told,
+        pins,
+    })
+}
+
+// Sweeps the nursery, and makes its gaps the fragments.
+fn finish(alloc: Global, traced: Traced) -> Result<(Space, MinorReport), AllocError>
+    requires contents { IsContents traced.space }
+    requires rounded { AreRounded traced.space.layout (word traced.space) traced.told }
+    requires pins { AreStaying (word traced.space) traced.told traced.pins }
+    ensures finished { IfOk result (λ r. HasFinished traced.space traced.told traced.pins r.0 r.1) }
+    ensures contents { IfOk result (λ r. IsContents r.0) }
+{
+    let mut space = traced.space;
+    let kept = sweep(
+        alloc,
+        &mut space,
+        traced.told.as_slice(),
+        traced.pins.as_slice(),
+    )?;
     let pieces = build(alloc, &space, &kept.standing)?;
     space.set_fragments(pieces.as_slice());
-    space.sections();
     Ok((
         space,
         MinorReport {
-            pins,
+            pins: traced.pins,
             moves: List::from_vec(kept.moves),
             fails: List::from_vec(kept.fails),
             spares: 0,

@@ -65,14 +65,17 @@ the_test d None = d
 the_test d (Some t) = t
 
 -- the test of a statement is the one that it has
-pub tested_as : (p : Program) (g : Graph) (entry : ℕ → Entry) (s : Statement) (test own : Test) → test_of s ≡ Some own → Tested p g entry s test → Tested p g entry s own
+pub tested_as : (p : Program) (g : Graph) (entry : ℕ → Entry) (s : Statement) (test own : Test) → test_of s ≡ Some own → Tested p g entry s test →
+    Tested p g entry s own
 unfolding the_test
 tested_as p g entry s test own e t = subst (λ x. Tested p g entry s x) (ap (the_test own) (sym t.tests ∙ e)) t
 
-pub finds_as : (p : Program) (g : Graph) (m : Mutator) (entry : ℕ → Entry) (script : List Statement) (s : Statement) (test : Test) → (t : Tested p g entry s test) → Finds p g (record m { register = entry; script = script }) s t.name
+pub finds_as : (p : Program) (g : Graph) (m : Mutator) (entry : ℕ → Entry) (script : List Statement) (s : Statement) (test : Test) →
+    (t : Tested p g entry s test) → Finds p g (record m { register = entry; script = script }) s t.name
 finds_as p g m entry script s test t = record { test = test; tests = t.tests; holds = t.holds; some = t.some; finds = t.finds }
 
-module _ (p : Program) (lay : Constants) (w : Words) (g : Graph) (b : Book) (said : ℕ → List Answer) (k : ℕ) (owner : ℕ → Owner) (t : Ground p lay w g b owner) where
+module _ (p : Program) (lay : Constants) (w : Words) (g : Graph) (b : Book) (said : ℕ → List Answer) (k : ℕ) (owner : ℕ → Owner)
+    (t : Ground p lay w g b owner) where
   -- a store of a word of a standing object
   module _ (n y val : ℕ) (sn : b.stands n ≡ true) (from : b.address n ≤ y) (to : y < b.address n + (g.size n + 2)) where
     pub same_there : (m x : ℕ) → b.stands m ≡ true → b.address m ≤ x → x < b.address m + (g.size m + 2) → x ≡ y → m ≡ n
@@ -99,11 +102,15 @@ module _ (p : Program) (lay : Constants) (w : Words) (g : Graph) (b : Book) (sai
         objects = t.laid.objects;
         fields = record { holds = holds; known = known; sorted = sorted };
         globals = record {
-          holds = λ x l. put-other w.word y val (globals_base (layout_of p) + x) (λ e. let u = below_globals in absurd (omega arith)) ∙ t.laid.globals.holds x l;
+          holds = λ x l. put-other w.word y val (globals_base (layout_of p) + x) (λ e. let u = below_globals in absurd (omega arith))
+              ∙ t.laid.globals.holds x l;
           stand = t.laid.globals.stand;
           empty = λ x l m. put-other w.word y val x (λ e. let u = below_globals in absurd (omega arith)) ∙ t.laid.globals.empty x l m;
         };
-        clear = record { clear = λ x l m none. put-other w.word y val x (λ e. none n (t.laid.objects.owns n x sn (omega arith) (omega arith))) ∙ t.laid.clear.clear x l m none };
+        clear = record {
+          clear = λ x l m none. put-other w.word y val x (λ e. none n (t.laid.objects.owns n x sn (omega arith) (omega arith)))
+              ∙ t.laid.clear.clear x l m none;
+        };
         fragments = t.laid.fragments;
         buffers = t.laid.buffers;
       };
@@ -133,18 +140,23 @@ module _ (p : Program) (lay : Constants) (w : Words) (g : Graph) (b : Book) (sai
 
     -- a field or a tag: no length
     pub length_off : y ≢ b.address n + 1 → (m : ℕ) → b.stands m ≡ true → put w.word y val (b.address m + 1) ≡ w.word (b.address m + 1)
-    length_off ne m q = put-other w.word y val (b.address m + 1) (λ e. ne (sym e ∙ ap (λ i. b.address i + 1) (same_there m (b.address m + 1) q (omega arith) (omega arith) e)))
+    length_off ne m q = put-other w.word y val (b.address m + 1)
+        (λ e. ne (sym e ∙ ap (λ i. b.address i + 1) (same_there m (b.address m + 1) q (omega arith) (omega arith) e)))
 
     -- a field or a length: no tag
     pub tag_off : y ≢ b.address n → (m : ℕ) → b.stands m ≡ true → put w.word y val (b.address m) ≡ w.word (b.address m)
     tag_off ne m q = put-other w.word y val (b.address m) (λ e. ne (sym e ∙ ap b.address (same_there m (b.address m) q (omega arith) (omega arith) e)))
 
     -- a tag or a length: no field
-    pub fields_off : y < b.address n + 2 → (m i : ℕ) → b.stands m ≡ true → i < g.size m → put w.word y val (b.address m + 2 + i) ≡ word_of b.address (g.field m i)
-    fields_off l m i q r = put-other w.word y val (b.address m + 2 + i) (λ e. let s : b.address m ≡ b.address n = ap b.address (same_there m (b.address m + 2 + i) q (omega arith) (omega arith) e) in omega arith) ∙ t.laid.fields.holds m i q r
+    pub fields_off : y < b.address n + 2 → (m i : ℕ) → b.stands m ≡ true → i < g.size m →
+        put w.word y val (b.address m + 2 + i) ≡ word_of b.address (g.field m i)
+    fields_off l m i q r = put-other w.word y val (b.address m + 2 + i)
+        (λ e. let s : b.address m ≡ b.address n = ap b.address (same_there m (b.address m + 2 + i) q (omega arith) (omega arith) e) in omega arith)
+        ∙ t.laid.fields.holds m i q r
 
   -- the store of a field of a known object: e is what it holds then
-  module _ (n i : ℕ) (e : Entry) (sn : b.stands n ≡ true) (inside : i < g.size n) (ke : IsKnownEntry w.word g b e) (se : IsOfSort (holds_reference (kind_of p (g.class n)) i (g.size n)) e) where
+  module _ (n i : ℕ) (e : Entry) (sn : b.stands n ≡ true) (inside : i < g.size n) (ke : IsKnownEntry w.word g b e)
+      (se : IsOfSort (holds_reference (kind_of p (g.class n)) i (g.size n)) e) where
     abbrev at : ℕ
     at = b.address n + 2 + i
 
@@ -156,7 +168,11 @@ module _ (p : Program) (lay : Constants) (w : Words) (g : Graph) (b : Book) (sai
       q.0,
       elim q.1 [
         | inl z ↦ inl z
-        | inr h ↦ inr (tag_off n at val sn (omega arith) (omega arith) (omega arith) m q.0 ∙ h.0, length_off n at val sn (omega arith) (omega arith) (omega arith) m q.0 ∙ h.1)
+        | inr h ↦ inr (
+          tag_off n at val sn (omega arith) (omega arith) (omega arith) m q.0 ∙ h.0,
+          length_off n at val sn (omega arith) (omega arith)
+              (omega arith) m q.0 ∙ h.1,
+        )
       ],
     )
 
@@ -165,21 +181,27 @@ module _ (p : Program) (lay : Constants) (w : Words) (g : Graph) (b : Book) (sai
     entry_stored (Int v) q = tt
     entry_stored (Inner m o) q = known_stored m q
 
-    holds_stored : (m j : ℕ) → b.stands m ≡ true → j < g.size m → put w.word at val (b.address m + 2 + j) ≡ word_of b.address (put g.field n (put (g.field n) i e) m j)
+    holds_stored : (m j : ℕ) → b.stands m ≡ true → j < g.size m →
+        put w.word at val (b.address m + 2 + j) ≡ word_of b.address (put g.field n (put (g.field n) i e) m j)
     holds_stored m j p q = elim (cases_eq m n) [
       | inl same ↦ elim (cases_eq j i) [
         | inl here ↦ put-at w.word at val (b.address m + 2 + j) (let u : b.address m ≡ b.address n = ap b.address same in omega arith)
             ∙ sym (ap (word_of b.address) (ap (λ (f : ℕ → Entry). f j) (put-at g.field n (put (g.field n) i e) m same) ∙ put-at (g.field n) i e j here))
-        | inr there ↦ put-other w.word at val (b.address m + 2 + j) (λ c. there (let u : b.address m ≡ b.address n = ap b.address same in omega arith)) ∙ t.laid.fields.holds m j p q
-            ∙ sym (ap (word_of b.address) (ap (λ (f : ℕ → Entry). f j) (put-at g.field n (put (g.field n) i e) m same) ∙ put-other (g.field n) i e j there ∙ ap (λ x. g.field x j) (sym same)))
+        | inr there ↦ put-other w.word at val (b.address m + 2 + j) (λ c. there (let u : b.address m ≡ b.address n = ap b.address same in omega arith))
+            ∙ t.laid.fields.holds m j p q
+            ∙ sym (ap (word_of b.address) (ap (λ (f : ℕ → Entry). f j) (put-at g.field n (put (g.field n) i e) m same) ∙ put-other (g.field n) i e j there
+            ∙ ap (λ x. g.field x j) (sym same)))
       ]
-      | inr other ↦ put-other w.word at val (b.address m + 2 + j) (λ c. other (same_there n at val sn (omega arith) (omega arith) m (b.address m + 2 + j) p (omega arith) (omega arith) c)) ∙ t.laid.fields.holds m j p q
+      | inr other ↦ put-other w.word at val (b.address m + 2 + j)
+          (λ c. other (same_there n at val sn (omega arith) (omega arith) m (b.address m + 2 + j) p (omega arith) (omega arith) c))
+          ∙ t.laid.fields.holds m j p q
           ∙ sym (ap (word_of b.address) (ap (λ (f : ℕ → Entry). f j) (put-other g.field n (put (g.field n) i e) m other)))
     ]
 
     -- what holds of e at (n, i) and of the fields elsewhere
     field_all : (P : ℕ → ℕ → Entry → Type 0) → P n i e → ((m j : ℕ) → P m j (g.field m j)) → (m j : ℕ) → P m j (put g.field n (put (g.field n) i e) m j)
-    field_all P here there m = put-all (λ m f. (j : ℕ) → P m j (f j)) g.field n (put (g.field n) i e) (put-all (λ j x. P n j x) (g.field n) i e here (λ j _. there n j)) (λ m _. there m) m
+    field_all P here there m = put-all (λ m f. (j : ℕ) → P m j (f j)) g.field n (put (g.field n) i e)
+        (put-all (λ j x. P n j x) (g.field n) i e here (λ j _. there n j)) (λ m _. there m) m
 
     pub field_stored : Change p lay w g b said k (write w (Word (b.address n + 2 + i)) (word_of b.address e)) (stored g n i e) b
     field_stored = record {
@@ -190,13 +212,15 @@ module _ (p : Program) (lay : Constants) (w : Words) (g : Graph) (b : Book) (sai
           (λ m j q r. field_all (λ m j x. b.stands m ≡ true → j < g.size m → IsKnownEntry (put w.word at val) g b x)
           (λ _ _. entry_later w g b (write w (Word at) val) g b e known_stored ke)
           (λ m j s l. entry_later w g b (write w (Word at) val) g b (g.field m j) known_stored (t.laid.fields.known m j s l)) m j q r)
-          (λ m j q r. field_all (λ m j x. b.stands m ≡ true → j < g.size m → IsOfSort (holds_reference (kind_of p (g.class m)) j (g.size m)) x) (λ _ _. se) t.laid.fields.sorted m j q r);
+          (λ m j q r. field_all (λ m j x. b.stands m ≡ true → j < g.size m → IsOfSort (holds_reference (kind_of p (g.class m)) j (g.size m)) x)
+          (λ _ _. se) t.laid.fields.sorted m j q r);
       mutators = refl;
     }
 
   module _ (a : Actor) (rest : List Statement) where
     -- the deciding store of a reference
-    pub puts : (r i s : ℕ) → Stands p lay w g b said k (within a rest (Access (Put r i s))) → Kept p lay w g b said k (Access (Put r i s)) true (write w (Word (object_in a r + 2 + i)) (a.reg s)) (over a rest a.reg Fine)
+    pub puts : (r i s : ℕ) → Stands p lay w g b said k (within a rest (Access (Put r i s))) →
+        Kept p lay w g b said k (Access (Put r i s)) true (write w (Word (object_in a r + 2 + i)) (a.reg s)) (over a rest a.reg Fine)
     puts r i s st =
         let test : Test = record { register = r; field = i; sort = Reference } in
         let x = tested_as p g st.entry (Put r i s) st.at.0 test refl st.at.1 in
@@ -210,15 +234,18 @@ module _ (p : Program) (lay : Constants) (w : Words) (g : Graph) (b : Book) (sai
         let ch = field_stored n i (Ref target.0) sn f.0 kt (subst (λ q. IsOfSort q (Ref target.0)) (sym f.1) tt) in
         let known = entry_stored n i (Ref target.0) sn f.0 kt (subst (λ q. IsOfSort q (Ref target.0)) (sym f.1) tt) in
         subst (λ z. Kept p lay w g b said k (Access (Put r i s)) true (write w (Word (z + 2 + i)) (a.reg s)) (over a rest a.reg Fine)) (sym ea)
-        (subst (λ z. Kept p lay w g b said k (Access (Put r i s)) true (write w (Word (b.address n + 2 + i)) z) (over a rest a.reg Fine)) (sym (es ∙ ap (word_of b.address) target.1))
-        (decided p lay w g b said k _ (λ x e. e) (write w (Word (b.address n + 2 + i)) (word_of b.address (Ref target.0))) (stored g n i (Ref target.0)) ch _ (Put r i s) rest st st.entry Fine a.reg Fine st.at.2 (
+        (subst (λ z. Kept p lay w g b said k (Access (Put r i s)) true (write w (Word (b.address n + 2 + i)) z) (over a rest a.reg Fine))
+        (sym (es ∙ ap (word_of b.address) target.1))
+        (decided p lay w g b said k _ (λ x e. e) (write w (Word (b.address n + 2 + i)) (word_of b.address (Ref target.0))) (stored g n i (Ref target.0)) ch _
+        (Put r i s) rest st st.entry Fine a.reg Fine st.at.2 (
           (n, target.0, finds_as p g (g.mutator k) st.entry (Put r i s ∷ rest) (Put r i s) test x, target.1),
           ap₂ (λ o e. handed (stored g (name_in o) i e) k rest st.entry) (sym x.holds) (sym target.1),
         ) refl st.regs
         (λ q. known (st.entry q) (st.known q)) st.offsets refl tt (λ q. refl) refl))
 
     -- the deciding store of a number
-    pub puts_number : (r i s : ℕ) → Stands p lay w g b said k (within a rest (Access (PutD r i s))) → Kept p lay w g b said k (Access (PutD r i s)) true (write w (Word (object_in a r + 2 + i)) (a.reg s)) (over a rest a.reg Fine)
+    pub puts_number : (r i s : ℕ) → Stands p lay w g b said k (within a rest (Access (PutD r i s))) →
+        Kept p lay w g b said k (Access (PutD r i s)) true (write w (Word (object_in a r + 2 + i)) (a.reg s)) (over a rest a.reg Fine)
     puts_number r i s st =
         let test : Test = record { register = r; field = i; sort = Plain } in
         let x = tested_as p g st.entry (PutD r i s) st.at.0 test refl st.at.1 in
@@ -231,15 +258,18 @@ module _ (p : Program) (lay : Constants) (w : Words) (g : Graph) (b : Book) (sai
         let ch = field_stored n i (Int number.0) sn f.0 tt (subst (λ q. IsOfSort q (Int number.0)) (sym f.1) tt) in
         let known = entry_stored n i (Int number.0) sn f.0 tt (subst (λ q. IsOfSort q (Int number.0)) (sym f.1) tt) in
         subst (λ z. Kept p lay w g b said k (Access (PutD r i s)) true (write w (Word (z + 2 + i)) (a.reg s)) (over a rest a.reg Fine)) (sym ea)
-        (subst (λ z. Kept p lay w g b said k (Access (PutD r i s)) true (write w (Word (b.address n + 2 + i)) z) (over a rest a.reg Fine)) (sym (es ∙ ap (word_of b.address) number.1))
-        (decided p lay w g b said k _ (λ x e. e) (write w (Word (b.address n + 2 + i)) (word_of b.address (Int number.0))) (stored g n i (Int number.0)) ch _ (PutD r i s) rest st st.entry Fine a.reg Fine st.at.2 (
+        (subst (λ z. Kept p lay w g b said k (Access (PutD r i s)) true (write w (Word (b.address n + 2 + i)) z) (over a rest a.reg Fine))
+        (sym (es ∙ ap (word_of b.address) number.1))
+        (decided p lay w g b said k _ (λ x e. e) (write w (Word (b.address n + 2 + i)) (word_of b.address (Int number.0))) (stored g n i (Int number.0)) ch _
+        (PutD r i s) rest st st.entry Fine a.reg Fine st.at.2 (
           (n, number.0, finds_as p g (g.mutator k) st.entry (PutD r i s ∷ rest) (PutD r i s) test x, number.1),
           ap₂ (λ o e. handed (stored g (name_in o) i e) k rest st.entry) (sym x.holds) (sym number.1),
         ) refl st.regs
         (λ q. known (st.entry q) (st.known q)) st.offsets refl tt (λ q. refl) refl))
 
     -- the deciding load of a reference
-    pub gets : (d r i v : ℕ) → w.word (object_in a r + 2 + i) ≡ v → Stands p lay w g b said k (within a rest (Access (Get d r i))) → Kept p lay w g b said k (Access (Get d r i)) true w (over a rest (put a.reg d v) (reference_answer v))
+    pub gets : (d r i v : ℕ) → w.word (object_in a r + 2 + i) ≡ v → Stands p lay w g b said k (within a rest (Access (Get d r i))) →
+        Kept p lay w g b said k (Access (Get d r i)) true w (over a rest (put a.reg d v) (reference_answer v))
     gets d r i v e st =
         let test : Test = record { register = r; field = i; sort = Reference } in
         let x = tested_as p g st.entry (Get d r i) st.at.0 test refl st.at.1 in
@@ -247,7 +277,8 @@ module _ (p : Program) (lay : Constants) (w : Words) (g : Graph) (b : Book) (sai
         let sn = (known_at p lay w g b said k owner t _ st r n x.holds).0 in
         let f = reference_field (kind_of p (g.class n)) (g.size n) i x.finds in
         let target = of_reference _ (g.field n i) f.1 (t.laid.fields.sorted n i sn f.0) in
-        let ev : v ≡ word_of b.address (Ref target.0) = sym e ∙ ap (λ z. w.word (z + 2 + i)) (object_at p lay w g b said k owner t _ st r n x.holds) ∙ t.laid.fields.holds n i sn f.0 ∙ ap (word_of b.address) target.1 in
+        let ev : v ≡ word_of b.address (Ref target.0) = sym e ∙ ap (λ z. w.word (z + 2 + i)) (object_at p lay w g b said k owner t _ st r n x.holds)
+        ∙ t.laid.fields.holds n i sn f.0 ∙ ap (word_of b.address) target.1 in
         let kt : IsKnownEntry w.word g b (Ref target.0) = subst (IsKnownEntry w.word g b) target.1 (t.laid.fields.known n i sn f.0) in
         let regs = put-along (word_of b.address) a.reg st.entry d v (Ref target.0) st.regs ev in
         let known = known_put p lay w g b said k owner t _ st d (Ref target.0) kt in
@@ -255,20 +286,23 @@ module _ (p : Program) (lay : Constants) (w : Words) (g : Graph) (b : Book) (sai
         let kinds = put-along kind_of_entry (λ r. kind_of_entry (st.entry r)) st.entry d IsRef (Ref target.0) (λ r. refl) refl in
         let found = finds_as p g (g.mutator k) st.entry (Get d r i ∷ rest) (Get d r i) test x in
         elim (cases_eq target.0 0) [
-          | inl z ↦ decided p lay w g b said k _ (λ x e. e) w g (unchanged p lay w g b said k owner t) _ (Get d r i) rest st (put st.entry d (Ref 0)) Nil (put a.reg d v) (reference_answer v) st.at.2
+          | inl z ↦ decided p lay w g b said k _ (λ x e. e) w g (unchanged p lay w g b said k owner t) _ (Get d r i) rest st (put st.entry d (Ref 0)) Nil
+              (put a.reg d v) (reference_answer v) st.at.2
               ((n, found, target.1 ∙ ap Ref z), refl) refl
               (subst (λ m. (q : ℕ) → put a.reg d v q ≡ word_of b.address (put st.entry d (Ref m) q)) z regs)
               (subst (λ m. (q : ℕ) → IsKnownEntry w.word g b (put st.entry d (Ref m) q)) z known)
               (subst (λ m. (q : ℕ) → StandsAt g b (a.offset q) (put st.entry d (Ref m) q)) z offsets)
               (cond-true _ _ _ (eq-eqb v 0 (ev ∙ ap (λ m. byte_at (b.address m)) z ∙ (let u = t.laid.nothing.at_nil in omega arith)))) tt
               (subst (λ m. (q : ℕ) → put (λ r. kind_of_entry (st.entry r)) d IsRef q ≡ kind_of_entry (put st.entry d (Ref m) q)) z kinds) refl
-          | inr z ↦ decided p lay w g b said k _ (λ x e. e) w g (unchanged p lay w g b said k owner t) _ (Get d r i) rest st (put st.entry d (Ref target.0)) (At target.0) (put a.reg d v) (reference_answer v) st.at.2
+          | inr z ↦ decided p lay w g b said k _ (λ x e. e) w g (unchanged p lay w g b said k owner t) _ (Get d r i) rest st (put st.entry d (Ref target.0))
+              (At target.0) (put a.reg d v) (reference_answer v) st.at.2
               ((n, found, target.1, z), refl) refl regs known offsets
               (cond-false _ _ _ (ne_eqb v 0 (λ q. z (name_nil p lay w g b said k owner t target.0 kt.0 (omega arith)))) ∙ ap At ev) kt.0 kinds refl
         ]
 
     -- the deciding load of a number
-    pub gets_number : (d r i v : ℕ) → w.word (object_in a r + 2 + i) ≡ v → Stands p lay w g b said k (within a rest (Access (GetD d r i))) → Kept p lay w g b said k (Access (GetD d r i)) true w (over a rest (put a.reg d v) (Number v))
+    pub gets_number : (d r i v : ℕ) → w.word (object_in a r + 2 + i) ≡ v → Stands p lay w g b said k (within a rest (Access (GetD d r i))) →
+        Kept p lay w g b said k (Access (GetD d r i)) true w (over a rest (put a.reg d v) (Number v))
     gets_number d r i v e st =
         let test : Test = record { register = r; field = i; sort = Plain } in
         let x = tested_as p g st.entry (GetD d r i) st.at.0 test refl st.at.1 in
@@ -276,9 +310,12 @@ module _ (p : Program) (lay : Constants) (w : Words) (g : Graph) (b : Book) (sai
         let sn = (known_at p lay w g b said k owner t _ st r n x.holds).0 in
         let f = plain_field (kind_of p (g.class n)) (g.size n) i x.finds in
         let number = of_number _ (g.field n i) f.1 (t.laid.fields.sorted n i sn f.0) in
-        let ev : v ≡ number.0 = sym e ∙ ap (λ z. w.word (z + 2 + i)) (object_at p lay w g b said k owner t _ st r n x.holds) ∙ t.laid.fields.holds n i sn f.0 ∙ ap (word_of b.address) number.1 in
-        decided p lay w g b said k _ (λ x e. e) w g (unchanged p lay w g b said k owner t) _ (GetD d r i) rest st (put st.entry d (Int number.0)) (Number number.0) (put a.reg d v) (Number v) st.at.2
+        let ev : v ≡ number.0 = sym e ∙ ap (λ z. w.word (z + 2 + i)) (object_at p lay w g b said k owner t _ st r n x.holds) ∙ t.laid.fields.holds n i sn f.0
+        ∙ ap (word_of b.address) number.1 in
+        decided p lay w g b said k _ (λ x e. e) w g (unchanged p lay w g b said k owner t) _ (GetD d r i) rest st (put st.entry d (Int number.0))
+        (Number number.0) (put a.reg d v) (Number v) st.at.2
         ((n, finds_as p g (g.mutator k) st.entry (GetD d r i ∷ rest) (GetD d r i) test x, number.1), refl) refl
         (put-along (word_of b.address) a.reg st.entry d v (Int number.0) st.regs ev)
-        (known_put p lay w g b said k owner t _ st d (Int number.0) tt) (offsets_put g b a.offset st.entry d (Int number.0) (λ o. tt) st.offsets) (ap Number ev) tt
+        (known_put p lay w g b said k owner t _ st d (Int number.0) tt) (offsets_put g b a.offset st.entry d (Int number.0) (λ o. tt) st.offsets)
+        (ap Number ev) tt
         (put-along kind_of_entry (λ r. kind_of_entry (st.entry r)) st.entry d IsInt (Int number.0) (λ r. refl) refl) refl

@@ -9,7 +9,8 @@ none_is_some : (test : Test) → None ≡ Some test → ⊥
 none_is_some test e = cc
 
 -- what holds of the four statements with an object test holds of each with one
-pub by_test : (P : Statement → Type 0) → ((r i s : ℕ) → P (Put r i s)) → ((d r i : ℕ) → P (Get d r i)) → ((r i s : ℕ) → P (PutD r i s)) → ((d r i : ℕ) → P (GetD d r i)) →
+pub by_test : (P : Statement → Type 0) → ((r i s : ℕ) → P (Put r i s)) → ((d r i : ℕ) → P (Get d r i)) → ((r i s : ℕ) → P (PutD r i s)) →
+    ((d r i : ℕ) → P (GetD d r i)) →
     (s : Statement) (test : Test) → test_of s ≡ Some test → P s
 by_test P puts gets puts_number gets_number (New r class) test e = absurd (none_is_some test e)
 by_test P puts gets puts_number gets_number (NewV r class count) test e = absurd (none_is_some test e)
@@ -36,7 +37,8 @@ by_test P puts gets puts_number gets_number (Collect major) test e = absurd (non
 by_test P puts gets puts_number gets_number Sections test e = absurd (none_is_some test e)
 
 -- what holds of the two statements that make an object in the nursery holds of each that does
-pub by_making : (P : Statement → Type 0) → ((r class : ℕ) → P (New r class)) → ((r class count : ℕ) → P (NewV r class count)) → (s : Statement) → IsMaking s → P s
+pub by_making : (P : Statement → Type 0) → ((r class : ℕ) → P (New r class)) → ((r class count : ℕ) → P (NewV r class count)) → (s : Statement) → IsMaking s →
+    P s
 by_making P one vector (New r class) e = one r class
 by_making P one vector (NewV r class count) e = vector r class count
 by_making P one vector (Mature r class) e = absurd e

@@ -22,7 +22,8 @@ use Rattle.sg_order.specs.Rest.{StandsAt}
 use Rattle.sg_graph.specs.Heap.{IsKnown, IsKnownEntry}
 use Rattle.sg_order.proofs.Relation.{IsGiven, AreGiven, IsMutator, Tight, AsksForRoom, Tested, Placed, AtMid, Keeps, Stacked, Stands, Later}
 
-address_later : (b c : Book) (answer : Answer) → IsGiven b.stands answer → ((n : ℕ) → b.stands n ≡ true → c.address n ≡ b.address n) → by_address c answer ≡ by_address b answer
+address_later : (b c : Book) (answer : Answer) → IsGiven b.stands answer → ((n : ℕ) → b.stands n ≡ true → c.address n ≡ b.address n) →
+    by_address c answer ≡ by_address b answer
 address_later b c (At n) g e = ap (λ x. At (byte_at x)) (e n g)
 address_later b c Nil g e = refl
 address_later b c Null g e = refl
@@ -33,7 +34,8 @@ address_later b c No g e = refl
 address_later b c Field g e = refl
 address_later b c Full g e = refl
 
-pub answers_later : (b c : Book) (said : List Answer) → AreGiven b.stands said → ((n : ℕ) → b.stands n ≡ true → c.address n ≡ b.address n) → map (by_address c) said ≡ map (by_address b) said
+pub answers_later : (b c : Book) (said : List Answer) → AreGiven b.stands said → ((n : ℕ) → b.stands n ≡ true → c.address n ≡ b.address n) →
+    map (by_address c) said ≡ map (by_address b) said
 answers_later b c [] g e = refl
 answers_later b c (answer ∷ said) g e = ap₂ (λ x s. x ∷ s) (address_later b c answer g.0 e) (answers_later b c said g.1 e)
 
@@ -53,7 +55,8 @@ given_later s t [] l g = tt
 given_later s t (answer ∷ said) l g = (is_given_later s t answer l g.0, given_later s t said l g.1)
 
 -- one more answer at the end
-pub answers_push : (b : Book) (said : List Answer) (answer : Answer) → map (by_address b) (said ++ answer ∷ []) ≡ map (by_address b) said ++ by_address b answer ∷ []
+pub answers_push : (b : Book) (said : List Answer) (answer : Answer) →
+    map (by_address b) (said ++ answer ∷ []) ≡ map (by_address b) said ++ by_address b answer ∷ []
 answers_push b [] answer = refl
 answers_push b (x ∷ said) answer = ap (λ s. by_address b x ∷ s) (answers_push b said answer)
 
@@ -62,18 +65,21 @@ given_push s [] answer g i = (i, tt)
 given_push s (x ∷ said) answer g i = (g.0, given_push s said answer g.1 i)
 
 -- the word of a known entry stays
-pub word_later : (w : Words) (g : Graph) (b c : Book) (entry : Entry) → IsKnownEntry w.word g b entry → ((n : ℕ) → b.stands n ≡ true → c.address n ≡ b.address n) → word_of c.address entry ≡ word_of b.address entry
+pub word_later : (w : Words) (g : Graph) (b c : Book) (entry : Entry) → IsKnownEntry w.word g b entry →
+    ((n : ℕ) → b.stands n ≡ true → c.address n ≡ b.address n) → word_of c.address entry ≡ word_of b.address entry
 word_later w g b c (Ref n) q e = ap byte_at (e n q.0)
 word_later w g b c (Int v) q e = refl
 word_later w g b c (Inner n o) q e = ap (λ a. byte_at a + o) (e n q.0)
 
-pub entry_later : (w : Words) (g : Graph) (b : Book) (v : Words) (h : Graph) (c : Book) (entry : Entry) → ((n : ℕ) → IsKnown w.word g b n → IsKnown v.word h c n) → IsKnownEntry w.word g b entry → IsKnownEntry v.word h c entry
+pub entry_later : (w : Words) (g : Graph) (b : Book) (v : Words) (h : Graph) (c : Book) (entry : Entry) →
+    ((n : ℕ) → IsKnown w.word g b n → IsKnown v.word h c n) → IsKnownEntry w.word g b entry → IsKnownEntry v.word h c entry
 entry_later w g b v h c (Ref n) l q = l n q
 entry_later w g b v h c (Int x) l q = tt
 entry_later w g b v h c (Inner n o) l q = l n q
 
 -- what an entry refers to stands on, and an offset is still below the object's end
-pub offset_later : (g : Graph) (b : Book) (h : Graph) (c : Book) (offset : ℕ) (entry : Entry) → ((n : ℕ) → b.stands n ≡ true → c.stands n ≡ true) → ((n : ℕ) → b.stands n ≡ true → h.size n ≡ g.size n) →
+pub offset_later : (g : Graph) (b : Book) (h : Graph) (c : Book) (offset : ℕ) (entry : Entry) → ((n : ℕ) → b.stands n ≡ true → c.stands n ≡ true) →
+    ((n : ℕ) → b.stands n ≡ true → h.size n ≡ g.size n) →
     StandsAt g b offset entry → StandsAt h c offset entry
 offset_later g b h c offset (Ref n) stands size q = stands n q
 offset_later g b h c offset (Int x) stands size q = tt
@@ -86,7 +92,8 @@ offset_later g b h c offset (Inner n o) stands size q = (
   ],
 )
 
-pub keeps_later : (w : Words) (g : Graph) (b : Book) (v : Words) (h : Graph) (c : Book) → ((n : ℕ) → IsKnown w.word g b n → IsKnown v.word h c n) → ((n : ℕ) → b.stands n ≡ true → c.stands n ≡ true) →
+pub keeps_later : (w : Words) (g : Graph) (b : Book) (v : Words) (h : Graph) (c : Book) → ((n : ℕ) → IsKnown w.word g b n → IsKnown v.word h c n) →
+    ((n : ℕ) → b.stands n ≡ true → c.stands n ≡ true) →
     ((n : ℕ) → b.stands n ≡ true → c.address n ≡ b.address n) → ((n : ℕ) → b.stands n ≡ true → h.size n ≡ g.size n) →
     (word offset : ℕ) (entry : Entry) → Keeps w.word g b word offset entry → Keeps v.word h c word offset entry
 keeps_later w g b v h c known stands address size word offset entry q = record {
@@ -97,7 +104,8 @@ keeps_later w g b v h c known stands address size word offset entry q = record {
   known = entry_later w g b v h c entry known q.known;
 }
 
-pub stack_later : (w : Words) (g : Graph) (b : Book) (v : Words) (h : Graph) (c : Book) → ((n : ℕ) → IsKnown w.word g b n → IsKnown v.word h c n) → ((n : ℕ) → b.stands n ≡ true → c.stands n ≡ true) →
+pub stack_later : (w : Words) (g : Graph) (b : Book) (v : Words) (h : Graph) (c : Book) → ((n : ℕ) → IsKnown w.word g b n → IsKnown v.word h c n) →
+    ((n : ℕ) → b.stands n ≡ true → c.stands n ≡ true) →
     ((n : ℕ) → b.stands n ≡ true → c.address n ≡ b.address n) → ((n : ℕ) → b.stands n ≡ true → h.size n ≡ g.size n) →
     (slots : List StackWord) (entries : List Entry) → Stacked w.word g b slots entries → Stacked v.word h c slots entries
 stack_later w g b v h c known stands address size [] [] q = tt
@@ -108,9 +116,11 @@ stack_later w g b v h c known stands address size (x ∷ xs) (y ∷ ys) q = (
   stack_later w g b v h c known stands address size xs ys q.1,
 )
 
-module _ (p : Program) (lay : Constants) (w : Words) (g : Graph) (b : Book) (said : ℕ → List Answer) (v : Words) (h : Graph) (c : Book) (said' : ℕ → List Answer) (k j : ℕ) (l : Later w g b said v h c said' k) (n : j ≢ k) where
+module _ (p : Program) (lay : Constants) (w : Words) (g : Graph) (b : Book) (said : ℕ → List Answer) (v : Words) (h : Graph) (c : Book)
+    (said' : ℕ → List Answer) (k j : ℕ) (l : Later w g b said v h c said' k) (n : j ≢ k) where
   -- the same, at another graph
-  moved : (register : ℕ → Entry) (script : List Statement) (answers : List Answer) → IsMutator g said j register script answers → IsMutator h said' j register script answers
+  moved : (register : ℕ → Entry) (script : List Statement) (answers : List Answer) → IsMutator g said j register script answers →
+      IsMutator h said' j register script answers
   moved register script answers m =
       let e : h.mutator j ≡ g.mutator j = l.mutator j n in
       record {
@@ -136,7 +146,8 @@ module _ (p : Program) (lay : Constants) (w : Words) (g : Graph) (b : Book) (sai
     holds = t.holds;
     some = t.some;
     finds = let stood : b.stands t.name ≡ true = stands_of (entry test.register) t.name t.holds (q test.register) in
-        ap (λ class. has_field test.sort (kind_of p class) (h.size t.name) test.field) (l.class t.name stood) ∙ ap (λ size. has_field test.sort (kind_of p (g.class t.name)) size test.field) (l.size t.name stood) ∙ t.finds;
+        ap (λ class. has_field test.sort (kind_of p class) (h.size t.name) test.field) (l.class t.name stood) ∙ ap
+        (λ size. has_field test.sort (kind_of p (g.class t.name)) size test.field) (l.size t.name stood) ∙ t.finds;
   }
 
   tight : (m f : ℕ) → Tight b j m f → Tight c j m f
@@ -145,7 +156,8 @@ module _ (p : Program) (lay : Constants) (w : Words) (g : Graph) (b : Book) (sai
     below = λ i e. let x = l.next i in let y = l.limit i in let u = t.below i e in omega arith;
   }
 
-  placed : (entry : ℕ → Entry) (answers : List Answer) (rest : List Statement) (s : Statement) (x : ℕ) → Placed p g b said j entry answers rest s x → Placed p h c said' j entry answers rest s x
+  placed : (entry : ℕ → Entry) (answers : List Answer) (rest : List Statement) (s : Statement) (x : ℕ) → Placed p g b said j entry answers rest s x →
+      Placed p h c said' j entry answers rest s x
   placed entry answers rest s x m = record {
     name = m.name;
     some = m.some;
@@ -182,10 +194,16 @@ module _ (p : Program) (lay : Constants) (w : Words) (g : Graph) (b : Book) (sai
   asked (Collect false) t = tt
   asked Sections t = absurd t
 
-  pub mid_later : (entry : ℕ → Entry) (answers : List Answer) (rest : List Statement) (mid : Mid) → ((r : ℕ) → IsKnownEntry w.word g b (entry r)) → AtMid p lay w g b said j entry answers rest mid → AtMid p lay v h c said' j entry answers rest mid
+  pub mid_later : (entry : ℕ → Entry) (answers : List Answer) (rest : List Statement) (mid : Mid) → ((r : ℕ) → IsKnownEntry w.word g b (entry r)) →
+      AtMid p lay w g b said j entry answers rest mid → AtMid p lay v h c said' j entry answers rest mid
   mid_later entry answers rest Idle q m = moved _ _ _ m
   mid_later entry answers rest (TestTag s test) q m = (m.0, moved _ _ _ m.1)
-  mid_later entry answers rest (TestLength s test class) q m = (m.0, m.1 ∙ sym (l.class m.0.name (stands_of (entry test.register) m.0.name m.0.holds (q test.register))), moved _ _ _ m.2)
+  mid_later entry answers rest (TestLength s test class) q m = (
+    m.0,
+    m.1 ∙ sym
+        (l.class m.0.name (stands_of (entry test.register) m.0.name m.0.holds (q test.register))),
+    moved _ _ _ m.2,
+  )
   mid_later entry answers rest (Access s) q m = (m.0, tested entry s m.0 q m.1, moved _ _ _ m.2)
   mid_later entry answers rest (Look s f) q m = (m.0, m.1, tight _ f m.2, moved _ _ _ m.3)
   mid_later entry answers rest (Claim s f next) q m = (m.0, m.1, tight _ f m.2, m.3, moved _ _ _ m.4)
@@ -212,7 +230,8 @@ module _ (p : Program) (lay : Constants) (w : Words) (g : Graph) (b : Book) (sai
     regs = λ r. s.regs r ∙ sym (word_later w g b c (s.entry r) (s.known r) l.address);
     known = λ r. entry_later w g b v h c (s.entry r) l.known (s.known r);
     offsets = λ r. offset_later g b h c (a.offset r) (s.entry r) l.stands l.size (s.offsets r);
-    stack = subst (λ (m : Mutator). Stacked v.word h c a.stack m.stack) (sym (l.mutator j n)) (stack_later w g b v h c l.known l.stands l.address l.size a.stack (g.mutator j).stack s.stack);
+    stack = subst (λ (m : Mutator). Stacked v.word h c a.stack m.stack) (sym (l.mutator j n))
+        (stack_later w g b v h c l.known l.stands l.address l.size a.stack (g.mutator j).stack s.stack);
     told = s.told ∙ sym (answers_later b c s.answers s.given l.address);
     given = given_later b.stands c.stands s.answers l.stands s.given;
     from_is = s.from_is ∙ sym (l.from j n);

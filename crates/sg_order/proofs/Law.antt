@@ -30,7 +30,8 @@ use Rattle.sg_order.proofs.Whole.{one_by_one}
 use Rattle.sg_order.proofs.MayDo.{may_do}
 
 -- an epoch opens with every object headed and every mutator between two statements
-pub at_opening : (p : Program) (lay : Constants) (w : Words) (g : Graph) (b : Book) (actors : ℕ → Actor) → IsEpochOpening p lay w g b actors → World p lay w g b (λ _. []) actors
+pub at_opening : (p : Program) (lay : Constants) (w : Words) (g : Graph) (b : Book) (actors : ℕ → Actor) → IsEpochOpening p lay w g b actors →
+    World p lay w g b (λ _. []) actors
 at_opening p lay w g b actors o = record {
   owner = o.held.owner;
   ground = record { laid = o.held.heap.laid; plain = o.held.plain; number = o.held.number; limits = o.held.limits; words = o.held.nexts };
@@ -67,30 +68,36 @@ at_opening p lay w g b actors o = record {
       elim (cases_eq n 0) [ inl z ↦ inl z | inr some ↦ inr (o.held.heap.headed n (omega arith) q.0) ],
     )
 
-    stacked : (slots : List StackWord) (entries : List Entry) → Pairwise (λ (slot : StackWord) (entry : Entry). Holds g b slot.word slot.offset entry) slots entries → Stacked w.word g b slots entries
+    stacked : (slots : List StackWord) (entries : List Entry) →
+        Pairwise (λ (slot : StackWord) (entry : Entry). Holds g b slot.word slot.offset entry) slots entries → Stacked w.word g b slots entries
     stacked [] [] q = tt
     stacked [] (y ∷ ys) q = absurd q
     stacked (x ∷ xs) [] q = absurd q
     stacked (x ∷ xs) (y ∷ ys) q = (record { holds = q.0; known = known x.offset y q.0.stands }, stacked xs ys q.1)
 
 -- a mutator that is over is where the graph's mutator is
-pub at_rest : (p : Program) (lay : Constants) (w : Words) (g : Graph) (b : Book) (said : ℕ → List Answer) (k : ℕ) (a : Actor) (s : Stands p lay w g b said k a) → IsOver a.mid → IsMutator g said k s.entry (before_it a.mid a.script) s.answers
+pub at_rest : (p : Program) (lay : Constants) (w : Words) (g : Graph) (b : Book) (said : ℕ → List Answer) (k : ℕ) (a : Actor)
+    (s : Stands p lay w g b said k a) → IsOver a.mid → IsMutator g said k s.entry (before_it a.mid a.script) s.answers
 at_rest p lay w g b said k a s over = go a.mid over s.at
   where
     go : (mid : Mid) → IsOver mid → AtMid p lay w g b said k s.entry s.answers a.script mid → IsMutator g said k s.entry (before_it mid a.script) s.answers
     go mid over = elim over [
-      | inl e ↦ subst (λ mid. AtMid p lay w g b said k s.entry s.answers a.script mid → IsMutator g said k s.entry (before_it mid a.script) s.answers) (sym e) (λ m. m)
-      | inr e ↦ subst (λ mid. AtMid p lay w g b said k s.entry s.answers a.script mid → IsMutator g said k s.entry (before_it mid a.script) s.answers) (sym e.1) (λ m. m.1)
+      | inl e ↦ subst (λ mid. AtMid p lay w g b said k s.entry s.answers a.script mid → IsMutator g said k s.entry (before_it mid a.script) s.answers) (sym e)
+          (λ m. m)
+      | inr e ↦ subst (λ mid. AtMid p lay w g b said k s.entry s.answers a.script mid → IsMutator g said k s.entry (before_it mid a.script) s.answers)
+          (sym e.1) (λ m. m.1)
     ]
 
 -- the places of a stack hold what they keep
-held_stack : (w : ℕ → ℕ) (g : Graph) (b : Book) (slots : List StackWord) (entries : List Entry) → Stacked w g b slots entries → Pairwise (λ (slot : StackWord) (entry : Entry). Holds g b slot.word slot.offset entry) slots entries
+held_stack : (w : ℕ → ℕ) (g : Graph) (b : Book) (slots : List StackWord) (entries : List Entry) → Stacked w g b slots entries →
+    Pairwise (λ (slot : StackWord) (entry : Entry). Holds g b slot.word slot.offset entry) slots entries
 held_stack w g b [] [] q = tt
 held_stack w g b [] (y ∷ ys) q = absurd q
 held_stack w g b (x ∷ xs) [] q = absurd q
 held_stack w g b (x ∷ xs) (y ∷ ys) q = (q.0.holds, held_stack w g b xs ys q.1)
 
-pub ready_at_rest : (p : Program) (lay : Constants) (w : Words) (g : Graph) (b : Book) (said : ℕ → List Answer) (k : ℕ) (a : Actor) (s : Stands p lay w g b said k a) → IsOver a.mid → IsReady p g b k a (before_it a.mid a.script)
+pub ready_at_rest : (p : Program) (lay : Constants) (w : Words) (g : Graph) (b : Book) (said : ℕ → List Answer) (k : ℕ) (a : Actor)
+    (s : Stands p lay w g b said k a) → IsOver a.mid → IsReady p g b k a (before_it a.mid a.script)
 ready_at_rest p lay w g b said k a s over =
     let m = at_rest p lay w g b said k a s over in
     let entry : (r : ℕ) → (g.mutator k).register r ≡ s.entry r = λ r. ap (λ (register : ℕ → Entry). register r) m.register_is in
@@ -109,11 +116,14 @@ ready_at_rest p lay w g b said k a s over =
     }
 
 -- who asks for a new object is short of room
-asked_tight : (p : Program) (lay : Constants) (b : Book) (k : ℕ) (s : Statement) → IsMaking s → AsksForRoom p lay b k s → Tight b k (made_words p s) lay.fragments
-asked_tight p lay b k s making = by_making (λ s. AsksForRoom p lay b k s → Tight b k (made_words p s) lay.fragments) (λ r class t. t) (λ r class count t. t) s making
+asked_tight : (p : Program) (lay : Constants) (b : Book) (k : ℕ) (s : Statement) → IsMaking s → AsksForRoom p lay b k s →
+    Tight b k (made_words p s) lay.fragments
+asked_tight p lay b k s making = by_making (λ s. AsksForRoom p lay b k s → Tight b k (made_words p s) lay.fragments) (λ r class t. t)
+    (λ r class count t. t) s making
 
 -- who left with a new object has no place for it
-pub no_place : (p : Program) (lay : Constants) (w : Words) (g : Graph) (b : Book) (said : ℕ → List Answer) (owner : ℕ → Owner) → Ground p lay w g b owner → (k : ℕ) (a : Actor) (st : Stands p lay w g b said k a) (s : Statement) →
+pub no_place : (p : Program) (lay : Constants) (w : Words) (g : Graph) (b : Book) (said : ℕ → List Answer) (owner : ℕ → Owner) → Ground p lay w g b owner →
+    (k : ℕ) (a : Actor) (st : Stands p lay w g b said k a) (s : Statement) →
     IsMaking s → a.mid ≡ Left s → HasNoPlace b k (made_words p s)
 no_place p lay w g b said owner t k a st s making e =
     let m = subst (λ (mid : Mid). AtMid p lay w g b said k st.entry st.answers a.script mid) e st.at in
@@ -128,7 +138,8 @@ over_makes_none x mid over = elim over [
 ]
 
 -- where all are over, the words hold the graph
-pub held_at_rest : (p : Program) (lay : Constants) (w : Words) (g : Graph) (b : Book) (said : ℕ → List Answer) (actors : ℕ → Actor) → World p lay w g b said actors → ((k : ℕ) → IsOver (actors k).mid) → IsHeld p lay w g b
+pub held_at_rest : (p : Program) (lay : Constants) (w : Words) (g : Graph) (b : Book) (said : ℕ → List Answer) (actors : ℕ → Actor) →
+    World p lay w g b said actors → ((k : ℕ) → IsOver (actors k).mid) → IsHeld p lay w g b
 held_at_rest p lay w g b said actors wo over = record {
   owner = wo.owner;
   heap = record {
@@ -162,7 +173,8 @@ is_one_order p lay w g b es actors last opening legal follows =
       deciding = x.order_is;
       apart = apart_by p lay v x.graph x.book x.world.owner x.world.ground;
       may = λ k s rest idle script. may_do p lay v x.graph x.book x.says x.world.owner x.world.ground k (last k) (x.world.stands k) s rest idle script;
-      answers = λ k over. let s = x.world.stands k in s.told ∙ ap (map (by_address x.book)) (sym (at_rest p lay v x.graph x.book x.says k (last k) s over).says ∙ x.said_is k);
+      answers = λ k over. let s = x.world.stands k in s.told ∙ ap (map (by_address x.book))
+          (sym (at_rest p lay v x.graph x.book x.says k (last k) s over).says ∙ x.said_is k);
       ready = λ k over. ready_at_rest p lay v x.graph x.book x.says k (last k) (x.world.stands k) over;
       tight = λ k s making e. no_place p lay v x.graph x.book x.says x.world.owner x.world.ground k (last k) (x.world.stands k) s making e;
       held = held_at_rest p lay v x.graph x.book x.says last x.world;
@@ -178,7 +190,8 @@ module _ (p : Program) (lay : Constants) (w : Words) (scripts : AreFirstScripts 
 
   owns_nil : (n x : ℕ) → (n == 0) ≡ true → 0 ≤ x → x < 0 + (0 + 2) → first_owner p x ≡ Of n
   unfolding first_owner
-  owns_nil n x q l m = range-below _ nursery_base (nursery_end p) (Frag 0) x (omega arith) ∙ range-in _ 0 2 (Of 0) x zero-le (omega arith) ∙ ap Of (sym (nil n q))
+  owns_nil n x q l m = range-below _ nursery_base (nursery_end p) (Frag 0) x (omega arith) ∙ range-in _ 0 2 (Of 0) x zero-le (omega arith) ∙ ap Of
+      (sym (nil n q))
 
   owned_nil : (n x : ℕ) → first_owner p x ≡ Of n → ((n == 0) ≡ true) × (0 ≤ x) × (x < 0 + (0 + 2))
   unfolding first_owner

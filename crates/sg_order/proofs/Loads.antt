@@ -67,7 +67,8 @@ needs_ref kinds s test n e = by_test (λ s. Needs kinds s → test_of s ≡ Some
     s test e n e
 
 -- the kinds after a statement that failed its test
-pub kinds_emptied : (s : Statement) (test : Test) → test_of s ≡ Some test → (entry : ℕ → Entry) (stack : List Entry) (r : ℕ) → (kinds_after (kinds_of entry stack) s).register r ≡ kind_of_entry (emptied s entry r)
+pub kinds_emptied : (s : Statement) (test : Test) → test_of s ≡ Some test → (entry : ℕ → Entry) (stack : List Entry) (r : ℕ) →
+    (kinds_after (kinds_of entry stack) s).register r ≡ kind_of_entry (emptied s entry r)
 kinds_emptied s test e entry stack = by_test (λ s. (r : ℕ) → (kinds_after (kinds_of entry stack) s).register r ≡ kind_of_entry (emptied s entry r))
     (λ r i s q. refl)
     (λ d r i. put-along kind_of_entry (λ r. kind_of_entry (entry r)) entry d IsRef (Ref 0) (λ r. refl) refl)
@@ -76,14 +77,21 @@ kinds_emptied s test e entry stack = by_test (λ s. (r : ℕ) → (kinds_after (
     s test e
 
 -- a statement with a test leaves the stack
-pub kinds_piled : (s : Statement) (test : Test) → test_of s ≡ Some test → (entry : ℕ → Entry) (stack : List Entry) → (kinds_after (kinds_of entry stack) s).stack ≡ map kind_of_entry stack
-kinds_piled s test e entry stack = by_test (λ s. (kinds_after (kinds_of entry stack) s).stack ≡ map kind_of_entry stack) (λ r i s. refl) (λ d r i. refl) (λ r i s. refl) (λ d r i. refl) s test e
+pub kinds_piled : (s : Statement) (test : Test) → test_of s ≡ Some test → (entry : ℕ → Entry) (stack : List Entry) →
+    (kinds_after (kinds_of entry stack) s).stack ≡ map kind_of_entry stack
+kinds_piled s test e entry stack = by_test (λ s. (kinds_after (kinds_of entry stack) s).stack ≡ map kind_of_entry stack) (λ r i s. refl) (λ d r i. refl)
+    (λ r i s. refl) (λ d r i. refl) s test e
 
-does_null : (p : Program) (g : Graph) (k : ℕ) (m : Mutator) (s : Statement) (rest : List Statement) (test : Test) → test_of s ≡ Some test → FindsNone m s → Does p g k m s rest Null (advanced g k (record m { register = emptied s m.register }) rest)
-does_null p g k m s rest test e = by_test (λ s. FindsNone m s → Does p g k m s rest Null (advanced g k (record m { register = emptied s m.register }) rest)) (λ r i s f. (f, refl)) (λ d r i f. (f, refl)) (λ r i s f. (f, refl)) (λ d r i f. (f, refl)) s test e
+does_null : (p : Program) (g : Graph) (k : ℕ) (m : Mutator) (s : Statement) (rest : List Statement) (test : Test) → test_of s ≡ Some test → FindsNone m s →
+    Does p g k m s rest Null (advanced g k (record m { register = emptied s m.register }) rest)
+does_null p g k m s rest test e = by_test (λ s. FindsNone m s → Does p g k m s rest Null (advanced g k (record m { register = emptied s m.register }) rest))
+    (λ r i s f. (f, refl)) (λ d r i f. (f, refl)) (λ r i s f. (f, refl)) (λ d r i f. (f, refl)) s test e
 
-does_field : (p : Program) (g : Graph) (k : ℕ) (m : Mutator) (s : Statement) (rest : List Statement) (test : Test) → test_of s ≡ Some test → Misses p g m s → Does p g k m s rest Field (advanced g k (record m { register = emptied s m.register }) rest)
-does_field p g k m s rest test e = by_test (λ s. Misses p g m s → Does p g k m s rest Field (advanced g k (record m { register = emptied s m.register }) rest)) (λ r i s f. (f, refl)) (λ d r i f. (f, refl)) (λ r i s f. (f, refl)) (λ d r i f. (f, refl)) s test e
+does_field : (p : Program) (g : Graph) (k : ℕ) (m : Mutator) (s : Statement) (rest : List Statement) (test : Test) → test_of s ≡ Some test → Misses p g m s →
+    Does p g k m s rest Field (advanced g k (record m { register = emptied s m.register }) rest)
+does_field p g k m s rest test e = by_test
+    (λ s. Misses p g m s → Does p g k m s rest Field (advanced g k (record m { register = emptied s m.register }) rest)) (λ r i s f. (f, refl))
+    (λ d r i f. (f, refl)) (λ r i s f. (f, refl)) (λ d r i f. (f, refl)) s test e
 
 books_null : (p : Program) (b : Book) (k : ℕ) (s : Statement) (test : Test) → test_of s ≡ Some test → Books p b k s Null b
 books_null p b k s test e = by_test (λ s. Books p b k s Null b) (λ r i s. refl) (λ d r i. refl) (λ r i s. refl) (λ d r i. refl) s test e
@@ -95,13 +103,16 @@ books_field p b k s test e = by_test (λ s. Books p b k s Field b) (λ r i s. re
 to_ask : (p : Program) (lay : Constants) (b : Book) (k : ℕ) (s : Statement) → IsMaking s → Tight b k (made_words p s) lay.fragments → AsksForRoom p lay b k s
 to_ask p lay b k s e = by_making (λ s. Tight b k (made_words p s) lay.fragments → AsksForRoom p lay b k s) (λ r class t. t) (λ r class count t. t) s e
 
-module _ (p : Program) (lay : Constants) (w : Words) (g : Graph) (b : Book) (said : ℕ → List Answer) (k : ℕ) (owner : ℕ → Owner) (t : Ground p lay w g b owner) where
+module _ (p : Program) (lay : Constants) (w : Words) (g : Graph) (b : Book) (said : ℕ → List Answer) (k : ℕ) (owner : ℕ → Owner)
+    (t : Ground p lay w g b owner) where
   -- two standing objects that share a word are one
-  pub same_object : (m n x : ℕ) → b.stands m ≡ true → b.stands n ≡ true → b.address m ≤ x → x < b.address m + (g.size m + 2) → b.address n ≤ x → x < b.address n + (g.size n + 2) → m ≡ n
+  pub same_object : (m n x : ℕ) → b.stands m ≡ true → b.stands n ≡ true → b.address m ≤ x → x < b.address m + (g.size m + 2) → b.address n ≤ x →
+      x < b.address n + (g.size n + 2) → m ≡ n
   same_object m n x p q e f i j = let u = t.laid.objects.owns m x p e f in let v = t.laid.objects.owns n x q i j in cc
 
   pub name_nil : (n : ℕ) → b.stands n ≡ true → b.address n ≡ 0 → n ≡ 0
-  name_nil n p e = same_object n 0 0 p t.laid.nothing.stands_nil (omega arith) (omega arith) (let u = t.laid.nothing.at_nil in omega arith) (let u = t.laid.nothing.at_nil in omega arith)
+  name_nil n p e = same_object n 0 0 p t.laid.nothing.stands_nil (omega arith) (omega arith) (let u = t.laid.nothing.at_nil in omega arith)
+      (let u = t.laid.nothing.at_nil in omega arith)
 
   pub known_nil : IsKnown w.word g b 0
   known_nil = (t.laid.nothing.stands_nil, inl refl)
@@ -163,84 +174,115 @@ module _ (p : Program) (lay : Constants) (w : Words) (g : Graph) (b : Book) (sai
     needs_now s st = (fits_as p lay w g b said k st.entry (s ∷ rest) st.answers st.at st.fits).0
 
     -- the tested register holds a name
-    tested_name : (s : Statement) (test : Test) (st : Stands p lay w g b said k (before a s rest)) → test_of s ≡ Some test → (n : ℕ) × (st.entry test.register ≡ Ref n)
+    tested_name : (s : Statement) (test : Test) (st : Stands p lay w g b said k (before a s rest)) → test_of s ≡ Some test →
+        (n : ℕ) × (st.entry test.register ≡ Ref n)
     tested_name s test st e = is_ref (st.entry test.register) (needs_ref (kinds_of st.entry (g.mutator k).stack) s test (needs_now s st) e)
 
-    pub nulls : (s : Statement) (test : Test) → test_of s ≡ Some test → a.reg test.register ≡ 0 → Stands p lay w g b said k (before a s rest) → Kept p lay w g b said k Idle true w (over a rest (cleared s a.reg) Null)
+    pub nulls : (s : Statement) (test : Test) → test_of s ≡ Some test → a.reg test.register ≡ 0 → Stands p lay w g b said k (before a s rest) →
+        Kept p lay w g b said k Idle true w (over a rest (cleared s a.reg) Null)
     nulls s test e z st =
         let n = tested_name s test st e in
         decided p lay w g b said k _ (λ x e. e) w g (unchanged p lay w g b said k owner t) _ s rest st (emptied s st.entry) Null (cleared s a.reg) Null st.at
-        (does_null p g k (record (g.mutator k) { register = st.entry; script = s ∷ rest }) s rest test e (record { test = test; tests = e; holds = n.1 ∙ ap Ref (is_nil _ st test.register n.0 n.1 z) }))
-        (books_null p b k s test e) (regs_emptied _ st s test e) (known_emptied _ st s test e) (offsets_emptied _ st s test e) refl tt (kinds_emptied s test e st.entry (g.mutator k).stack) (kinds_piled s test e st.entry (g.mutator k).stack)
+        (does_null p g k (record (g.mutator k) { register = st.entry; script = s ∷ rest }) s rest test e
+        (record { test = test; tests = e; holds = n.1 ∙ ap Ref (is_nil _ st test.register n.0 n.1 z) }))
+        (books_null p b k s test e) (regs_emptied _ st s test e) (known_emptied _ st s test e) (offsets_emptied _ st s test e) refl tt
+        (kinds_emptied s test e st.entry (g.mutator k).stack) (kinds_piled s test e st.entry (g.mutator k).stack)
 
     -- the load of the stop word of a statement with a test
-    pub begins : (s : Statement) (test : Test) → test_of s ≡ Some test → a.reg test.register ≢ 0 → Stands p lay w g b said k (before a s rest) → Kept p lay w g b said k Idle false w (within a rest (TestTag s test))
+    pub begins : (s : Statement) (test : Test) → test_of s ≡ Some test → a.reg test.register ≢ 0 → Stands p lay w g b said k (before a s rest) →
+        Kept p lay w g b said k Idle false w (within a rest (TestTag s test))
     begins s test e z st =
         let n = tested_name s test st e in
         still p lay w g b said k _ (λ x e. e) owner t _ (again p lay w g b said k _ st rest (TestTag s test)
         (record { tests = e; name = n.0; holds = n.1; some = not_nil _ st test.register n.0 n.1 z }, st.at))
 
     -- the load of the tag
-    pub sees_tag : (s : Statement) (test : Test) (class : ℕ) → w.word (object_in a test.register) ≡ plain_word class → Stands p lay w g b said k (within a rest (TestTag s test)) →
+    pub sees_tag : (s : Statement) (test : Test) (class : ℕ) → w.word (object_in a test.register) ≡ plain_word class →
+        Stands p lay w g b said k (within a rest (TestTag s test)) →
         Kept p lay w g b said k (TestTag s test) false w (within a rest (TestLength s test class))
     sees_tag s test class c st =
         let n = st.at.0 in
-        let is = tag_says n.name class n.some (known_at _ st test.register n.name n.holds) (ap w.word (sym (object_at _ st test.register n.name n.holds)) ∙ c) in
+        let is = tag_says n.name class n.some (known_at _ st test.register n.name n.holds)
+        (ap w.word (sym (object_at _ st test.register n.name n.holds)) ∙ c) in
         still p lay w g b said k _ (λ x e. e) owner t _ (again p lay w g b said k _ st rest (TestLength s test class) (n, is, st.at.1))
 
     -- what the header says of the field
-    field_says : (s : Statement) (test : Test) (class len : ℕ) (has : Bool) → has_field test.sort (kind_of p class) len test.field ≡ has → w.word (object_in a test.register + 1) ≡ len →
-        (st : Stands p lay w g b said k (within a rest (TestLength s test class))) → has_field test.sort (kind_of p (g.class st.at.0.name)) (g.size st.at.0.name) test.field ≡ has
+    field_says : (s : Statement) (test : Test) (class len : ℕ) (has : Bool) → has_field test.sort (kind_of p class) len test.field ≡ has →
+        w.word (object_in a test.register + 1) ≡ len →
+        (st : Stands p lay w g b said k (within a rest (TestLength s test class))) →
+        has_field test.sort (kind_of p (g.class st.at.0.name)) (g.size st.at.0.name) test.field ≡ has
     field_says s test class len has f l st =
         let n = st.at.0 in
-        let is = length_says n.name len n.some (known_at _ st test.register n.name n.holds) (ap (λ x. w.word (x + 1)) (sym (object_at _ st test.register n.name n.holds)) ∙ l) in
-        ap (λ c. has_field test.sort (kind_of p c) (g.size n.name) test.field) (sym st.at.1) ∙ ap (λ m. has_field test.sort (kind_of p class) m test.field) (sym is) ∙ f
+        let is = length_says n.name len n.some (known_at _ st test.register n.name n.holds)
+        (ap (λ x. w.word (x + 1)) (sym (object_at _ st test.register n.name n.holds)) ∙ l) in
+        ap (λ c. has_field test.sort (kind_of p c) (g.size n.name) test.field) (sym st.at.1) ∙ ap (λ m. has_field test.sort (kind_of p class) m test.field)
+        (sym is) ∙ f
 
     -- the load of the length: there is such a field
-    pub sees_length : (s : Statement) (test : Test) (class len : ℕ) → has_field test.sort (kind_of p class) len test.field ≡ true → w.word (object_in a test.register + 1) ≡ len →
-        Stands p lay w g b said k (within a rest (TestLength s test class)) → Kept p lay w g b said k (TestLength s test class) false w (within a rest (Access s))
+    pub sees_length : (s : Statement) (test : Test) (class len : ℕ) → has_field test.sort (kind_of p class) len test.field ≡ true →
+        w.word (object_in a test.register + 1) ≡ len →
+        Stands p lay w g b said k (within a rest (TestLength s test class)) →
+        Kept p lay w g b said k (TestLength s test class) false w (within a rest (Access s))
     sees_length s test class len f l st =
         let n = st.at.0 in
         still p lay w g b said k _ (λ x e. e) owner t _ (again p lay w g b said k _ st rest (Access s)
         (test, record { tests = n.tests; name = n.name; holds = n.holds; some = n.some; finds = field_says s test class len true f l st }, st.at.2))
 
     -- or there is none, which decides the statement
-    pub fails : (s : Statement) (test : Test) (class len : ℕ) → has_field test.sort (kind_of p class) len test.field ≡ false → w.word (object_in a test.register + 1) ≡ len →
-        Stands p lay w g b said k (within a rest (TestLength s test class)) → Kept p lay w g b said k (TestLength s test class) true w (over a rest (cleared s a.reg) Field)
+    pub fails : (s : Statement) (test : Test) (class len : ℕ) → has_field test.sort (kind_of p class) len test.field ≡ false →
+        w.word (object_in a test.register + 1) ≡ len →
+        Stands p lay w g b said k (within a rest (TestLength s test class)) →
+        Kept p lay w g b said k (TestLength s test class) true w (over a rest (cleared s a.reg) Field)
     fails s test class len f l st =
         let n = st.at.0 in
         let e = n.tests in
-        decided p lay w g b said k _ (λ x e. e) w g (unchanged p lay w g b said k owner t) _ s rest st (emptied s st.entry) Field (cleared s a.reg) Field st.at.2
+        decided p lay w g b said k _ (λ x e. e) w g (unchanged p lay w g b said k owner t) _ s rest st (emptied s st.entry) Field
+        (cleared s a.reg) Field st.at.2
         (does_field p g k (record (g.mutator k) { register = st.entry; script = s ∷ rest }) s rest test e
         (record { test = test; tests = e; name = n.name; holds = n.holds; some = n.some; misses = field_says s test class len false f l st }))
-        (books_field p b k s test e) (regs_emptied _ st s test e) (known_emptied _ st s test e) (offsets_emptied _ st s test e) refl tt (kinds_emptied s test e st.entry (g.mutator k).stack) (kinds_piled s test e st.entry (g.mutator k).stack)
+        (books_field p b k s test e) (regs_emptied _ st s test e) (known_emptied _ st s test e) (offsets_emptied _ st s test e) refl tt
+        (kinds_emptied s test e st.entry (g.mutator k).stack) (kinds_piled s test e st.entry (g.mutator k).stack)
 
     pub sets_number : (d n : ℕ) → Stands p lay w g b said k (before a (Num d n) rest) → Kept p lay w g b said k Idle true w (over a rest (put a.reg d n) Fine)
-    sets_number d n st = decided p lay w g b said k _ (λ x e. e) w g (unchanged p lay w g b said k owner t) _ (Num d n) rest st (put st.entry d (Int n)) Fine (put a.reg d n) Fine st.at
-        (tt, refl) refl (put-along (word_of b.address) a.reg st.entry d n (Int n) st.regs refl) (known_put _ st d (Int n) tt) (offsets_put g b a.offset st.entry d (Int n) (λ o. tt) st.offsets) refl tt
+    sets_number d n st = decided p lay w g b said k _ (λ x e. e) w g (unchanged p lay w g b said k owner t) _ (Num d n) rest st (put st.entry d (Int n)) Fine
+        (put a.reg d n) Fine st.at
+        (tt, refl) refl (put-along (word_of b.address) a.reg st.entry d n (Int n) st.regs refl) (known_put _ st d (Int n) tt)
+        (offsets_put g b a.offset st.entry d (Int n) (λ o. tt) st.offsets) refl tt
         (put-along kind_of_entry (λ r. kind_of_entry (st.entry r)) st.entry d IsInt (Int n) (λ r. refl) refl) refl
 
     pub clears : (r : ℕ) → Stands p lay w g b said k (before a (Drop r) rest) → Kept p lay w g b said k Idle true w (over a rest (put a.reg r 0) Fine)
-    clears r st = decided p lay w g b said k _ (λ x e. e) w g (unchanged p lay w g b said k owner t) _ (Drop r) rest st (put st.entry r (Ref 0)) Fine (put a.reg r 0) Fine st.at
-        (tt, refl) refl (put-along (word_of b.address) a.reg st.entry r 0 (Ref 0) st.regs word_nil) (known_put _ st r (Ref 0) known_nil) (offsets_put g b a.offset st.entry r (Ref 0) (λ o. t.laid.nothing.stands_nil) st.offsets) refl tt
+    clears r st = decided p lay w g b said k _ (λ x e. e) w g (unchanged p lay w g b said k owner t) _ (Drop r) rest st (put st.entry r (Ref 0)) Fine
+        (put a.reg r 0) Fine st.at
+        (tt, refl) refl (put-along (word_of b.address) a.reg st.entry r 0 (Ref 0) st.regs word_nil) (known_put _ st r (Ref 0) known_nil)
+        (offsets_put g b a.offset st.entry r (Ref 0) (λ o. t.laid.nothing.stands_nil) st.offsets) refl tt
         (put-along kind_of_entry (λ r. kind_of_entry (st.entry r)) st.entry r IsRef (Ref 0) (λ r. refl) refl) refl
 
     -- the search goes on from fragment f, or there is none, and the mutator asks
-    looks_on : (s : Statement) (f : ℕ) → IsMaking s → f ≤ lay.fragments → Tight b k (made_words p s) f → (entry : ℕ → Entry) (answers : List Answer) → IsMutator g said k entry (s ∷ rest) answers →
+    looks_on : (s : Statement) (f : ℕ) → IsMaking s → f ≤ lay.fragments → Tight b k (made_words p s) f → (entry : ℕ → Entry) (answers : List Answer) →
+        IsMutator g said k entry (s ∷ rest) answers →
         AtMid p lay w g b said k entry answers rest (looking lay s f)
     looks_on s f making most h entry answers is = elim (cases_lt f lay.fragments) [
-      | inl l ↦ subst (λ (mid : Mid). AtMid p lay w g b said k entry answers rest mid) (sym (cond-true (nat_lt f lay.fragments) (Look s f) (Ask s) (lt-ltb f lay.fragments l))) (making, l, h, is)
-      | inr l ↦ subst (λ (mid : Mid). AtMid p lay w g b said k entry answers rest mid) (sym (cond-false (nat_lt f lay.fragments) (Look s f) (Ask s) (le-ltb f lay.fragments l)))
+      | inl l ↦ subst (λ (mid : Mid). AtMid p lay w g b said k entry answers rest mid)
+          (sym (cond-true (nat_lt f lay.fragments) (Look s f) (Ask s) (lt-ltb f lay.fragments l))) (making, l, h, is)
+      | inr l ↦ subst (λ (mid : Mid). AtMid p lay w g b said k entry answers rest mid)
+          (sym (cond-false (nat_lt f lay.fragments) (Look s f) (Ask s) (le-ltb f lay.fragments l)))
           (to_ask p lay b k s making (record { short = h.short; below = λ j q. h.below j (omega arith) }), is)
     ]
 
     -- the search for a fragment
-    pub searches : (s : Statement) → IsMaking s → a.to < a.from + made_words p s → Stands p lay w g b said k (before a s rest) → Kept p lay w g b said k Idle false w (within a rest (looking lay s 0))
+    pub searches : (s : Statement) → IsMaking s → a.to < a.from + made_words p s → Stands p lay w g b said k (before a s rest) →
+        Kept p lay w g b said k Idle false w (within a rest (looking lay s 0))
     searches s making l st = still p lay w g b said k _ (λ x e. e) owner t _ (again p lay w g b said k _ st rest (looking lay s 0)
-        (looks_on s 0 making zero-le (record { short = (let x = st.from_is in let y = st.to_is in omega arith); below = λ j h. absurd (omega arith) }) st.entry st.answers st.at))
+        (looks_on s 0 making zero-le (record {
+          short = (let x = st.from_is in let y = st.to_is in omega arith);
+          below = λ j h. absurd
+              (omega arith);
+        }) st.entry st.answers st.at))
 
-    pub finds_room : (s : Statement) (f next : ℕ) → next + made_words p s ≤ lay.limit f → Stands p lay w g b said k (within a rest (Look s f)) → Kept p lay w g b said k (Look s f) false w (within a rest (Claim s f next))
-    finds_room s f next l st = still p lay w g b said k _ (λ x e. e) owner t _ (again p lay w g b said k _ st rest (Claim s f next) (st.at.0, st.at.1, st.at.2, l, st.at.3))
+    pub finds_room : (s : Statement) (f next : ℕ) → next + made_words p s ≤ lay.limit f → Stands p lay w g b said k (within a rest (Look s f)) →
+        Kept p lay w g b said k (Look s f) false w (within a rest (Claim s f next))
+    finds_room s f next l st = still p lay w g b said k _ (λ x e. e) owner t _
+        (again p lay w g b said k _ st rest (Claim s f next) (st.at.0, st.at.1, st.at.2, l, st.at.3))
 
     -- one more fragment is too small, by the word that was seen
     tighter : (n f next : ℕ) → f < lay.fragments → w.next f ≡ byte_at next → lay.limit f < next + n → Tight b k n f → Tight b k n (f + 1)
@@ -256,7 +298,8 @@ module _ (p : Program) (lay : Constants) (w : Words) (g : Graph) (b : Book) (sai
           ];
         }
 
-    pub finds_small : (s : Statement) (f next : ℕ) → lay.limit f < next + made_words p s → w.next f ≡ byte_at next → Stands p lay w g b said k (within a rest (Look s f)) →
+    pub finds_small : (s : Statement) (f next : ℕ) → lay.limit f < next + made_words p s → w.next f ≡ byte_at next →
+        Stands p lay w g b said k (within a rest (Look s f)) →
         Kept p lay w g b said k (Look s f) false w (within a rest (looking lay s (f + 1)))
     finds_small s f next l e st = still p lay w g b said k _ (λ x e. e) owner t _ (again p lay w g b said k _ st rest (looking lay s (f + 1))
         (looks_on s (f + 1) st.at.0 (let u = st.at.1 in omega arith) (tighter (made_words p s) f next st.at.1 e l st.at.2) st.entry st.answers st.at.3))
@@ -266,7 +309,8 @@ module _ (p : Program) (lay : Constants) (w : Words) (g : Graph) (b : Book) (sai
     wants st = still p lay w g b said k _ (λ x e. e) owner t _ (again p lay w g b said k _ st rest (Ask (Collect false)) (tt, st.at))
 
     -- the stop word is set: it enters into nothing
-    pub leaves : (s : Statement) → Stands p lay w g b said k (within a rest (Ask s)) → Kept p lay w g b said k (Ask s) false (write w Stop 1) (within a rest (Left s))
+    pub leaves : (s : Statement) → Stands p lay w g b said k (within a rest (Ask s)) →
+        Kept p lay w g b said k (Ask s) false (write w Stop 1) (within a rest (Left s))
     leaves s st = record {
       h = g;
       c = b;

@@ -53,18 +53,26 @@ made_sized p s making = by_making (λ s. IsRunnable p s → IsSizeOf p (made_cla
 
 -- what the statement does, and what it does to the book
 pub does_making : (p : Program) (g : Graph) (k : ℕ) (m : Mutator) (s : Statement) (rest : List Statement) → IsMaking s →
-    Does p g k m s rest (At (suc g.count)) (advanced (grown p g k (made_class s) (made_fields p s)) k (record m { register = put m.register (made_in s) (Ref (suc g.count)) }) rest)
+    Does p g k m s rest (At (suc g.count)) (advanced (grown p g k (made_class s) (made_fields p s)) k
+    (record m { register = put m.register (made_in s) (Ref (suc g.count)) }) rest)
 does_making p g k m s rest making =
-    by_making (λ s. Does p g k m s rest (At (suc g.count)) (advanced (grown p g k (made_class s) (made_fields p s)) k (record m { register = put m.register (made_in s) (Ref (suc g.count)) }) rest))
+    by_making (λ s. Does p g k m s rest (At (suc g.count))
+    (advanced (grown p g k (made_class s) (made_fields p s)) k (record m { register = put m.register (made_in s) (Ref (suc g.count)) }) rest))
     (λ r class. (refl, refl)) (λ r class count. (refl, refl)) s making
 
-pub books_making : (p : Program) (b : Book) (k : ℕ) (s : Statement) (name : ℕ) (c : Book) → IsMaking s → IsPlaced p b k (made_words p s) name c → Books p b k s (At name) c
-books_making p b k s name c making = by_making (λ s. IsPlaced p b k (made_words p s) name c → Books p b k s (At name) c) (λ r class q. q) (λ r class count q. q) s making
+pub books_making : (p : Program) (b : Book) (k : ℕ) (s : Statement) (name : ℕ) (c : Book) → IsMaking s → IsPlaced p b k (made_words p s) name c →
+    Books p b k s (At name) c
+books_making p b k s name c making = by_making (λ s. IsPlaced p b k (made_words p s) name c → Books p b k s (At name) c) (λ r class q. q)
+    (λ r class count q. q) s making
 
-pub kinds_making : (s : Statement) (entry : ℕ → Entry) (stack : List Entry) (name : ℕ) → IsMaking s → (r : ℕ) → (kinds_after (kinds_of entry stack) s).register r ≡ kind_of_entry (put entry (made_in s) (Ref name) r)
-kinds_making s entry stack name making = by_making (λ s. (r : ℕ) → (kinds_after (kinds_of entry stack) s).register r ≡ kind_of_entry (put entry (made_in s) (Ref name) r))
+pub kinds_making : (s : Statement) (entry : ℕ → Entry) (stack : List Entry) (name : ℕ) → IsMaking s → (r : ℕ) →
+    (kinds_after (kinds_of entry stack) s).register r ≡ kind_of_entry (put entry (made_in s) (Ref name) r)
+kinds_making s entry stack name making = by_making
+    (λ s. (r : ℕ) → (kinds_after (kinds_of entry stack) s).register r ≡ kind_of_entry (put entry (made_in s) (Ref name) r))
     (λ r class. put-along kind_of_entry (λ q. kind_of_entry (entry q)) entry r IsRef (Ref name) (λ q. refl) refl)
     (λ r class count. put-along kind_of_entry (λ q. kind_of_entry (entry q)) entry r IsRef (Ref name) (λ q. refl) refl) s making
 
-pub piled_making : (s : Statement) (entry : ℕ → Entry) (stack : List Entry) → IsMaking s → (kinds_after (kinds_of entry stack) s).stack ≡ map kind_of_entry stack
-piled_making s entry stack making = by_making (λ s. (kinds_after (kinds_of entry stack) s).stack ≡ map kind_of_entry stack) (λ r class. refl) (λ r class count. refl) s making
+pub piled_making : (s : Statement) (entry : ℕ → Entry) (stack : List Entry) → IsMaking s →
+    (kinds_after (kinds_of entry stack) s).stack ≡ map kind_of_entry stack
+piled_making s entry stack making = by_making (λ s. (kinds_after (kinds_of entry stack) s).stack ≡ map kind_of_entry stack) (λ r class. refl)
+    (λ r class count. refl) s making

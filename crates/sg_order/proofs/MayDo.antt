@@ -60,10 +60,12 @@ module _ (p : Program) (lay : Constants) (w : Words) (g : Graph) (b : Book) (sai
           | inr old ↦ omega (arith, old.2, head.1, fill.1)
         ];
         references = λ i has.
-            let is : has_field Reference (kind_of p (g.class n)) (g.size n) i ≡ true = subst (λ m. has_field Reference (kind_of p (g.class n)) m i ≡ true) head.1 has in
+            let is : has_field Reference (kind_of p (g.class n)) (g.size n) i ≡ true = subst
+            (λ m. has_field Reference (kind_of p (g.class n)) m i ≡ true) head.1 has in
             let f = reference_field (kind_of p (g.class n)) (g.size n) i is in
             subst (λ v. IsReference p v) (sym (t.laid.fields.holds n i stands f.0))
-            (is_reference (g.field n i) (t.laid.fields.known n i stands f.0) (subst (λ sort. IsOfSort sort (g.field n i)) f.1 (t.laid.fields.sorted n i stands f.0)));
+            (is_reference (g.field n i) (t.laid.fields.known n i stands f.0)
+            (subst (λ sort. IsOfSort sort (g.field n i)) f.1 (t.laid.fields.sorted n i stands f.0)));
       }
 
   -- the object to which a word refers
@@ -76,7 +78,8 @@ module _ (p : Program) (lay : Constants) (w : Words) (g : Graph) (b : Book) (sai
       elim known.1 [ inl z ↦ absurd (name z) | inr head ↦ subst (λ x. IsProgramObject p w x) there (object_with n name known.0 head) ]
 
   -- the object into which a word points
-  object_behind : (e : Entry) (v offset : ℕ) → StandsAt g b offset e → kind_of_entry e ≡ IsInner → v ≡ word_of b.address e → v ≢ 0 → (offset ≤ v) × IsInHeap p (v - offset)
+  object_behind : (e : Entry) (v offset : ℕ) → StandsAt g b offset e → kind_of_entry e ≡ IsInner → v ≡ word_of b.address e → v ≢ 0 →
+      (offset ≤ v) × IsInHeap p (v - offset)
   object_behind (Int m) v offset stands kind is some = cc
   object_behind (Ref n) v offset stands kind is some = cc
   object_behind (Inner n o) v offset stands kind is some = elim stands.2 [
@@ -90,7 +93,8 @@ module _ (p : Program) (lay : Constants) (w : Words) (g : Graph) (b : Book) (sai
   module _ (k : ℕ) (a : Actor) (st : Stands p lay w g b said k a) where
     has_places : HasPlaces p lay w a
     has_places = record {
-      buffer = λ l. let inside = t.laid.buffers.inside k (omega (arith, st.from_is, st.to_is)) in (omega (arith, inside.0, st.from_is), omega (arith, inside.1, st.to_is));
+      buffer = λ l. let inside = t.laid.buffers.inside k (omega (arith, st.from_is, st.to_is)) in
+          (omega (arith, inside.0, st.from_is), omega (arith, inside.1, st.to_is));
       low = λ f l. let there : f < b.fragments = omega (arith, t.number) in omega (arith, t.words f there, (t.laid.fragments.inside f there).0);
       whole = λ f l. let there : f < b.fragments = omega (arith, t.number) in omega (arith, t.words f there);
       high = λ f l. let there : f < b.fragments = omega (arith, t.number) in omega (arith, t.limits f there, (t.laid.fragments.inside f there).2);
@@ -103,7 +107,8 @@ module _ (p : Program) (lay : Constants) (w : Words) (g : Graph) (b : Book) (sai
     holds_inner r kind some = object_behind (st.entry r) (a.reg r) (a.offset r) (st.offsets r) kind (st.regs r) some
 
     stacked : length a.stack ≡ length (map kind_of_entry (g.mutator k).stack)
-    stacked = pairwise_length (λ (slot : StackWord) (entry : Entry). Keeps w.word g b slot.word slot.offset entry) a.stack (g.mutator k).stack st.stack ∙ sym (length-map (g.mutator k).stack kind_of_entry)
+    stacked = pairwise_length (λ (slot : StackWord) (entry : Entry). Keeps w.word g b slot.word slot.offset entry) a.stack (g.mutator k).stack st.stack ∙ sym
+        (length-map (g.mutator k).stack kind_of_entry)
 
     rests_on : (s : Statement) → Needs (kinds_of st.entry (g.mutator k).stack) s → RestsOn p lay w a s
     rests_on (New r class) need = has_places
@@ -134,7 +139,8 @@ module _ (p : Program) (lay : Constants) (w : Words) (g : Graph) (b : Book) (sai
     pub may_do : (s : Statement) (rest : List Statement) → a.mid ≡ Idle → a.script ≡ s ∷ rest → MayDo p lay w a s
     may_do s rest idle script =
         let is : IsMutator g said k st.entry (s ∷ rest) st.answers =
-        subst (λ statements. AtMid p lay w g b said k st.entry st.answers statements Idle) script (subst (λ (mid : Mid). AtMid p lay w g b said k st.entry st.answers a.script mid) idle st.at) in
+        subst (λ statements. AtMid p lay w g b said k st.entry st.answers statements Idle) script
+        (subst (λ (mid : Mid). AtMid p lay w g b said k st.entry st.answers a.script mid) idle st.at) in
         record {
           runnable = (runnable_as p lay w g b said k st.entry (s ∷ rest) st.answers is st.runnable).0;
           rests = rests_on s (fits_as p lay w g b said k st.entry (s ∷ rest) st.answers is st.fits).0;

@@ -47,7 +47,8 @@ later_refl w g b said k = record {
 }
 
 -- the mutators enter into nothing of the ground
-pub laid_mutators : (p : Program) (w : ℕ → ℕ) (g : Graph) (b : Book) (owner : ℕ → Owner) (m : ℕ → Mutator) → IsLaid p w g b owner → IsLaid p w (record g { mutator = m }) b owner
+pub laid_mutators : (p : Program) (w : ℕ → ℕ) (g : Graph) (b : Book) (owner : ℕ → Owner) (m : ℕ → Mutator) → IsLaid p w g b owner →
+    IsLaid p w (record g { mutator = m }) b owner
 laid_mutators p w g b owner m t = record {
   nothing = t.nothing;
   objects = t.objects;
@@ -61,7 +62,8 @@ laid_mutators p w g b owner m t = record {
 pub plain_mutators : (p : Program) (g : Graph) (m : ℕ → Mutator) → IsPlain p g → IsPlain p (record g { mutator = m })
 plain_mutators p g m t = record { links = t.links; registered = t.registered; ready = t.ready; pairs = t.pairs }
 
-pub ground_mutators : (p : Program) (lay : Constants) (w : Words) (g : Graph) (b : Book) (owner : ℕ → Owner) (m : ℕ → Mutator) → Ground p lay w g b owner → Ground p lay w (record g { mutator = m }) b owner
+pub ground_mutators : (p : Program) (lay : Constants) (w : Words) (g : Graph) (b : Book) (owner : ℕ → Owner) (m : ℕ → Mutator) → Ground p lay w g b owner →
+    Ground p lay w (record g { mutator = m }) b owner
 ground_mutators p lay w g b owner m t = record { laid = laid_mutators p w.word g b owner m t.laid; plain = plain_mutators p g m t.plain; number = t.number; limits = t.limits; words = t.words }
 
 later_mutators : (w : Words) (g : Graph) (b : Book) (said : ℕ → List Answer) (v : Words) (h : Graph) (c : Book) (k : ℕ) (m : Mutator) (answers : List Answer) →
@@ -86,33 +88,39 @@ abbrev pub kinds_of : (ℕ → Entry) → List Entry → Kinds
 kinds_of register stack = record { register = λ r. kind_of_entry (register r); stack = map kind_of_entry stack }
 
 -- kinds that are equal at each register, with an equal stack, are as good
-pub kinds_along : (kinds others : Kinds) (script : List Statement) → ((r : ℕ) → kinds.register r ≡ others.register r) → kinds.stack ≡ others.stack → FindKinds kinds script → FindKinds others script
+pub kinds_along : (kinds others : Kinds) (script : List Statement) → ((r : ℕ) → kinds.register r ≡ others.register r) → kinds.stack ≡ others.stack →
+    FindKinds kinds script → FindKinds others script
 kinds_along kinds others script e s h =
     let same : kinds ≡ others = λ i. record { register = fun_ext e i; stack = s i } in
     subst (λ k. FindKinds k script) same h
 
 -- the offset beside a register that gets something else than an address inside an object counts for nothing
-pub offsets_put : (g : Graph) (b : Book) (offset : ℕ → ℕ) (register : ℕ → Entry) (d : ℕ) (entry : Entry) → ((o : ℕ) → StandsAt g b o entry) → ((r : ℕ) → StandsAt g b (offset r) (register r)) →
+pub offsets_put : (g : Graph) (b : Book) (offset : ℕ → ℕ) (register : ℕ → Entry) (d : ℕ) (entry : Entry) → ((o : ℕ) → StandsAt g b o entry) →
+    ((r : ℕ) → StandsAt g b (offset r) (register r)) →
     (r : ℕ) → StandsAt g b (offset r) (put register d entry r)
 offsets_put g b offset register d entry here there = put-all (λ r e. StandsAt g b (offset r) e) register d entry (here (offset d)) (λ j _. there j)
 
 -- the register and the offset beside it are set
-pub offsets_both : (g : Graph) (b : Book) (offset : ℕ → ℕ) (register : ℕ → Entry) (d o : ℕ) (entry : Entry) → StandsAt g b o entry → ((r : ℕ) → StandsAt g b (offset r) (register r)) →
+pub offsets_both : (g : Graph) (b : Book) (offset : ℕ → ℕ) (register : ℕ → Entry) (d o : ℕ) (entry : Entry) → StandsAt g b o entry →
+    ((r : ℕ) → StandsAt g b (offset r) (register r)) →
     (r : ℕ) → StandsAt g b (put offset d o r) (put register d entry r)
 offsets_both g b offset register d o entry here there = put-all (λ r e. StandsAt g b (put offset d o r) e) register d entry
     (subst (λ x. StandsAt g b x entry) (sym (put-same offset d o)) here)
     (λ j ne. subst (λ x. StandsAt g b x (register j)) (sym (put-other offset d o j ne)) (there j))
 
 -- nothing stands new, and no header was about to be written
-pub no_heads : (w : Words) (g : Graph) (b : Book) (mid : Mid) (v : Words) (h : Graph) (c : Book) (next_mid : Mid) → ((n : ℕ) → c.stands n ≡ true → b.stands n ≡ true) → ((x : ℕ) → IsHeading x mid → ⊥) → Heads w g b mid v h c next_mid
+pub no_heads : (w : Words) (g : Graph) (b : Book) (mid : Mid) (v : Words) (h : Graph) (c : Book) (next_mid : Mid) →
+    ((n : ℕ) → c.stands n ≡ true → b.stands n ≡ true) → ((x : ℕ) → IsHeading x mid → ⊥) → Heads w g b mid v h c next_mid
 no_heads w g b mid v h c next_mid back none = record { begun = λ n q. inl (back n q); done = λ n q m. absurd (none (b.address n) m) }
 
 -- who has a statement before it hasn't ended
-pub goes : (g : Graph) (said : ℕ → List Answer) (k : ℕ) (entry : ℕ → Entry) (s : Statement) (rest : List Statement) (answers : List Answer) → IsMutator g said k entry (s ∷ rest) answers → (g.mutator k).ended ≡ true → ⊥
+pub goes : (g : Graph) (said : ℕ → List Answer) (k : ℕ) (entry : ℕ → Entry) (s : Statement) (rest : List Statement) (answers : List Answer) →
+    IsMutator g said k entry (s ∷ rest) answers → (g.mutator k).ended ≡ true → ⊥
 goes g said k entry s rest answers m e = let q : s ∷ rest ≡ [] = m.asleep e in cc
 
 -- a step of mutator k leaves these words, objects and places
-pub record Change (p : Program) (lay : Constants) (w : Words) (g : Graph) (b : Book) (said : ℕ → List Answer) (k : ℕ) (v : Words) (h : Graph) (c : Book) : Type 0 where
+pub record Change (p : Program) (lay : Constants) (w : Words) (g : Graph) (b : Book) (said : ℕ → List Answer) (k : ℕ) (v : Words) (h : Graph)
+    (c : Book) : Type 0 where
   pub owner : ℕ → Owner
   pub later : Later w g b said v h c said k
   pub ground : Ground p lay v h c owner
@@ -122,19 +130,24 @@ module _ (p : Program) (lay : Constants) (w : Words) (g : Graph) (b : Book) (sai
   pub unchanged : (owner : ℕ → Owner) → Ground p lay w g b owner → Change p lay w g b said k w g b
   unchanged owner t = record { owner = owner; later = later_refl w g b said k; ground = t; mutators = refl }
 
-  pub goes_in : (v : Words) (h : Graph) (c : Book) → Change p lay w g b said k v h c → (entry : ℕ → Entry) (s : Statement) (rest : List Statement) (answers : List Answer) → IsMutator g said k entry (s ∷ rest) answers → (h.mutator k).ended ≡ true → ⊥
+  pub goes_in : (v : Words) (h : Graph) (c : Book) → Change p lay w g b said k v h c →
+      (entry : ℕ → Entry) (s : Statement) (rest : List Statement) (answers : List Answer) → IsMutator g said k entry (s ∷ rest) answers →
+      (h.mutator k).ended ≡ true → ⊥
   goes_in v h c ch entry s rest answers m e = goes g said k entry s rest answers m (sym (ap (λ (f : ℕ → Mutator). (f k).ended) ch.mutators) ∙ e)
 
   -- a step that doesn't decide
-  pub silent : (mid : Mid) (v : Words) (h : Graph) (c : Book) → Change p lay w g b said k v h c → h ≡ g → c ≡ b → (a : Actor) → Heads w g b mid v h c a.mid → Stands p lay v h c said k a → Kept p lay w g b said k mid false v a
+  pub silent : (mid : Mid) (v : Words) (h : Graph) (c : Book) → Change p lay w g b said k v h c → h ≡ g → c ≡ b → (a : Actor) → Heads w g b mid v h c a.mid →
+      Stands p lay v h c said k a → Kept p lay w g b said k mid false v a
   silent mid v h c ch eh ec a heads s = record { h = h; c = c; said' = said; owner = ch.owner; moves = (eh, ec, refl); later = ch.later; heads = heads; ground = ch.ground; stands = s }
 
   -- a step that changes nothing but where its mutator stands
-  pub still : (mid : Mid) → ((x : ℕ) → IsHeading x mid → ⊥) → (owner : ℕ → Owner) → Ground p lay w g b owner → (a : Actor) → Stands p lay w g b said k a → Kept p lay w g b said k mid false w a
+  pub still : (mid : Mid) → ((x : ℕ) → IsHeading x mid → ⊥) → (owner : ℕ → Owner) → Ground p lay w g b owner → (a : Actor) → Stands p lay w g b said k a →
+      Kept p lay w g b said k mid false w a
   still mid none owner t a s = silent mid w g b (unchanged owner t) refl refl a (no_heads w g b mid w g b a.mid (λ n q. q) none) s
 
   -- the same mutator at another point
-  pub again : (a : Actor) (s : Stands p lay w g b said k a) (rest : List Statement) (mid : Mid) → AtMid p lay w g b said k s.entry s.answers rest mid → Stands p lay w g b said k (within a rest mid)
+  pub again : (a : Actor) (s : Stands p lay w g b said k a) (rest : List Statement) (mid : Mid) → AtMid p lay w g b said k s.entry s.answers rest mid →
+      Stands p lay w g b said k (within a rest mid)
   again a s rest mid m = record {
     entry = s.entry;
     answers = s.answers;
@@ -152,23 +165,30 @@ module _ (p : Program) (lay : Constants) (w : Words) (g : Graph) (b : Book) (sai
   }
 
   -- the statement finds operands of the kinds that it needs, and so do those after it
-  pub fits_as : (entry : ℕ → Entry) (script : List Statement) (answers : List Answer) → IsMutator g said k entry script answers → FindKinds (kinds_in (g.mutator k)) (g.mutator k).script → FindKinds (kinds_of entry (g.mutator k).stack) script
+  pub fits_as : (entry : ℕ → Entry) (script : List Statement) (answers : List Answer) → IsMutator g said k entry script answers →
+      FindKinds (kinds_in (g.mutator k)) (g.mutator k).script → FindKinds (kinds_of entry (g.mutator k).stack) script
   fits_as entry script answers m f =
-      subst (λ register. FindKinds (kinds_of register (g.mutator k).stack) script) m.register_is (subst (λ statements. FindKinds (kinds_in (g.mutator k)) statements) m.script_is f)
+      subst (λ register. FindKinds (kinds_of register (g.mutator k).stack) script) m.register_is
+      (subst (λ statements. FindKinds (kinds_in (g.mutator k)) statements) m.script_is f)
 
   pub fits_after : (h : Graph) (rest : List Statement) (register : ℕ → Entry) (stack : List Entry) → FindKinds (kinds_of register stack) rest →
       FindKinds (kinds_in ((handed_with h k rest register stack).mutator k)) ((handed_with h k rest register stack).mutator k).script
-  fits_after h rest register stack f = subst (λ (m : Mutator). FindKinds (kinds_in m) m.script) (sym (put-same h.mutator k (record (h.mutator k) { register = register; stack = stack; script = rest }))) f
+  fits_after h rest register stack f = subst (λ (m : Mutator). FindKinds (kinds_in m) m.script)
+      (sym (put-same h.mutator k (record (h.mutator k) { register = register; stack = stack; script = rest }))) f
 
   -- the statement is one that is run, and so are those after it
-  pub runnable_as : (entry : ℕ → Entry) (script : List Statement) (answers : List Answer) → IsMutator g said k entry script answers → AllByRecursion (IsRunnable p) (g.mutator k).script → AllByRecursion (IsRunnable p) script
+  pub runnable_as : (entry : ℕ → Entry) (script : List Statement) (answers : List Answer) → IsMutator g said k entry script answers →
+      AllByRecursion (IsRunnable p) (g.mutator k).script → AllByRecursion (IsRunnable p) script
   runnable_as entry script answers m f = subst (λ statements. AllByRecursion (IsRunnable p) statements) m.script_is f
 
-  pub runnable_after : (h : Graph) (rest : List Statement) (register : ℕ → Entry) (stack : List Entry) → AllByRecursion (IsRunnable p) rest → AllByRecursion (IsRunnable p) ((handed_with h k rest register stack).mutator k).script
-  runnable_after h rest register stack f = subst (λ (m : Mutator). AllByRecursion (IsRunnable p) m.script) (sym (put-same h.mutator k (record (h.mutator k) { register = register; stack = stack; script = rest }))) f
+  pub runnable_after : (h : Graph) (rest : List Statement) (register : ℕ → Entry) (stack : List Entry) → AllByRecursion (IsRunnable p) rest →
+      AllByRecursion (IsRunnable p) ((handed_with h k rest register stack).mutator k).script
+  runnable_after h rest register stack f = subst (λ (m : Mutator). AllByRecursion (IsRunnable p) m.script)
+      (sym (put-same h.mutator k (record (h.mutator k) { register = register; stack = stack; script = rest }))) f
 
   -- the graph's mutator after the statement
-  pub is_after : (h : Graph) (rest : List Statement) (register : ℕ → Entry) (stack : List Entry) (answers : List Answer) (answer : Answer) → said k ≡ answers → ((h.mutator k).ended ≡ true → ⊥) →
+  pub is_after : (h : Graph) (rest : List Statement) (register : ℕ → Entry) (stack : List Entry) (answers : List Answer) (answer : Answer) →
+      said k ≡ answers → ((h.mutator k).ended ≡ true → ⊥) →
       IsMutator (handed_with h k rest register stack) (put said k (said k ++ answer ∷ [])) k register rest (answers ++ answer ∷ [])
   is_after h rest register stack answers answer e awake =
       let after = put-same h.mutator k (record (h.mutator k) { register = register; stack = stack; script = rest }) in
@@ -180,20 +200,24 @@ module _ (p : Program) (lay : Constants) (w : Words) (g : Graph) (b : Book) (sai
       }
 
   -- the stack of the graph's mutator after the statement
-  pub stack_after : (v : Words) (h : Graph) (c : Book) (rest : List Statement) (register : ℕ → Entry) (slots : List StackWord) (stack : List Entry) → Stacked v.word h c slots stack →
+  pub stack_after : (v : Words) (h : Graph) (c : Book) (rest : List Statement) (register : ℕ → Entry) (slots : List StackWord) (stack : List Entry) →
+      Stacked v.word h c slots stack →
       Stacked v.word (handed_with h k rest register stack) c slots ((handed_with h k rest register stack).mutator k).stack
   stack_after v h c rest register slots stack q =
-      subst (λ (m : Mutator). Stacked v.word (handed_with h k rest register stack) c slots m.stack) (sym (put-same h.mutator k (record (h.mutator k) { register = register; stack = stack; script = rest })))
+      subst (λ (m : Mutator). Stacked v.word (handed_with h k rest register stack) c slots m.stack)
+      (sym (put-same h.mutator k (record (h.mutator k) { register = register; stack = stack; script = rest })))
       (stack_later v h c v (handed_with h k rest register stack) c (λ n q. q) (λ n q. q) (λ n q. refl) (λ n q. refl) slots stack q)
 
   -- the stack that no statement touched
-  pub stack_kept : (v : Words) (h : Graph) (c : Book) → Change p lay w g b said k v h c → (slots : List StackWord) → Stacked w.word g b slots (g.mutator k).stack → Stacked v.word h c slots (h.mutator k).stack
+  pub stack_kept : (v : Words) (h : Graph) (c : Book) → Change p lay w g b said k v h c → (slots : List StackWord) →
+      Stacked w.word g b slots (g.mutator k).stack → Stacked v.word h c slots (h.mutator k).stack
   stack_kept v h c ch slots q =
       subst (λ (m : ℕ → Mutator). Stacked v.word h c slots (m k).stack) (sym ch.mutators)
       (stack_later w g b v h c ch.later.known ch.later.stands ch.later.address ch.later.size slots (g.mutator k).stack q)
 
   -- a deciding step: a whole statement of the graph's mutator
-  pub turned : (mid : Mid) (v : Words) (h : Graph) (c : Book) → Change p lay w g b said k v h c → (a : Actor) → Heads w g b mid v h c a.mid → (s : Statement) (rest : List Statement) (entry : ℕ → Entry) (answers : List Answer)
+  pub turned : (mid : Mid) (v : Words) (h : Graph) (c : Book) → Change p lay w g b said k v h c → (a : Actor) → Heads w g b mid v h c a.mid →
+      (s : Statement) (rest : List Statement) (entry : ℕ → Entry) (answers : List Answer)
       (register : ℕ → Entry) (stack : List Entry) (answer : Answer) →
       IsMutator g said k entry (s ∷ rest) answers →
       Does p g k (record (g.mutator k) { register = entry; script = s ∷ rest }) s rest answer (handed_with h k rest register stack) →
@@ -226,17 +250,21 @@ module _ (p : Program) (lay : Constants) (w : Words) (g : Graph) (b : Book) (sai
       }
 
   -- a deciding step with which the statement ends
-  pub decided_with : (mid : Mid) → ((x : ℕ) → IsHeading x mid → ⊥) → (v : Words) (h : Graph) → Change p lay w g b said k v h b → (a : Actor) (s : Statement) (rest : List Statement) (st : Stands p lay w g b said k a)
+  pub decided_with : (mid : Mid) → ((x : ℕ) → IsHeading x mid → ⊥) → (v : Words) (h : Graph) → Change p lay w g b said k v h b →
+      (a : Actor) (s : Statement) (rest : List Statement) (st : Stands p lay w g b said k a)
       (register : ℕ → Entry) (stack : List Entry) (answer : Answer) (areg aoffset : ℕ → ℕ) (slots : List StackWord) (word : Answer) →
       IsMutator g said k st.entry (s ∷ rest) st.answers →
       Does p g k (record (g.mutator k) { register = st.entry; script = s ∷ rest }) s rest answer (handed_with h k rest register stack) →
       Books p b k s answer b →
-      ((r : ℕ) → areg r ≡ word_of b.address (register r)) → ((r : ℕ) → IsKnownEntry v.word h b (register r)) → ((r : ℕ) → StandsAt h b (aoffset r) (register r)) → Stacked v.word h b slots stack →
+      ((r : ℕ) → areg r ≡ word_of b.address (register r)) → ((r : ℕ) → IsKnownEntry v.word h b (register r)) →
+      ((r : ℕ) → StandsAt h b (aoffset r) (register r)) → Stacked v.word h b slots stack →
       word ≡ by_address b answer → IsGiven b.stands answer →
-      ((r : ℕ) → (kinds_after (kinds_of st.entry (g.mutator k).stack) s).register r ≡ kind_of_entry (register r)) → (kinds_after (kinds_of st.entry (g.mutator k).stack) s).stack ≡ map kind_of_entry stack →
+      ((r : ℕ) → (kinds_after (kinds_of st.entry (g.mutator k).stack) s).register r ≡ kind_of_entry (register r)) →
+      (kinds_after (kinds_of st.entry (g.mutator k).stack) s).stack ≡ map kind_of_entry stack →
       Kept p lay w g b said k mid true v (over_with a rest areg aoffset slots word)
   decided_with mid none v h ch a s rest st register stack answer areg aoffset slots word m does books regs known offsets stacked told given kinds piled =
-      turned mid v h b ch (over_with a rest areg aoffset slots word) (no_heads w g b mid v h b Idle (λ n q. q) none) s rest st.entry st.answers register stack answer m does books (record {
+      turned mid v h b ch (over_with a rest areg aoffset slots word)
+      (no_heads w g b mid v h b Idle (λ n q. q) none) s rest st.entry st.answers register stack answer m does books (record {
         entry = register;
         answers = st.answers ++ answer ∷ [];
         regs = regs;
@@ -248,20 +276,25 @@ module _ (p : Program) (lay : Constants) (w : Words) (g : Graph) (b : Book) (sai
         from_is = st.from_is;
         to_is = st.to_is;
         at = is_after h rest register stack st.answers answer m.says (goes_in v h b ch st.entry s rest st.answers m);
-        fits = fits_after h rest register stack (kinds_along (kinds_after (kinds_of st.entry (g.mutator k).stack) s) (kinds_of register stack) rest kinds piled (fits_as st.entry (s ∷ rest) st.answers m st.fits).1);
+        fits = fits_after h rest register stack (kinds_along (kinds_after (kinds_of st.entry (g.mutator k).stack) s)
+            (kinds_of register stack) rest kinds piled (fits_as st.entry (s ∷ rest) st.answers m st.fits).1);
         runnable = runnable_after h rest register stack (runnable_as st.entry (s ∷ rest) st.answers m st.runnable).1;
       })
 
   -- the same, where the stack and the offsets stay
-  pub decided : (mid : Mid) → ((x : ℕ) → IsHeading x mid → ⊥) → (v : Words) (h : Graph) → (ch : Change p lay w g b said k v h b) → (a : Actor) (s : Statement) (rest : List Statement) (st : Stands p lay w g b said k a)
+  pub decided : (mid : Mid) → ((x : ℕ) → IsHeading x mid → ⊥) → (v : Words) (h : Graph) → (ch : Change p lay w g b said k v h b) →
+      (a : Actor) (s : Statement) (rest : List Statement) (st : Stands p lay w g b said k a)
       (register : ℕ → Entry) (answer : Answer) (areg : ℕ → ℕ) (word : Answer) →
       IsMutator g said k st.entry (s ∷ rest) st.answers →
       Does p g k (record (g.mutator k) { register = st.entry; script = s ∷ rest }) s rest answer (handed h k rest register) →
       Books p b k s answer b →
-      ((r : ℕ) → areg r ≡ word_of b.address (register r)) → ((r : ℕ) → IsKnownEntry v.word h b (register r)) → ((r : ℕ) → StandsAt h b (a.offset r) (register r)) →
+      ((r : ℕ) → areg r ≡ word_of b.address (register r)) → ((r : ℕ) → IsKnownEntry v.word h b (register r)) →
+      ((r : ℕ) → StandsAt h b (a.offset r) (register r)) →
       word ≡ by_address b answer → IsGiven b.stands answer →
-      ((r : ℕ) → (kinds_after (kinds_of st.entry (g.mutator k).stack) s).register r ≡ kind_of_entry (register r)) → (kinds_after (kinds_of st.entry (g.mutator k).stack) s).stack ≡ map kind_of_entry (g.mutator k).stack →
+      ((r : ℕ) → (kinds_after (kinds_of st.entry (g.mutator k).stack) s).register r ≡ kind_of_entry (register r)) →
+      (kinds_after (kinds_of st.entry (g.mutator k).stack) s).stack ≡ map kind_of_entry (g.mutator k).stack →
       Kept p lay w g b said k mid true v (over a rest areg word)
   decided mid none v h ch a s rest st register answer areg word m does books regs known offsets told given kinds piled =
-      decided_with mid none v h ch a s rest st register (h.mutator k).stack answer areg a.offset a.stack word m does books regs known offsets (stack_kept v h b ch a.stack st.stack) told given kinds
+      decided_with mid none v h ch a s rest st register (h.mutator k).stack answer areg a.offset a.stack word m does books regs known offsets
+      (stack_kept v h b ch a.stack st.stack) told given kinds
       (piled ∙ sym (ap (λ (m : ℕ → Mutator). map kind_of_entry (m k).stack) ch.mutators))

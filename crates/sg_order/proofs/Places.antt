@@ -50,7 +50,8 @@ pub record Place (p : Program) (g : Graph) (b : Book) (k m x : ℕ) (next from t
 
 module _ (p : Program) (lay : Constants) (w : Words) (g : Graph) (b : Book) (said : ℕ → List Answer) (k : ℕ) (owner : ℕ → Owner) (t : Ground p lay w g b owner)
     (class n x : ℕ) (next wnext from to : ℕ → ℕ) (owner' : ℕ → Owner) (pl : Place p g b k (n + 2) x next from to owner owner')
-    (is_class : class < length p.classes) (sized : IsSizeOf p class n) (single : is_pair (kind_of p class) ≡ false) (nexts : (f : ℕ) → f < b.fragments → wnext f ≡ byte_at (next f)) where
+    (is_class : class < length p.classes) (sized : IsSizeOf p class n) (single : is_pair (kind_of p class) ≡ false)
+    (nexts : (f : ℕ) → f < b.fragments → wnext f ≡ byte_at (next f)) where
   abbrev new : ℕ
   new = suc g.count
 
@@ -77,7 +78,11 @@ module _ (p : Program) (lay : Constants) (w : Words) (g : Graph) (b : Book) (sai
     stands_old m q.0,
     elim q.1 [
       | inl z ↦ inl z
-      | inr h ↦ inr (ap w.word (at_old m q.0) ∙ h.0 ∙ sym (ap plain_word (class_old m q.0)), ap (λ a. w.word (a + 1)) (at_old m q.0) ∙ h.1 ∙ sym (size_old m q.0))
+      | inr h ↦ inr (
+        ap w.word (at_old m q.0) ∙ h.0 ∙ sym (ap plain_word (class_old m q.0)),
+        ap (λ a. w.word (a + 1)) (at_old m q.0) ∙ h.1 ∙ sym
+            (size_old m q.0),
+      )
     ],
   )
 
@@ -98,22 +103,26 @@ module _ (p : Program) (lay : Constants) (w : Words) (g : Graph) (b : Book) (sai
   nil_stands : b.stands 0 ≡ true
   nil_stands = t.laid.nothing.stands_nil
 
-  field_new : (m i : ℕ) → m ≡ suc g.count → put g.field (suc g.count) (empty_field (kind_of p class) (n)) m i ≡ cond (holds_reference (kind_of p class) i (n)) (Ref 0) (Int 0)
+  field_new : (m i : ℕ) → m ≡ suc g.count →
+      put g.field (suc g.count) (empty_field (kind_of p class) (n)) m i ≡ cond (holds_reference (kind_of p class) i (n)) (Ref 0) (Int 0)
   field_new m i e = ap (λ (f : ℕ → Entry). f i) (put-at g.field (suc g.count) (empty_field (kind_of p class) (n)) m e)
 
   field_old : (m i : ℕ) → b.stands m ≡ true → put g.field (suc g.count) (empty_field (kind_of p class) (n)) m i ≡ g.field m i
   field_old m i q = ap (λ (f : ℕ → Entry). f i) (put-other g.field (suc g.count) (empty_field (kind_of p class) (n)) m (not_new m q))
 
   word_empty : (sort : Bool) → 0 ≡ word_of (put b.address (suc g.count) x) (cond sort (Ref 0) (Int 0))
-  word_empty sort = empty_cond (λ e. 0 ≡ word_of (put b.address (suc g.count) x) e) sort (let u = at_old 0 nil_stands in let v = t.laid.nothing.at_nil in omega arith) refl
+  word_empty sort = empty_cond (λ e. 0 ≡ word_of (put b.address (suc g.count) x) e) sort
+      (let u = at_old 0 nil_stands in let v = t.laid.nothing.at_nil in omega arith) refl
 
   zero_there : (y : ℕ) → x ≤ y → y < x + (n + 2) → w.word y ≡ 0
   zero_there y i j = let u = pl.in_object in t.laid.clear.clear y (omega arith) (omega arith) (pl.free y i j)
 
-  sized_as : (m e u : ℕ) → put g.class (suc g.count) class m ≡ e → put g.size (suc g.count) n m ≡ u → IsSizeOf p e u → IsSizeOf p (put g.class (suc g.count) class m) (put g.size (suc g.count) n m)
+  sized_as : (m e u : ℕ) → put g.class (suc g.count) class m ≡ e → put g.size (suc g.count) n m ≡ u → IsSizeOf p e u →
+      IsSizeOf p (put g.class (suc g.count) class m) (put g.size (suc g.count) n m)
   sized_as m e u a d i = subst (λ z. IsSizeOf p z (put g.size (suc g.count) n m)) (sym a) (subst (λ z. IsSizeOf p e z) (sym d) i)
 
-  objects_new : Objects p (suc g.count) (put g.class (suc g.count) class) (put g.size (suc g.count) (n)) (put b.stands (suc g.count) true) (put b.address (suc g.count) x) (put b.section (suc g.count) Young) b.fill owner'
+  objects_new : Objects p (suc g.count) (put g.class (suc g.count) class) (put g.size (suc g.count) (n)) (put b.stands (suc g.count) true)
+      (put b.address (suc g.count) x) (put b.section (suc g.count) Young) b.fill owner'
   objects_new = record {
     given = λ m q. elim (old_or_new m q) [ inl e ↦ omega arith | inr o ↦ (let l = t.laid.objects.given m o in omega arith) ];
     shaped = λ m l q. elim (old_or_new m q) [
@@ -123,21 +132,25 @@ module _ (p : Program) (lay : Constants) (w : Words) (g : Graph) (b : Book) (sai
           (subst (λ c. c < length p.classes) (sym u) i.0, sized_as m (g.class m) (g.size m) u (size_old m o) i.1)
     ];
     owns = λ m y q i j. elim (old_or_new m q) [
-      | inl e ↦ let u = put-at b.address (suc g.count) x m e in let v = put-at g.size (suc g.count) (n) m e in pl.new y (omega arith) (omega arith) ∙ ap Of (sym e)
+      | inl e ↦ let u = put-at b.address (suc g.count) x m e in let v = put-at g.size (suc g.count) (n) m e in pl.new y (omega arith) (omega arith) ∙ ap Of
+          (sym e)
       | inr o ↦ let u = at_old m o in let v = size_old m o in pl.old m y (t.laid.objects.owns m y o (omega arith) (omega arith))
     ];
     owned = λ m y q. elim (pl.only m y q) [
-      | inl here ↦ let e = here.0 in let lo = here.1 in let hi = here.2 in let u = put-at b.address (suc g.count) x m e in let v = put-at g.size (suc g.count) (n) m e in
+      | inl here ↦ let e = here.0 in let lo = here.1 in let hi = here.2 in let u = put-at b.address (suc g.count) x m e in let v = put-at g.size (suc g.count)
+          (n) m e in
           (put-at b.stands (suc g.count) true m e, omega arith, omega arith)
-      | inr e ↦ let s = t.laid.objects.owned m y e in let lo = s.1 in let hi = s.2 in let u = at_old m s.0 in let v = size_old m s.0 in (stands_old m s.0, omega arith, omega arith)
+      | inr e ↦ let s = t.laid.objects.owned m y e in let lo = s.1 in let hi = s.2 in let u = at_old m s.0 in let v = size_old m s.0 in
+          (stands_old m s.0, omega arith, omega arith)
     ];
     inside = λ m l q. elim (old_or_new m q) [
       | inl e ↦ let u = put-at b.address (suc g.count) x m e in let v = put-at g.size (suc g.count) (n) m e in let i = pl.in_object in
           inl (put-at b.section (suc g.count) Young m e, omega arith, omega arith)
-      | inr o ↦ let u = at_old m o in let v = size_old m o in let z = put-other b.section (suc g.count) Young m (not_new m o) in elim (t.laid.objects.inside m l o) [
-        | inl i ↦ let lo = i.1 in let hi = i.2 in inl (z ∙ i.0, omega arith, omega arith)
-        | inr i ↦ let lo = i.1 in let hi = i.2 in inr (z ∙ i.0, omega arith, omega arith)
-      ]
+      | inr o ↦ let u = at_old m o in let v = size_old m o in let z = put-other b.section (suc g.count) Young m (not_new m o) in elim
+          (t.laid.objects.inside m l o) [
+            | inl i ↦ let lo = i.1 in let hi = i.2 in inl (z ∙ i.0, omega arith, omega arith)
+            | inr i ↦ let lo = i.1 in let hi = i.2 in inr (z ∙ i.0, omega arith, omega arith)
+          ]
     ];
     filled = t.laid.objects.filled;
     packed = λ y i j. let s = t.laid.objects.packed y i j in (s.0, pl.old s.0 y s.1);
@@ -154,16 +167,20 @@ module _ (p : Program) (lay : Constants) (w : Words) (g : Graph) (b : Book) (sai
     ];
     known = λ m i q j. elim (old_or_new m q) [
       | inl e ↦ subst (λ f. IsKnownEntry w.word (grown p g k class n) new_book f) (sym (field_new m i e))
-          (empty_cond (λ f. IsKnownEntry w.word (grown p g k class n) new_book f) (holds_reference (kind_of p class) i (n)) (stands_old 0 nil_stands, inl refl) tt)
-      | inr o ↦ let v = size_old m o in subst (λ f. IsKnownEntry w.word (grown p g k class n) new_book f) (sym (field_old m i o)) (entry_old (g.field m i) (t.laid.fields.known m i o (omega arith)))
+          (empty_cond (λ f. IsKnownEntry w.word (grown p g k class n) new_book f) (holds_reference (kind_of p class) i (n))
+          (stands_old 0 nil_stands, inl refl) tt)
+      | inr o ↦ let v = size_old m o in subst (λ f. IsKnownEntry w.word (grown p g k class n) new_book f) (sym (field_old m i o))
+          (entry_old (g.field m i) (t.laid.fields.known m i o (omega arith)))
     ];
     sorted = λ m i q j. elim (old_or_new m q) [
       | inl e ↦ let u = put-at g.class (suc g.count) class m e in let v = put-at g.size (suc g.count) (n) m e in
-          subst (λ c. IsOfSort (holds_reference (kind_of p c) i (put g.size (suc g.count) (n) m)) (put g.field (suc g.count) (empty_field (kind_of p class) (n)) m i)) (sym u)
+          subst (λ c. IsOfSort (holds_reference (kind_of p c) i (put g.size (suc g.count) (n) m))
+          (put g.field (suc g.count) (empty_field (kind_of p class) (n)) m i)) (sym u)
           (subst (λ l. IsOfSort (holds_reference (kind_of p class) i l) (put g.field (suc g.count) (empty_field (kind_of p class) (n)) m i)) (sym v)
           (subst (λ f. IsOfSort (holds_reference (kind_of p class) i (n)) f) (sym (field_new m i e)) (of_sort_empty (holds_reference (kind_of p class) i (n)))))
       | inr o ↦ let u = class_old m o in let v = size_old m o in
-          subst (λ c. IsOfSort (holds_reference (kind_of p c) i (put g.size (suc g.count) (n) m)) (put g.field (suc g.count) (empty_field (kind_of p class) (n)) m i)) (sym u)
+          subst (λ c. IsOfSort (holds_reference (kind_of p c) i (put g.size (suc g.count) (n) m))
+          (put g.field (suc g.count) (empty_field (kind_of p class) (n)) m i)) (sym u)
           (subst (λ l. IsOfSort (holds_reference (kind_of p (g.class m)) i l) (put g.field (suc g.count) (empty_field (kind_of p class) (n)) m i)) (sym v)
           (subst (λ f. IsOfSort (holds_reference (kind_of p (g.class m)) i (g.size m)) f) (sym (field_old m i o)) (t.laid.fields.sorted m i o (omega arith))))
     ];
@@ -229,9 +246,11 @@ module _ (p : Program) (lay : Constants) (w : Words) (g : Graph) (b : Book) (sai
   change_new = record { owner = owner'; later = later_new; ground = ground_new; mutators = refl }
 
   -- a deciding step that gives a new object its place
-  pub places : (mid : Mid) → ((y : ℕ) → IsHeading y mid → ⊥) → (a : Actor) (rest : List Statement) (s : Statement) (st : Stands p lay w g b said k a) → class ≡ made_class s → n ≡ made_fields p s →
+  pub places : (mid : Mid) → ((y : ℕ) → IsHeading y mid → ⊥) → (a : Actor) (rest : List Statement) (s : Statement) (st : Stands p lay w g b said k a) →
+      class ≡ made_class s → n ≡ made_fields p s →
       IsMutator g said k st.entry (s ∷ rest) st.answers →
-      Does p g k (record (g.mutator k) { register = st.entry; script = s ∷ rest }) s rest (At (suc g.count)) (handed (grown p g k class n) k rest (put st.entry (made_in s) (Ref (suc g.count)))) →
+      Does p g k (record (g.mutator k) { register = st.entry; script = s ∷ rest }) s rest (At (suc g.count))
+      (handed (grown p g k class n) k rest (put st.entry (made_in s) (Ref (suc g.count)))) →
       Books p b k s (At (suc g.count)) new_book →
       ((r : ℕ) → (kinds_after (kinds_of st.entry (g.mutator k).stack) s).register r ≡ kind_of_entry (put st.entry (made_in s) (Ref (suc g.count)) r)) →
       (kinds_after (kinds_of st.entry (g.mutator k).stack) s).stack ≡ map kind_of_entry (g.mutator k).stack →
@@ -249,7 +268,8 @@ module _ (p : Program) (lay : Constants) (w : Words) (g : Graph) (b : Book) (sai
         regs = λ q. st.regs q ∙ sym (word_old (st.entry q) (st.known q));
         known = λ q. entry_old (st.entry q) (st.known q);
         offsets = λ q. offset_later g b (grown p g k class n) new_book (a.offset q) (st.entry q) stands_old size_old (st.offsets q);
-        stack = stack_after p lay w g b said k (record w { next = wnext }) (grown p g k class n) new_book rest (put st.entry (made_in s) (Ref (suc g.count))) a.stack (g.mutator k).stack
+        stack = stack_after p lay w g b said k (record w { next = wnext }) (grown p g k class n) new_book rest
+            (put st.entry (made_in s) (Ref (suc g.count))) a.stack (g.mutator k).stack
             (stack_kept p lay w g b said k (record w { next = wnext }) (grown p g k class n) new_book change_new a.stack st.stack);
         told = st.told ∙ sym (answers_later b new_book st.answers st.given at_old);
         given = given_later b.stands new_book.stands st.answers stands_old st.given;
@@ -262,16 +282,20 @@ module _ (p : Program) (lay : Constants) (w : Words) (g : Graph) (b : Book) (sai
           address = put-same b.address (suc g.count) x ∙ sym ex;
           size = put-same g.size (suc g.count) n ∙ en;
           class_is = put-same g.class (suc g.count) class ∙ ec;
-          ahead = is_after p lay w g b said k (grown p g k class n) rest (put st.entry (made_in s) (Ref (suc g.count))) (g.mutator k).stack st.answers (At (suc g.count)) m.says
+          ahead = is_after p lay w g b said k (grown p g k class n) rest (put st.entry (made_in s) (Ref (suc g.count))) (g.mutator k).stack st.answers
+              (At (suc g.count)) m.says
               (goes g said k st.entry s rest st.answers m);
         };
         fits = fits_after p lay w g b said k (grown p g k class n) rest (put st.entry (made_in s) (Ref (suc g.count))) (g.mutator k).stack
-            (kinds_along (kinds_after (kinds_of st.entry (g.mutator k).stack) s) (kinds_of (put st.entry (made_in s) (Ref (suc g.count))) (g.mutator k).stack) rest kinds piled
+            (kinds_along (kinds_after (kinds_of st.entry (g.mutator k).stack) s)
+            (kinds_of (put st.entry (made_in s) (Ref (suc g.count))) (g.mutator k).stack) rest kinds piled
             (fits_as p lay w g b said k st.entry (s ∷ rest) st.answers m st.fits).1);
-        runnable = runnable_after p lay w g b said k (grown p g k class n) rest (put st.entry (made_in s) (Ref (suc g.count))) (g.mutator k).stack (runnable_as p lay w g b said k st.entry (s ∷ rest) st.answers m st.runnable).1;
+        runnable = runnable_after p lay w g b said k (grown p g k class n) rest (put st.entry (made_in s) (Ref (suc g.count))) (g.mutator k).stack
+            (runnable_as p lay w g b said k st.entry (s ∷ rest) st.answers m st.runnable).1;
       })
 
-module _ (p : Program) (lay : Constants) (w : Words) (g : Graph) (b : Book) (said : ℕ → List Answer) (k : ℕ) (owner : ℕ → Owner) (t : Ground p lay w g b owner) where
+module _ (p : Program) (lay : Constants) (w : Words) (g : Graph) (b : Book) (said : ℕ → List Answer) (k : ℕ) (owner : ℕ → Owner)
+    (t : Ground p lay w g b owner) where
   bump_place : (m : ℕ) → 0 < m → b.from k + m ≤ b.to k →
       Place p g b k m (b.from k) b.next (put b.from k (b.from k + m)) b.to owner (within_range owner (b.from k) (b.from k + m) (Of (suc g.count)))
   bump_place m some fits =
@@ -287,13 +311,16 @@ module _ (p : Program) (lay : Constants) (w : Words) (g : Graph) (b : Book) (sai
           | inr e ↦ inr e
         ];
         buffers = λ j y p q. elim (cases_eq j k) [
-          | inl e ↦ let u = put-at b.from k hi j e in let v : b.to j ≡ b.to k = ap b.to e in range-above owner x hi _ y (omega arith) ∙ t.laid.buffers.owns k y (omega arith) (omega arith) ∙ ap Buf (sym e)
-          | inr o ↦ let u = put-other b.from k hi j o in let e = t.laid.buffers.owns j y (omega arith) q in range-keeps owner x hi _ (Buf j) y e (λ r s. let v = mine y r s in absurd (o (let z : Buf j ≡ Buf k = sym e ∙ v in cc)))
+          | inl e ↦ let u = put-at b.from k hi j e in let v : b.to j ≡ b.to k = ap b.to e in range-above owner x hi _ y (omega arith)
+              ∙ t.laid.buffers.owns k y (omega arith) (omega arith) ∙ ap Buf (sym e)
+          | inr o ↦ let u = put-other b.from k hi j o in let e = t.laid.buffers.owns j y (omega arith) q in range-keeps owner x hi _ (Buf j) y e
+              (λ r s. let v = mine y r s in absurd (o (let z : Buf j ≡ Buf k = sym e ∙ v in cc)))
         ];
         frags = λ f y l p q. let e = t.laid.fragments.owns f y l p q in range-keeps owner x hi _ (Frag f) y e (λ r s. let v = mine y r s in cc);
         in_object = let i = t.laid.buffers.inside k (omega arith) in (i.0, omega arith);
         in_buffers = λ j l. elim (cases_eq j k) [
-          | inl e ↦ let u = put-at b.from k hi j e in let v : b.to j ≡ b.to k = ap b.to e in let i = t.laid.buffers.inside k (omega arith) in (omega arith, omega arith)
+          | inl e ↦ let u = put-at b.from k hi j e in let v : b.to j ≡ b.to k = ap b.to e in let i = t.laid.buffers.inside k (omega arith) in
+              (omega arith, omega arith)
           | inr o ↦ let u = put-other b.from k hi j o in let i = t.laid.buffers.inside j (omega arith) in (omega arith, i.1)
         ];
         within = λ f l. (t.laid.fragments.inside f l).1;
@@ -303,17 +330,22 @@ module _ (p : Program) (lay : Constants) (w : Words) (g : Graph) (b : Book) (sai
       }
 
   -- the object of a statement is small
-  is_small : (s : Statement) (rest : List Statement) (entry : ℕ → Entry) (answers : List Answer) → IsMutator g said k entry (s ∷ rest) answers → AllByRecursion (IsRunnable p) (g.mutator k).script → IsSmall (made_words p s)
+  is_small : (s : Statement) (rest : List Statement) (entry : ℕ → Entry) (answers : List Answer) → IsMutator g said k entry (s ∷ rest) answers →
+      AllByRecursion (IsRunnable p) (g.mutator k).script → IsSmall (made_words p s)
   is_small s rest entry answers m run = let l = (runnable_as p lay w g b said k entry (s ∷ rest) answers m run).0.small in omega arith
 
   -- the object of a statement has its place
-  makes : (s : Statement) → IsMaking s → (x : ℕ) (next wnext from to : ℕ → ℕ) (owner' : ℕ → Owner) → Place p g b k (made_words p s) x next from to owner owner' → ((f : ℕ) → f < b.fragments → wnext f ≡ byte_at (next f)) →
-      (mid : Mid) → ((y : ℕ) → IsHeading y mid → ⊥) → (a : Actor) (rest : List Statement) (st : Stands p lay w g b said k a) → IsMutator g said k st.entry (s ∷ rest) st.answers →
-      Books p b k s (At (suc g.count)) (record (placed b (suc g.count) x) { next = next; from = from; to = to }) → (ax af at : ℕ) → ax ≡ x → af ≡ from k → at ≡ to k →
+  makes : (s : Statement) → IsMaking s → (x : ℕ) (next wnext from to : ℕ → ℕ) (owner' : ℕ → Owner) →
+      Place p g b k (made_words p s) x next from to owner owner' → ((f : ℕ) → f < b.fragments → wnext f ≡ byte_at (next f)) →
+      (mid : Mid) → ((y : ℕ) → IsHeading y mid → ⊥) → (a : Actor) (rest : List Statement) (st : Stands p lay w g b said k a) →
+      IsMutator g said k st.entry (s ∷ rest) st.answers →
+      Books p b k s (At (suc g.count)) (record (placed b (suc g.count) x) { next = next; from = from; to = to }) → (ax af at : ℕ) → ax ≡ x → af ≡ from k →
+      at ≡ to k →
       Kept p lay w g b said k mid true (record w { next = wnext }) (within (owning a af at) rest (StoreLength s ax))
   makes s making x next wnext from to owner' pl nexts mid none a rest st m books ax af at ex ef et =
       let run = (runnable_as p lay w g b said k st.entry (s ∷ rest) st.answers m st.runnable).0 in
-      places p lay w g b said k owner t (made_class s) (made_fields p s) x next wnext from to owner' pl (made_known p s making run) (made_sized p s making run) (made_no_pair p s making run) nexts
+      places p lay w g b said k owner t (made_class s) (made_fields p s) x next wnext from to owner' pl (made_known p s making run)
+      (made_sized p s making run) (made_no_pair p s making run) nexts
       mid none a rest s st refl refl m (does_making p g k (record (g.mutator k) { register = st.entry; script = s ∷ rest }) s rest making) books
       (kinds_making s st.entry (g.mutator k).stack (suc g.count) making) (piled_making s st.entry (g.mutator k).stack making) ax af at ex ef et
 
@@ -324,8 +356,10 @@ module _ (p : Program) (lay : Constants) (w : Words) (g : Graph) (b : Book) (sai
       let ef : a.from ≡ b.from k = st.from_is in
       let et : a.to ≡ b.to k = st.to_is in
       let fits : b.from k + made_words p s ≤ b.to k = omega arith in
-      makes s making (b.from k) b.next w.next (put b.from k (b.from k + made_words p s)) b.to _ (bump_place (made_words p s) (omega arith) fits) t.words Idle (λ y e. e)
-      (before a s rest) rest st st.at (books_making p b k s (suc g.count) _ making (is_small s rest st.entry st.answers st.at st.runnable, inl (record { room = fits; after = refl })))
+      makes s making (b.from k) b.next w.next (put b.from k (b.from k + made_words p s)) b.to _ (bump_place (made_words p s) (omega arith) fits) t.words Idle
+      (λ y e. e)
+      (before a s rest) rest st st.at (books_making p b k s (suc g.count) _ making
+      (is_small s rest st.entry st.answers st.at st.runnable, inl (record { room = fits; after = refl })))
       a.from (a.from + made_words p s) a.to ef (ap (λ x. x + made_words p s) ef ∙ sym (put-same b.from k _)) et
 
   claim_place : (f m s : ℕ) → f < b.fragments → 0 < m → m ≤ s → b.next f + s ≤ b.limit f →
@@ -338,7 +372,8 @@ module _ (p : Program) (lay : Constants) (w : Words) (g : Graph) (b : Book) (sai
       let ours : (y : ℕ) → x ≤ y → y < hi → owner y ≡ Frag f = λ y p q. t.laid.fragments.owns f y lf p (omega arith) in
       let one = within_range owner x mid (Of (suc g.count)) in
       let keeps : (o : Owner) (y : ℕ) → owner y ≡ o → (x ≤ y → y < hi → ⊥) → within_range one mid hi (Buf k) y ≡ o = λ o y e c.
-      range-keeps one mid hi (Buf k) o y (range-keeps owner x mid (Of (suc g.count)) o y e (λ p q. absurd (c p (omega arith)))) (λ p q. absurd (c (omega arith) q)) in
+      range-keeps one mid hi (Buf k) o y (range-keeps owner x mid (Of (suc g.count)) o y e (λ p q. absurd (c p (omega arith))))
+      (λ p q. absurd (c (omega arith) q)) in
       record {
         free = λ y p q o e. let u = ours y p (omega arith) in cc;
         new = λ y p q. range-below one mid hi _ y q ∙ range-in owner x mid _ y p q;
@@ -352,17 +387,22 @@ module _ (p : Program) (lay : Constants) (w : Words) (g : Graph) (b : Book) (sai
         ];
         buffers = λ j y p q. elim (cases_eq j k) [
           | inl e ↦ let u = put-at b.from k mid j e in let v = put-at b.to k hi j e in range-in one mid hi _ y (omega arith) (omega arith) ∙ ap Buf (sym e)
-          | inr o ↦ let u = put-other b.from k mid j o in let v = put-other b.to k hi j o in let e = t.laid.buffers.owns j y (omega arith) (omega arith) in keeps (Buf j) y e (λ r s. let z = ours y r s in cc)
+          | inr o ↦ let u = put-other b.from k mid j o in let v = put-other b.to k hi j o in let e = t.laid.buffers.owns j y (omega arith) (omega arith) in
+              keeps (Buf j) y e (λ r s. let z = ours y r s in cc)
         ];
         frags = λ i y l p q. elim (cases_eq i f) [
           | inl e ↦ let u = put-at b.next f hi i e in let v : b.limit i ≡ b.limit f = ap b.limit e in
-              range-above one mid hi _ y (omega arith) ∙ range-above owner x mid _ y (omega arith) ∙ t.laid.fragments.owns f y lf (omega arith) (omega arith) ∙ ap Frag (sym e)
-          | inr o ↦ let u = put-other b.next f hi i o in let e = t.laid.fragments.owns i y l (omega arith) q in keeps (Frag i) y e (λ r s. let z = ours y r s in o (let zz : Frag i ≡ Frag f = sym e ∙ z in cc))
+              range-above one mid hi _ y (omega arith) ∙ range-above owner x mid _ y (omega arith) ∙ t.laid.fragments.owns f y lf (omega arith) (omega arith)
+              ∙ ap Frag (sym e)
+          | inr o ↦ let u = put-other b.next f hi i o in let e = t.laid.fragments.owns i y l (omega arith) q in keeps (Frag i) y e
+              (λ r s. let z = ours y r s in o (let zz : Frag i ≡ Frag f = sym e ∙ z in cc))
         ];
         in_object = let i = t.laid.fragments.inside f lf in let u = i.2 in (i.0, omega arith);
         in_buffers = λ j l. elim (cases_eq j k) [
-          | inl e ↦ let u = put-at b.from k mid j e in let v = put-at b.to k hi j e in let i = t.laid.fragments.inside f lf in let lo = i.0 in let up = i.2 in (omega arith, omega arith)
-          | inr o ↦ let u = put-other b.from k mid j o in let v = put-other b.to k hi j o in let i = t.laid.buffers.inside j (omega arith) in (omega arith, omega arith)
+          | inl e ↦ let u = put-at b.from k mid j e in let v = put-at b.to k hi j e in let i = t.laid.fragments.inside f lf in let lo = i.0 in let up = i.2 in
+              (omega arith, omega arith)
+          | inr o ↦ let u = put-other b.from k mid j o in let v = put-other b.to k hi j o in let i = t.laid.buffers.inside j (omega arith) in
+              (omega arith, omega arith)
         ];
         within = λ i l. elim (cases_eq i f) [
           | inl e ↦ let u = put-at b.next f hi i e in let v : b.limit i ≡ b.limit f = ap b.limit e in omega arith
@@ -377,15 +417,18 @@ module _ (p : Program) (lay : Constants) (w : Words) (g : Graph) (b : Book) (sai
       }
 
   -- the exchange that is won, at the word of the book
-  claims_at : (a : Actor) (rest : List Statement) (s : Statement) (f : ℕ) → f < b.fragments → (take : ℕ) → take ≡ share p b f (made_words p s) → Stands p lay w g b said k (within a rest (Claim s f (b.next f))) →
-      Kept p lay w g b said k (Claim s f (b.next f)) true (write w (Next f) (byte_at (b.next f + take))) (within (owning a (b.next f + made_words p s) (b.next f + take)) rest (StoreLength s (b.next f)))
+  claims_at : (a : Actor) (rest : List Statement) (s : Statement) (f : ℕ) → f < b.fragments → (take : ℕ) → take ≡ share p b f (made_words p s) →
+      Stands p lay w g b said k (within a rest (Claim s f (b.next f))) →
+      Kept p lay w g b said k (Claim s f (b.next f)) true (write w (Next f) (byte_at (b.next f + take)))
+      (within (owning a (b.next f + made_words p s) (b.next f + take)) rest (StoreLength s (b.next f)))
   claims_at a rest s f lf take es st =
       let m = made_words p s in
       let lim = t.limits f lf in
       let room : b.next f + m ≤ b.limit f = (let q = st.at.3 in omega arith) in
       let l1 : m ≤ take = omega arith in
       let l2 : b.next f + take ≤ b.limit f = omega arith in
-      makes s st.at.0 (b.next f) (put b.next f (b.next f + take)) (put w.next f (byte_at (b.next f + take))) (put b.from k (b.next f + m)) (put b.to k (b.next f + take)) _ (claim_place f m take lf (omega arith) l1 l2)
+      makes s st.at.0 (b.next f) (put b.next f (b.next f + take)) (put w.next f (byte_at (b.next f + take))) (put b.from k (b.next f + m))
+      (put b.to k (b.next f + take)) _ (claim_place f m take lf (omega arith) l1 l2)
       (λ j q. elim (cases_eq j f) [
         | inl e ↦ put-at w.next f _ j e ∙ sym (ap byte_at (put-at b.next f (b.next f + take) j e))
         | inr o ↦ put-other w.next f _ j o ∙ t.words j q ∙ sym (ap byte_at (put-other b.next f (b.next f + take) j o))
@@ -401,13 +444,19 @@ module _ (p : Program) (lay : Constants) (w : Words) (g : Graph) (b : Book) (sai
             there = lf;
             room = room;
             lowest = st.at.2.below;
-            after = λ i. record (placed b (suc g.count) (b.next f)) { next = put b.next f (b.next f + es i); from = put b.from k (b.next f + m); to = put b.to k (b.next f + es i) };
+            after = λ i. record (placed b (suc g.count) (b.next f)) {
+              next = put b.next f (b.next f + es i);
+              from = put b.from k
+                  (b.next f + m);
+              to = put b.to k (b.next f + es i);
+            };
           },
         ),
       ))
       (b.next f) (b.next f + m) (b.next f + take) refl (sym (put-same b.from k _)) (sym (put-same b.to k _))
 
-  pub claims : (a : Actor) (rest : List Statement) (s : Statement) (f next : ℕ) → w.next f ≡ byte_at next → Stands p lay w g b said k (within a rest (Claim s f next)) →
+  pub claims : (a : Actor) (rest : List Statement) (s : Statement) (f next : ℕ) → w.next f ≡ byte_at next →
+      Stands p lay w g b said k (within a rest (Claim s f next)) →
       Kept p lay w g b said k (Claim s f next) true (write w (Next f) (byte_at (next + taken p lay f next (made_words p s))))
       (within (owning a (next + made_words p s) (next + taken p lay f next (made_words p s))) rest (StoreLength s next))
   claims a rest s f next e st =
@@ -416,8 +465,10 @@ module _ (p : Program) (lay : Constants) (w : Words) (g : Graph) (b : Book) (sai
       let en : next ≡ b.next f = omega arith in
       let lim = t.limits f lf in
       (subst (λ x. Stands p lay w g b said k (within a rest (Claim s f x)) →
-      Kept p lay w g b said k (Claim s f x) true (write w (Next f) (byte_at (x + taken p lay f x (made_words p s)))) (within (owning a (x + made_words p s) (x + taken p lay f x (made_words p s))) rest (StoreLength s x)))
-      (sym en) (claims_at a rest s f lf (taken p lay f (b.next f) (made_words p s)) (ap (λ l. min (l - b.next f) (max (made_words p s) p.config.buffer)) (sym lim)))) st
+      Kept p lay w g b said k (Claim s f x) true (write w (Next f) (byte_at (x + taken p lay f x (made_words p s))))
+      (within (owning a (x + made_words p s) (x + taken p lay f x (made_words p s))) rest (StoreLength s x)))
+      (sym en) (claims_at a rest s f lf (taken p lay f (b.next f) (made_words p s))
+      (ap (λ l. min (l - b.next f) (max (made_words p s) p.config.buffer)) (sym lim)))) st
 
   -- the store of a new object's length
   pub writes_length : (a : Actor) (rest : List Statement) (s : Statement) (x : ℕ) → Stands p lay w g b said k (within a rest (StoreLength s x)) →
@@ -431,7 +482,8 @@ module _ (p : Program) (lay : Constants) (w : Words) (g : Graph) (b : Book) (sai
       let from : b.address new ≤ x + 1 = omega arith in
       let to : x + 1 < b.address new + (g.size new + 2) = omega arith in
       let there = same_there p lay w g b said k owner t new (x + 1) val m.stands from to in
-      let length : (o : ℕ) → b.stands o ≡ true → w.word (b.address o + 1) ≡ g.size o → put w.word (x + 1) val (b.address o + 1) ≡ g.size o = λ o q e. elim (cases_eq (b.address o + 1) (x + 1)) [
+      let length : (o : ℕ) → b.stands o ≡ true → w.word (b.address o + 1) ≡ g.size o →
+      put w.word (x + 1) val (b.address o + 1) ≡ g.size o = λ o q e. elim (cases_eq (b.address o + 1) (x + 1)) [
         | inl z ↦ put-at w.word (x + 1) val (b.address o + 1) z ∙ sym size ∙ ap g.size (sym (there o (b.address o + 1) q (omega arith) (omega arith) z))
         | inr z ↦ put-other w.word (x + 1) val (b.address o + 1) z ∙ e
       ] in
@@ -442,11 +494,14 @@ module _ (p : Program) (lay : Constants) (w : Words) (g : Graph) (b : Book) (sai
           | inr h ↦ inr (tag_off p lay w g b said k owner t new (x + 1) val m.stands from to (omega arith) o q.0 ∙ h.0, length o q.0 h.1)
         ],
       ) in
-      let entry : (e : Entry) → IsKnownEntry w.word g b e → IsKnownEntry (put w.word (x + 1) val) g b e = λ e. entry_later w g b (write w (Word (x + 1)) val) g b e known in
+      let entry : (e : Entry) → IsKnownEntry w.word g b e →
+      IsKnownEntry (put w.word (x + 1) val) g b e = λ e. entry_later w g b (write w (Word (x + 1)) val) g b e known in
       silent p lay w g b said k (StoreLength s x) (write w (Word (x + 1)) val) g b (record {
         owner = owner;
         later = later_stored p lay w g b said k owner t new (x + 1) val m.stands from to g.field known length;
-        ground = ground_stored p lay w g b said k owner t new (x + 1) val m.stands from to g.field (fields_off p lay w g b said k owner t new (x + 1) val m.stands from to (omega arith)) (λ o i q l. entry (g.field o i) (t.laid.fields.known o i q l)) t.laid.fields.sorted;
+        ground = ground_stored p lay w g b said k owner t new (x + 1) val m.stands from to g.field
+            (fields_off p lay w g b said k owner t new (x + 1) val m.stands from to (omega arith))
+            (λ o i q l. entry (g.field o i) (t.laid.fields.known o i q l)) t.laid.fields.sorted;
         mutators = refl;
       }) refl refl _ (record { begun = λ o q. inl q; done = λ o q e. inr e }) (record {
         entry = st.entry;
@@ -459,14 +514,19 @@ module _ (p : Program) (lay : Constants) (w : Words) (g : Graph) (b : Book) (sai
         given = st.given;
         from_is = st.from_is;
         to_is = st.to_is;
-        at = (record { name = new; some = m.some; stands = m.stands; address = at; size = size; class_is = m.class_is; ahead = m.ahead }, put-same w.word (x + 1) val);
+        at = (
+          record { name = new; some = m.some; stands = m.stands; address = at; size = size; class_is = m.class_is; ahead = m.ahead },
+          put-same w.word
+              (x + 1) val,
+        );
         fits = st.fits;
         runnable = st.runnable;
       })
 
   -- the store of a new object's tag, with which the statement ends
   pub writes_tag : (a : Actor) (rest : List Statement) (s : Statement) (x : ℕ) → Stands p lay w g b said k (within a rest (StoreTag s x)) →
-      Kept p lay w g b said k (StoreTag s x) false (write w (Word x) (plain_word (made_class s))) (over a rest (put a.reg (made_in s) (byte_at x)) (At (byte_at x)))
+      Kept p lay w g b said k (StoreTag s x) false (write w (Word x) (plain_word (made_class s)))
+      (over a rest (put a.reg (made_in s) (byte_at x)) (At (byte_at x)))
   writes_tag a rest s x st =
       let m = st.at.0 in
       let new = m.name in
@@ -477,8 +537,10 @@ module _ (p : Program) (lay : Constants) (w : Words) (g : Graph) (b : Book) (sai
       let to : x < b.address new + (g.size new + 2) = omega arith in
       let there = same_there p lay w g b said k owner t new x val m.stands from to in
       let off : x ≢ b.address new + 1 = λ e. absurd (omega arith) in
-      let tag : (o : ℕ) → b.stands o ≡ true → w.word (b.address o) ≡ plain_word (g.class o) → put w.word x val (b.address o) ≡ plain_word (g.class o) = λ o q e. elim (cases_eq (b.address o) x) [
-        | inl z ↦ put-at w.word x val (b.address o) z ∙ ap plain_word (sym m.class_is) ∙ ap (λ i. plain_word (g.class i)) (sym (there o (b.address o) q (omega arith) (omega arith) z))
+      let tag : (o : ℕ) → b.stands o ≡ true → w.word (b.address o) ≡ plain_word (g.class o) →
+      put w.word x val (b.address o) ≡ plain_word (g.class o) = λ o q e. elim (cases_eq (b.address o) x) [
+        | inl z ↦ put-at w.word x val (b.address o) z ∙ ap plain_word (sym m.class_is) ∙ ap (λ i. plain_word (g.class i))
+            (sym (there o (b.address o) q (omega arith) (omega arith) z))
         | inr z ↦ put-other w.word x val (b.address o) z ∙ e
       ] in
       let known : (o : ℕ) → IsKnown w.word g b o → IsKnown (put w.word x val) g b o = λ o q. (
@@ -496,8 +558,11 @@ module _ (p : Program) (lay : Constants) (w : Words) (g : Graph) (b : Book) (sai
       let entry : (e : Entry) → IsKnownEntry w.word g b e → IsKnownEntry (put w.word x val) g b e = λ e. entry_later w g b (write w (Word x) val) g b e known in
       silent p lay w g b said k (StoreTag s x) (write w (Word x) val) g b (record {
         owner = owner;
-        later = later_stored p lay w g b said k owner t new x val m.stands from to g.field known (λ o q e. length_off p lay w g b said k owner t new x val m.stands from to off o q ∙ e);
-        ground = ground_stored p lay w g b said k owner t new x val m.stands from to g.field (fields_off p lay w g b said k owner t new x val m.stands from to (omega arith)) (λ o i q l. entry (g.field o i) (t.laid.fields.known o i q l)) t.laid.fields.sorted;
+        later = later_stored p lay w g b said k owner t new x val m.stands from to g.field known
+            (λ o q e. length_off p lay w g b said k owner t new x val m.stands from to off o q ∙ e);
+        ground = ground_stored p lay w g b said k owner t new x val m.stands from to g.field
+            (fields_off p lay w g b said k owner t new x val m.stands from to (omega arith))
+            (λ o i q l. entry (g.field o i) (t.laid.fields.known o i q l)) t.laid.fields.sorted;
         mutators = refl;
       }) refl refl _ (record {
         begun = λ o q. inl q;

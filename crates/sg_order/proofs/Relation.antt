@@ -82,7 +82,8 @@ pub record Tested (p : Program) (g : Graph) (entry : ℕ → Entry) (s : Stateme
   pub finds : has_field test.sort (kind_of p (g.class name)) (g.size name) test.field ≡ true
 
 -- the new object with this name has its place, and mutator k of the graph is ahead: it has its answer
-pub record Placed (p : Program) (g : Graph) (b : Book) (said : ℕ → List Answer) (k : ℕ) (entry : ℕ → Entry) (answers : List Answer) (rest : List Statement) (s : Statement) (x : ℕ) : Type 0 where
+pub record Placed (p : Program) (g : Graph) (b : Book) (said : ℕ → List Answer) (k : ℕ) (entry : ℕ → Entry) (answers : List Answer) (rest : List Statement)
+    (s : Statement) (x : ℕ) : Type 0 where
   pub name : ℕ
   pub some : name ≢ 0
   pub stands : b.stands name ≡ true
@@ -166,7 +167,8 @@ pub record Heads (w : Words) (g : Graph) (b : Book) (mid : Mid) (v : Words) (h :
   pub done : (n : ℕ) → b.stands n ≡ true → IsHeading (b.address n) mid → IsHeaded v.word h c n ⊎ IsHeading (c.address n) mid'
 
 -- what a step of mutator k, which stood at `mid`, gives
-pub record Kept (p : Program) (lay : Constants) (w : Words) (g : Graph) (b : Book) (said : ℕ → List Answer) (k : ℕ) (mid : Mid) (decides : Bool) (v : Words) (a : Actor) : Type 0 where
+pub record Kept (p : Program) (lay : Constants) (w : Words) (g : Graph) (b : Book) (said : ℕ → List Answer) (k : ℕ) (mid : Mid) (decides : Bool) (v : Words)
+    (a : Actor) : Type 0 where
   pub h : Graph
   pub c : Book
   pub said' : ℕ → List Answer

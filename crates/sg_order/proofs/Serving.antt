@@ -41,7 +41,8 @@ module _ (g : Graph) (b : Book) (h : Graph) (c : Book) where
   }
 
   pub stack_on : (xs : List StackWord) (ys : List Entry) → AllByRecursion (λ (entry : Entry). StaysPut g b h c (name_in entry)) ys →
-      Pairwise (λ (slot : StackWord) (entry : Entry). Holds g b slot.word slot.offset entry) xs ys → Pairwise (λ (slot : StackWord) (entry : Entry). Holds h c slot.word slot.offset entry) xs ys
+      Pairwise (λ (slot : StackWord) (entry : Entry). Holds g b slot.word slot.offset entry) xs ys →
+      Pairwise (λ (slot : StackWord) (entry : Entry). Holds h c slot.word slot.offset entry) xs ys
   stack_on [] [] stay t = tt
   stack_on [] (y ∷ ys) stay t = absurd t
   stack_on (x ∷ xs) [] stay t = absurd t
@@ -71,14 +72,16 @@ module _ (p : Program) (lay : Constants) (w : Words) (g : Graph) (b : Book) (k :
   m = g.mutator k
 
   -- register r got the entry, and the statement is done
-  module _ (s : Statement) (rest : List Statement) (ready : IsReady p g b k a (s ∷ rest)) (h : Graph) (c : Book) (on : (n : ℕ) → StaysPut g b h c n) (mutators : h.mutator ≡ g.mutator) (from : c.from ≡ b.from) (to : c.to ≡ b.to) where
+  module _ (s : Statement) (rest : List Statement) (ready : IsReady p g b k a (s ∷ rest)) (h : Graph) (c : Book) (on : (n : ℕ) → StaysPut g b h c n)
+      (mutators : h.mutator ≡ g.mutator) (from : c.from ≡ b.from) (to : c.to ≡ b.to) where
     -- the graph with this mutator behind its statement
     abbrev done : Mutator → Graph
     done hands = advanced h k hands rest
 
     others_ready : (hands : Mutator) (j : ℕ) (x : Actor) (script : List Statement) → j ≢ k → IsReady p g b j x script → IsReady p (done hands) c j x script
     others_ready hands j x script other r =
-        let same : (done hands).mutator j ≡ g.mutator j = put-other h.mutator k (record hands { script = rest }) j other ∙ ap (λ (f : ℕ → Mutator). f j) mutators in
+        let same : (done hands).mutator j ≡ g.mutator j = put-other h.mutator k (record hands { script = rest }) j other ∙ ap
+        (λ (f : ℕ → Mutator). f j) mutators in
         let kept = stays_ready p g (done hands) b c j x script r
         (record {
           register = ap (λ (n : Mutator). n.register) same;
@@ -87,20 +90,26 @@ module _ (p : Program) (lay : Constants) (w : Words) (g : Graph) (b : Book) (k :
           asleep = λ e. ap (λ (n : Mutator). n.script) same ∙ r.script_is ∙ r.asleep (sym (ap (λ (n : Mutator). n.ended) same) ∙ e);
         })
         (record { registers = λ q. stay (name_in ((g.mutator j).register q)); stack = all_stay g b (done hands) c stay (g.mutator j).stack }) in
-        subst (λ o. IsReady p (done hands) c j o script) (λ i. owning x ((ap (λ (f : ℕ → ℕ). f j) from ∙ sym r.from_is) i) ((ap (λ (f : ℕ → ℕ). f j) to ∙ sym r.to_is) i)) kept
+        subst (λ o. IsReady p (done hands) c j o script)
+        (λ i. owning x ((ap (λ (f : ℕ → ℕ). f j) from ∙ sym r.from_is) i) ((ap (λ (f : ℕ → ℕ). f j) to ∙ sym r.to_is) i)) kept
       where
         stay : (n : ℕ) → StaysPut g b (done hands) c n
         stay n = record { stands = (on n).stands; address = (on n).address; size = (on n).size }
 
-    behind : (register : ℕ → Entry) (reg : ℕ → ℕ) → ((r : ℕ) → Holds (done (record m { register = register })) c (reg r) (a.offset r) (register r)) → FindKinds (kinds_of register m.stack) rest →
+    behind : (register : ℕ → Entry) (reg : ℕ → ℕ) → ((r : ℕ) → Holds (done (record m { register = register })) c (reg r) (a.offset r) (register r)) →
+        FindKinds (kinds_of register m.stack) rest →
         AreReadyBehind p g b k (done (record m { register = register })) c (record a { reg = reg; script = rest; mid = Idle }) rest
     behind register reg regs kinds =
-        let after : (done (record m { register = register })).mutator k ≡ record m { register = register; script = rest } = put-same h.mutator k (record m { register = register; script = rest }) in
+        let after : (done (record m { register = register })).mutator k ≡ record m { register = register; script = rest } = put-same h.mutator k
+        (record m { register = register; script = rest }) in
         record {
           answered = record {
             regs = λ r. subst (λ (n : Mutator). Holds (done (record m { register = register })) c (reg r) (a.offset r) (n.register r)) (sym after) (regs r);
-            stack = subst (λ (n : Mutator). Pairwise (λ (slot : StackWord) (entry : Entry). Holds (done (record m { register = register })) c slot.word slot.offset entry) a.stack n.stack) (sym after)
-                (stack_on g b (done (record m { register = register })) c a.stack m.stack (all_stay g b (done (record m { register = register })) c stay m.stack) ready.stack);
+            stack = subst (λ (n : Mutator). Pairwise
+                (λ (slot : StackWord) (entry : Entry). Holds (done (record m { register = register })) c slot.word slot.offset entry) a.stack n.stack)
+                (sym after)
+                (stack_on g b (done (record m { register = register })) c a.stack m.stack
+                (all_stay g b (done (record m { register = register })) c stay m.stack) ready.stack);
             script_is = ap (λ (n : Mutator). n.script) after;
             asleep = λ e. absurd (awake (sym (ap (λ (n : Mutator). n.ended) after) ∙ e));
             from_is = ready.from_is ∙ sym (ap (λ (f : ℕ → ℕ). f k) from);
@@ -123,20 +132,26 @@ module _ (p : Program) (lay : Constants) (w : Words) (g : Graph) (b : Book) (k :
     making makes name word stands is =
         behind (put m.register (made_in s) (Ref name)) (put a.reg (made_in s) word)
         (λ r. elim (cases_eq r (made_in s)) [
-          | inl e ↦ subst (λ q. Holds (done (setting m (made_in s) (Ref name))) c (put a.reg (made_in s) word q) (a.offset q) (put m.register (made_in s) (Ref name) q)) (sym e) here
-          | inr other ↦ subst (λ v. Holds (done (setting m (made_in s) (Ref name))) c v (a.offset r) (put m.register (made_in s) (Ref name) r)) (sym (put-other a.reg (made_in s) word r other))
-              (subst (λ x. Holds (done (setting m (made_in s) (Ref name))) c (a.reg r) (a.offset r) x) (sym (put-other m.register (made_in s) (Ref name) r other))
+          | inl e ↦ subst (λ q. Holds (done (setting m (made_in s) (Ref name))) c (put a.reg (made_in s) word q) (a.offset q)
+              (put m.register (made_in s) (Ref name) q)) (sym e) here
+          | inr other ↦ subst (λ v. Holds (done (setting m (made_in s) (Ref name))) c v (a.offset r) (put m.register (made_in s) (Ref name) r))
+              (sym (put-other a.reg (made_in s) word r other))
+              (subst (λ x. Holds (done (setting m (made_in s) (Ref name))) c (a.reg r) (a.offset r) x)
+              (sym (put-other m.register (made_in s) (Ref name) r other))
               (holds_on g b (done (setting m (made_in s) (Ref name))) c (a.reg r) (a.offset r) (m.register r) (stay (name_in (m.register r))) (ready.regs r)))
         ])
-        (kinds_along (kinds_after (kinds_in m) s) (kinds_of (put m.register (made_in s) (Ref name)) m.stack) rest (kinds_making s m.register m.stack name makes) (piled_making s m.register m.stack makes) ready.kinds.1)
+        (kinds_along (kinds_after (kinds_in m) s) (kinds_of (put m.register (made_in s) (Ref name)) m.stack) rest
+        (kinds_making s m.register m.stack name makes) (piled_making s m.register m.stack makes) ready.kinds.1)
       where
         stay : (n : ℕ) → StaysPut g b (done (setting m (made_in s) (Ref name))) c n
         stay n = record { stands = (on n).stands; address = (on n).address; size = (on n).size }
 
-        here : Holds (done (setting m (made_in s) (Ref name))) c (put a.reg (made_in s) word (made_in s)) (a.offset (made_in s)) (put m.register (made_in s) (Ref name) (made_in s))
+        here : Holds (done (setting m (made_in s) (Ref name))) c (put a.reg (made_in s) word (made_in s)) (a.offset (made_in s))
+            (put m.register (made_in s) (Ref name) (made_in s))
         here = record {
           word_is = put-same a.reg (made_in s) word ∙ is ∙ sym (ap (λ e. name_word e) (put-same m.register (made_in s) (Ref name)));
-          stands = subst (λ e. StandsAt (done (setting m (made_in s) (Ref name))) c (a.offset (made_in s)) e) (sym (put-same m.register (made_in s) (Ref name))) stands;
+          stands = subst (λ e. StandsAt (done (setting m (made_in s) (Ref name))) c (a.offset (made_in s)) e)
+              (sym (put-same m.register (made_in s) (Ref name))) stands;
         }
           where
             name_word : Entry → ℕ
@@ -158,18 +173,22 @@ module _ (p : Program) (lay : Constants) (w : Words) (g : Graph) (b : Book) (k :
       old q e = let l = held.heap.laid.objects.given name q in omega arith
 
   -- the answers of the statements that ask
-  answers : (s : Statement) (rest : List Statement) (answer : Answer) (h : Graph) (c : Book) → IsReady p g b k a (s ∷ rest) → Answers p g m s answer → h ≡ advanced (heap_after p g k m s answer) k (hands_after m s answer) rest →
+  answers : (s : Statement) (rest : List Statement) (answer : Answer) (h : Graph) (c : Book) → IsReady p g b k a (s ∷ rest) → Answers p g m s answer →
+      h ≡ advanced (heap_after p g k m s answer) k (hands_after m s answer) rest →
       Places p b s answer c → AreReadyBehind p g b k h c (served a s rest (by_address c answer)) rest
   answers (New r class) rest (At name) h c ready is after places =
       subst (λ q. AreReadyBehind p g b k q c (served a (New r class) rest (At (byte_at (c.address name)))) rest) (sym after)
-      (making (New r class) rest ready (grown p g k class (fields_of p class)) c (stays places.1.1) refl (ap (λ (d : Book). d.from) places.1.1.after) (ap (λ (d : Book). d.to) places.1.1.after) tt name
+      (making (New r class) rest ready (grown p g k class (fields_of p class)) c (stays places.1.1) refl (ap (λ (d : Book). d.from) places.1.1.after)
+      (ap (λ (d : Book). d.to) places.1.1.after) tt name
       (byte_at (c.address name)) (ap (λ (d : Book). d.stands name) places.1.1.after ∙ put-same b.stands name true) refl)
     where
       stays : Takes b (words_of_class p class) name places.1.0 c → (n : ℕ) → StaysPut g b (grown p g k class (fields_of p class)) c n
-      stays takes = grown_stays class (fields_of p class) (words_of_class p class) places.1.0 c (subst (λ n. Takes b (words_of_class p class) n places.1.0 c) is takes)
+      stays takes = grown_stays class (fields_of p class) (words_of_class p class) places.1.0 c
+          (subst (λ n. Takes b (words_of_class p class) n places.1.0 c) is takes)
   answers (NewV r class count) rest (At name) h c ready is after places =
       subst (λ q. AreReadyBehind p g b k q c (served a (NewV r class count) rest (At (byte_at (c.address name)))) rest) (sym after)
-      (making (NewV r class count) rest ready (grown p g k class count) c (stays places.1.1) refl (ap (λ (d : Book). d.from) places.1.1.after) (ap (λ (d : Book). d.to) places.1.1.after) tt name
+      (making (NewV r class count) rest ready (grown p g k class count) c (stays places.1.1) refl (ap (λ (d : Book). d.from) places.1.1.after)
+      (ap (λ (d : Book). d.to) places.1.1.after) tt name
       (byte_at (c.address name)) (ap (λ (d : Book). d.stands name) places.1.1.after ∙ put-same b.stands name true) refl)
     where
       stays : Takes b (words_for count) name places.1.0 c → (n : ℕ) → StaysPut g b (grown p g k class count) c n
@@ -181,12 +200,14 @@ module _ (p : Program) (lay : Constants) (w : Words) (g : Graph) (b : Book) (k :
   answers (NewV r class count) rest Full h c ready is after places =
       subst (λ q. AreReadyBehind p g b k q c (served a (NewV r class count) rest Full) rest) (sym after)
       (subst (λ d. AreReadyBehind p g b k (advanced g k (setting m r (Ref 0)) rest) d (served a (NewV r class count) rest Full) rest) (sym places.2)
-      (making (NewV r class count) rest ready g b same_stays refl refl refl tt 0 0 held.heap.laid.nothing.stands_nil (sym (ap byte_at held.heap.laid.nothing.at_nil))))
+      (making (NewV r class count) rest ready g b same_stays refl refl refl tt 0 0 held.heap.laid.nothing.stands_nil
+      (sym (ap byte_at held.heap.laid.nothing.at_nil))))
   answers (Collect false) rest Fine h c ready is after places =
       subst (λ q. AreReadyBehind p g b k q c (served a (Collect false) rest Fine) rest) (sym after)
       (subst (λ d. AreReadyBehind p g b k (advanced g k m rest) d (served a (Collect false) rest Fine) rest) (sym places)
       (behind (Collect false) rest ready g b same_stays refl refl refl m.register a.reg
-      (λ r. holds_on g b (advanced g k m rest) b (a.reg r) (a.offset r) (m.register r) (record { stands = λ q. q; address = λ q. refl; size = λ q. refl }) (ready.regs r)) ready.kinds.1))
+      (λ r. holds_on g b (advanced g k m rest) b (a.reg r) (a.offset r) (m.register r) (record { stands = λ q. q; address = λ q. refl; size = λ q. refl })
+      (ready.regs r)) ready.kinds.1))
   answers s rest answer h c ready is after places = absurd places
 
 pub serves_ready : ServesReady

@@ -31,8 +31,10 @@ ticks_more (e ∷ es) fs = ap (λ ts. e.tick ∷ ts) (ticks_more es fs)
 part_more : (k : ℕ) (es fs : List Event) → part k (es ++ fs) ≡ part k es ++ part k fs
 part_more k [] fs = refl
 part_more k (e ∷ es) fs = elim (cases_eq k e.by) [
-  | inl same ↦ cond-true (eqb k e.by) _ _ (eq-eqb k e.by same) ∙ ap (λ ts. e.tick ∷ ts) (part_more k es fs) ∙ ap (λ ts. ts ++ part k fs) (sym (cond-true (eqb k e.by) (e.tick ∷ part k es) (part k es) (eq-eqb k e.by same)))
-  | inr other ↦ cond-false (eqb k e.by) _ _ (ne_eqb k e.by other) ∙ part_more k es fs ∙ ap (λ ts. ts ++ part k fs) (sym (cond-false (eqb k e.by) (e.tick ∷ part k es) (part k es) (ne_eqb k e.by other)))
+  | inl same ↦ cond-true (eqb k e.by) _ _ (eq-eqb k e.by same) ∙ ap (λ ts. e.tick ∷ ts) (part_more k es fs) ∙ ap (λ ts. ts ++ part k fs)
+      (sym (cond-true (eqb k e.by) (e.tick ∷ part k es) (part k es) (eq-eqb k e.by same)))
+  | inr other ↦ cond-false (eqb k e.by) _ _ (ne_eqb k e.by other) ∙ part_more k es fs ∙ ap (λ ts. ts ++ part k fs)
+      (sym (cond-false (eqb k e.by) (e.tick ∷ part k es) (part k es) (ne_eqb k e.by other)))
 ]
 
 pub opens_so_far : OpensSoFar
@@ -41,19 +43,24 @@ opens_so_far p lay w g b actors opening = record { opened = w; first = actors; e
 pub goes_so_far : GoesSoFar
 goes_so_far p lay g b w actors k a v so went =
     let mine = by_one k went.ticks in
-    let all : ticks (so.events ++ mine) ≡ ticks so.events ++ went.ticks = ticks_more so.events mine ∙ ap (λ ts. ticks so.events ++ ts) (ticks-own k went.ticks) in
+    let all : ticks (so.events ++ mine) ≡ ticks so.events ++ went.ticks = ticks_more so.events mine ∙ ap (λ ts. ticks so.events ++ ts)
+    (ticks-own k went.ticks) in
     record {
       opened = so.opened;
       first = so.first;
       events = so.events ++ mine;
       opening = so.opening;
-      legal = subst (λ ts. Legal so.opened ts) (sym all) (legal_more so.opened (ticks so.events) went.ticks so.legal (subst (λ x. Legal x went.ticks) (sym so.is) went.legal));
+      legal = subst (λ ts. Legal so.opened ts) (sym all)
+          (legal_more so.opened (ticks so.events) went.ticks so.legal (subst (λ x. Legal x went.ticks) (sym so.is) went.legal));
       is = ap (after so.opened) all ∙ after_more so.opened (ticks so.events) went.ticks ∙ ap (λ x. after x went.ticks) so.is ∙ sym went.after;
       follows = put-all (λ j x. Follows p lay (so.first j) (part j (so.events ++ mine)) x) actors k a
           (subst (λ ts. Follows p lay (so.first k) ts a) (sym (part_more k so.events mine ∙ ap (λ ts. part k so.events ++ ts) (part-own k went.ticks)))
           (follows_more p lay (so.first k) (actors k) a (part k so.events) went.ticks (so.follows k) went.follows))
-          (λ j other. subst (λ ts. Follows p lay (so.first j) ts (actors j)) (sym (part_more j so.events mine ∙ ap (λ ts. part j so.events ++ ts) (part-none j k went.ticks other) ∙ append-nil (part j so.events))) (so.follows j));
+          (λ j other. subst (λ ts. Follows p lay (so.first j) ts (actors j))
+          (sym (part_more j so.events mine ∙ ap (λ ts. part j so.events ++ ts) (part-none j k went.ticks other) ∙ append-nil (part j so.events)))
+          (so.follows j));
     }
 
 pub orders_so_far : OrdersSoFar
-orders_so_far p lay g b w actors so = subst (λ v. IsOneOrder p lay g b so.events v actors) so.is (is_one_order p lay so.opened g b so.events so.first actors so.opening so.legal so.follows)
+orders_so_far p lay g b w actors so = subst (λ v. IsOneOrder p lay g b so.events v actors) so.is
+    (is_one_order p lay so.opened g b so.events so.first actors so.opening so.legal so.follows)

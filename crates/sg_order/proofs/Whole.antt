@@ -22,9 +22,11 @@ use Rattle.sg_order.proofs.Registers.{moves_over, pushes, takes_top, hides_nothi
 use Rattle.sg_order.proofs.Accesses.{puts, puts_number, gets, gets_number}
 use Rattle.sg_order.proofs.Places.{bumps, claims, writes_length, writes_tag}
 
-module _ (p : Program) (lay : Constants) (w : Words) (g : Graph) (b : Book) (said : ℕ → List Answer) (k : ℕ) (owner : ℕ → Owner) (t : Ground p lay w g b owner) where
+module _ (p : Program) (lay : Constants) (w : Words) (g : Graph) (b : Book) (said : ℕ → List Answer) (k : ℕ) (owner : ℕ → Owner)
+    (t : Ground p lay w g b owner) where
   -- one step of a mutator: one line for each rule
-  pub kept : (a : Actor) (e : Step) (d : Bool) (a' : Actor) → Comes p lay a e d a' → Saw w e → Stands p lay w g b said k a → Kept p lay w g b said k a.mid d (after_step w e) a'
+  pub kept : (a : Actor) (e : Step) (d : Bool) (a' : Actor) → Comes p lay a e d a' → Saw w e → Stands p lay w g b said k a →
+      Kept p lay w g b said k a.mid d (after_step w e) a'
   kept _ _ _ _ (test_null a s rest test e z) saw st = nulls p lay w g b said k owner t a rest s test e z st
   kept _ _ _ _ (test_begins a s rest test e z) saw st = begins p lay w g b said k owner t a rest s test e z st
   kept _ _ _ _ (loads_tag a s rest test class) saw st = sees_tag p lay w g b said k owner t a rest s test class saw st
@@ -56,7 +58,8 @@ module _ (p : Program) (lay : Constants) (w : Words) (g : Graph) (b : Book) (sai
   kept _ _ _ _ (stores_tag a s rest x) saw st = writes_tag p lay w g b said k owner t a rest s x st
 
 -- from words w that stand to g and b, a list of events leads to others that stand to the graph and the book after one order
-pub record Explained (p : Program) (lay : Constants) (es : List Event) (w : Words) (g : Graph) (b : Book) (said : ℕ → List Answer) (last : ℕ → Actor) : Type 0 where
+pub record Explained (p : Program) (lay : Constants) (es : List Event) (w : Words) (g : Graph) (b : Book) (said : ℕ → List Answer)
+    (last : ℕ → Actor) : Type 0 where
   pub order : List Said
   pub graph : Graph
   pub book : Book
@@ -67,18 +70,23 @@ pub record Explained (p : Program) (lay : Constants) (es : List Event) (w : Word
   pub order_is : map (λ (s : Said). s.by) order ≡ order_of es
   pub world : World p lay (after w (ticks es)) graph book says last
 
-said_more : (said said1 said2 : ℕ → List Answer) (k : ℕ) (answer : Answer) (order : List Said) → said1 ≡ put said k (said k ++ answer ∷ []) → ((j : ℕ) → said2 j ≡ said1 j ++ answers_of j order) →
+said_more : (said said1 said2 : ℕ → List Answer) (k : ℕ) (answer : Answer) (order : List Said) → said1 ≡ put said k (said k ++ answer ∷ []) →
+    ((j : ℕ) → said2 j ≡ said1 j ++ answers_of j order) →
     (j : ℕ) → said2 j ≡ said j ++ answers_of j (record { by = k; answer = answer } ∷ order)
 said_more said said1 said2 k answer order e f j = elim (cases_eq k j) [
-  | inl q ↦ f j ∙ ap (λ (s : ℕ → List Answer). s j ++ answers_of j order) e ∙ ap (λ xs. xs ++ answers_of j order) (put-at said k (said k ++ answer ∷ []) j (sym q) ∙ ap (λ i. said i ++ answer ∷ []) q)
+  | inl q ↦ f j ∙ ap (λ (s : ℕ → List Answer). s j ++ answers_of j order) e ∙ ap (λ xs. xs ++ answers_of j order)
+      (put-at said k (said k ++ answer ∷ []) j (sym q) ∙ ap (λ i. said i ++ answer ∷ []) q)
       ∙ append_assoc (said j) (answer ∷ []) (answers_of j order) ∙ sym (ap (λ xs. said j ++ xs) (cond-true (eqb k j) _ _ (eq-eqb k j q)))
-  | inr n ↦ f j ∙ ap (λ (s : ℕ → List Answer). s j ++ answers_of j order) e ∙ ap (λ xs. xs ++ answers_of j order) (put-other said k (said k ++ answer ∷ []) j (λ q. n (sym q)))
+  | inr n ↦ f j ∙ ap (λ (s : ℕ → List Answer). s j ++ answers_of j order) e ∙ ap (λ xs. xs ++ answers_of j order)
+      (put-other said k (said k ++ answer ∷ []) j (λ q. n (sym q)))
       ∙ sym (ap (λ xs. said j ++ xs) (cond-false (eqb k j) _ _ (ne_eqb k j n)))
 ]
 
 -- a step that decided a statement or none, and what explains the rest
-more : (p : Program) (lay : Constants) (k : ℕ) (tick : Tick) (es : List Event) (w : Words) (g : Graph) (b : Book) (said : ℕ → List Answer) (last : ℕ → Actor) (h : Graph) (c : Book) (said1 : ℕ → List Answer) →
-    Moves p g b said k tick.decides h c said1 → Explained p lay es (after_step w tick.step) h c said1 last → Explained p lay (record { by = k; tick = tick } ∷ es) w g b said last
+more : (p : Program) (lay : Constants) (k : ℕ) (tick : Tick) (es : List Event) (w : Words) (g : Graph) (b : Book) (said : ℕ → List Answer) (last : ℕ → Actor)
+    (h : Graph) (c : Book) (said1 : ℕ → List Answer) →
+    Moves p g b said k tick.decides h c said1 → Explained p lay es (after_step w tick.step) h c said1 last →
+    Explained p lay (record { by = k; tick = tick } ∷ es) w g b said last
 more p lay k tick es w g b said last h c said1 m x = go tick.decides m
   where
     go : (d : Bool) → Moves p g b said k d h c said1 → Explained p lay (record { by = k; tick = record { step = tick.step; decides = d } } ∷ es) w g b said last
@@ -104,11 +112,14 @@ more p lay k tick es w g b said last h c said1 m x = go tick.decides m
     }
 
 -- after a step each object is headed, or a mutator is about to write its header
-headed_later : (p : Program) (lay : Constants) (w : Words) (g : Graph) (b : Book) (said : ℕ → List Answer) (actors : ℕ → Actor) (k : ℕ) (d : Bool) (v : Words) (a : Actor) →
-    ((n : ℕ) → 1 ≤ n → b.stands n ≡ true → IsHeaded w.word g b n ⊎ ((j : ℕ) × IsHeading (b.address n) (actors j).mid)) → (step : Kept p lay w g b said k (actors k).mid d v a) →
+headed_later : (p : Program) (lay : Constants) (w : Words) (g : Graph) (b : Book) (said : ℕ → List Answer) (actors : ℕ → Actor) (k : ℕ) (d : Bool) (v : Words)
+    (a : Actor) →
+    ((n : ℕ) → 1 ≤ n → b.stands n ≡ true → IsHeaded w.word g b n ⊎ ((j : ℕ) × IsHeading (b.address n) (actors j).mid)) →
+    (step : Kept p lay w g b said k (actors k).mid d v a) →
     (n : ℕ) → 1 ≤ n → step.c.stands n ≡ true → IsHeaded v.word step.h step.c n ⊎ ((j : ℕ) × IsHeading (step.c.address n) (put actors k a j).mid)
 headed_later p lay w g b said actors k d v a before step n l q =
-    let here : IsHeading (step.c.address n) a.mid → IsHeading (step.c.address n) (put actors k a k).mid = λ m. subst (λ (x : Actor). IsHeading (step.c.address n) x.mid) (sym (put-same actors k a)) m in
+    let here : IsHeading (step.c.address n) a.mid →
+    IsHeading (step.c.address n) (put actors k a k).mid = λ m. subst (λ (x : Actor). IsHeading (step.c.address n) x.mid) (sym (put-same actors k a)) m in
     elim (step.heads.begun n q) [
       | inr m ↦ inr (k, here m)
       | inl old ↦ elim (before n l old) [
@@ -117,13 +128,15 @@ headed_later p lay w g b said actors k d v a before step n l q =
           | inl e ↦ elim (step.heads.done n old (subst (λ j. IsHeading (b.address n) (actors j).mid) e m.1)) [ inl h ↦ inl h | inr m ↦ inr (k, here m) ]
           | inr o ↦ inr (
             m.0,
-            subst (λ (x : Actor). IsHeading (step.c.address n) x.mid) (sym (put-other actors k a m.0 o)) (subst (λ x. IsHeading x (actors m.0).mid) (sym (step.later.address n old)) m.1),
+            subst (λ (x : Actor). IsHeading (step.c.address n) x.mid) (sym (put-other actors k a m.0 o))
+                (subst (λ x. IsHeading x (actors m.0).mid) (sym (step.later.address n old)) m.1),
           )
         ]
       ]
     ]
 
-pub one_by_one : (p : Program) (lay : Constants) (es : List Event) (w : Words) (g : Graph) (b : Book) (said : ℕ → List Answer) (actors last : ℕ → Actor) → World p lay w g b said actors → Legal w (ticks es) →
+pub one_by_one : (p : Program) (lay : Constants) (es : List Event) (w : Words) (g : Graph) (b : Book) (said : ℕ → List Answer) (actors last : ℕ → Actor) →
+    World p lay w g b said actors → Legal w (ticks es) →
     ((k : ℕ) → Follows p lay (actors k) (part k es) (last k)) → Explained p lay es w g b said last
 one_by_one p lay [] w g b said actors last wo legal follows = record {
   order = [];
@@ -137,7 +150,11 @@ one_by_one p lay [] w g b said actors last wo legal follows = record {
     owner = wo.owner;
     ground = wo.ground;
     stands = λ k. subst (λ a. Stands p lay w g b said k a) (sym (follows k)) (wo.stands k);
-    headed = λ n l q. elim (wo.headed n l q) [ inl h ↦ inl h | inr m ↦ inr (m.0, subst (λ (a : Actor). IsHeading (b.address n) a.mid) (sym (follows m.0)) m.1) ];
+    headed = λ n l q. elim (wo.headed n l q) [
+      | inl h ↦ inl h
+      | inr m ↦ inr
+          (m.0, subst (λ (a : Actor). IsHeading (b.address n) a.mid) (sym (follows m.0)) m.1)
+    ];
   };
 }
 one_by_one p lay (e ∷ es) w g b said actors last wo legal follows =
@@ -155,4 +172,5 @@ one_by_one p lay (e ∷ es) w g b said actors last wo legal follows =
       headed = headed_later p lay w g b said actors k e.tick.decides (after_step w e.tick.step) a' wo.headed step;
     })
     legal.1
-    (put-all (λ j a. Follows p lay a (part j es) (last j)) actors k a' mine.2 (λ j n. subst (λ q. Follows p lay (actors j) q (last j)) (part-other j e es n) (follows j))))
+    (put-all (λ j a. Follows p lay a (part j es) (last j)) actors k a' mine.2
+    (λ j n. subst (λ q. Follows p lay (actors j) q (last j)) (part-other j e es n) (follows j))))

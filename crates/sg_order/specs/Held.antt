@@ -18,7 +18,8 @@ HeldIsSound = (p : Program) (lay : Constants) (w : Words) (g : Graph) (b : Book)
 -- the mutators enter into nothing of it
 abbrev pub HeldWhoever : Type 0
 HeldWhoever =
-    (p : Program) (lay : Constants) (w : Words) (g : Graph) (b : Book) (mutator : ℕ → Mutator) → IsHeld p lay w g b → IsHeld p lay w (record g { mutator = mutator }) b
+    (p : Program) (lay : Constants) (w : Words) (g : Graph) (b : Book) (mutator : ℕ → Mutator) → IsHeld p lay w g b →
+    IsHeld p lay w (record g { mutator = mutator }) b
 
 -- the object that a statement makes: its class is one of the program's, its number of fields is right, and it is no pair
 pub record MakesSmall (p : Program) (s : Statement) : Type 0 where

@@ -49,7 +49,8 @@ pub record IsSoFar (p : Program) (lay : Constants) (g : Graph) (b : Book) (w : W
 
 -- an epoch's opening is so far
 abbrev pub OpensSoFar : Type 0
-OpensSoFar = (p : Program) (lay : Constants) (w : Words) (g : Graph) (b : Book) (actors : ℕ → Actor) → IsEpochOpening p lay w g b actors → IsSoFar p lay g b w actors
+OpensSoFar = (p : Program) (lay : Constants) (w : Words) (g : Graph) (b : Book) (actors : ℕ → Actor) → IsEpochOpening p lay w g b actors →
+    IsSoFar p lay g b w actors
 
 -- from there the next steps of any one mutator lead on
 abbrev pub GoesSoFar : Type 0
@@ -60,4 +61,5 @@ GoesSoFar =
 -- and what is so far has one order
 abbrev pub OrdersSoFar : Type 0
 OrdersSoFar =
-    (p : Program) (lay : Constants) (g : Graph) (b : Book) (w : Words) (actors : ℕ → Actor) → (so : IsSoFar p lay g b w actors) → IsOneOrder p lay g b so.events w actors
+    (p : Program) (lay : Constants) (g : Graph) (b : Book) (w : Words) (actors : ℕ → Actor) → (so : IsSoFar p lay g b w actors) →
+    IsOneOrder p lay g b so.events w actors

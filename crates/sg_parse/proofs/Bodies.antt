@@ -17,7 +17,7 @@ use Rattle.sg_text.specs.declared.line.Line.TheVariants.{Head, Setting, Class as
 use Rattle.sg_text.specs.Reading.{sentence_of}
 use Rattle.sg_text.specs.Lines.{Maker, made_by, Sentence, Heads, Sets, Declares, Begins, Repeats, Ends, Makes, Says}
 use Rattle.sg_grammar.specs.Text.{AreItems, NoItem, OneSays, OneMakes, NoRepeat, OneRepeat, StandsFor}
-use Rattle.sg_parse.specs.Building.{IsSmall, AreSmall, IsStatement, IsBody}
+use Rattle.sg_parse.specs.Building.{HasSmallNumbers, HaveSmallNumbers, IsStatement, IsBody}
 
 pub same_item : (a b : Item) → out-Item a ≡ out-Item b → a ≡ b
 same_item a b e = sym (roll-out-Item a) ∙ ap roll-Item e ∙ roll-out-Item b
@@ -138,7 +138,7 @@ pub record InBody (classes : List Class) (at : ℕ) (items : List Item) (body : 
 
 abbrev pub IsInBody : List Class → List Sentence → ℕ → List Item → Type 0
 IsInBody classes lines at items =
-    (more body rest : List Sentence) (all : List Item) → AreSmall classes lines → lines ++ more ≡ body ++ Ends ∷ rest → AreItems (StandsFor classes) body all →
+    (more body rest : List Sentence) (all : List Item) → HaveSmallNumbers classes lines → lines ++ more ≡ body ++ Ends ∷ rest → AreItems (StandsFor classes) body all →
     InBody classes at items body all
 
 pub body_first : (classes : List Class) (lines : List Sentence) → IsInBody classes lines 0 []
@@ -154,12 +154,12 @@ get_left [] ys i x e = absurd cc
 get_left (y ∷ xs) ys zero x e = e
 get_left (y ∷ xs) ys (suc i) x e = get_left xs ys i x e
 
-pub small_at : (lines : List Sentence) (i : ℕ) (s : Sentence) → AllByRecursion IsSmall lines → slice_get lines i ≡ Some s → IsSmall s
+pub small_at : (lines : List Sentence) (i : ℕ) (s : Sentence) → AllByRecursion HasSmallNumbers lines → slice_get lines i ≡ Some s → HasSmallNumbers s
 small_at [] i s a e = absurd cc
-small_at (x ∷ xs) zero s a e = let same : x ≡ s = cc in subst IsSmall same a.0
+small_at (x ∷ xs) zero s a e = let same : x ≡ s = cc in subst HasSmallNumbers same a.0
 small_at (x ∷ xs) (suc i) s a e = small_at xs i s a.1 e
 
-pub small_drop : (n : ℕ) (lines : List Sentence) → AllByRecursion IsSmall lines → AllByRecursion IsSmall (drop n lines)
+pub small_drop : (n : ℕ) (lines : List Sentence) → AllByRecursion HasSmallNumbers lines → AllByRecursion HasSmallNumbers (drop n lines)
 small_drop zero lines a = a
 small_drop (suc n) [] a = a
 small_drop (suc n) (x ∷ xs) a = small_drop n xs a.1
@@ -206,7 +206,7 @@ read_one classes at items body all s line statement item p out =
     }
 
 read_more : (classes : List Class) (at : ℕ) (items : List Item) (body : List Sentence) (all : List Item) (s : InBody classes at items body all) (rest tail : List Sentence)
-    (line : Sentence) (statement : Statement) (item : Item) → length classes ≤ 256 → IsSmall line → s.todo ++ Ends ∷ rest ≡ line ∷ tail → IsOther line →
+    (line : Sentence) (statement : Statement) (item : Item) → length classes ≤ 256 → HasSmallNumbers line → s.todo ++ Ends ∷ rest ≡ line ∷ tail → IsOther line →
     IsStatement classes line (Some statement) → out-Item item ≡ One statement → InBody classes (at + 1) (items ++ item ∷ []) body all
 read_more classes at items body all s rest tail Heads statement item few small f other says out = let k = stray Heads rest tail s.rest f in absurd cc
 read_more classes at items body all s rest tail (Sets k n) statement item few small f other says out = let k = stray (Sets k n) rest tail s.rest f in absurd cc
@@ -231,7 +231,7 @@ body_more classes lines at items line statement item inv there other says out = 
     let f = next_line lines more body rest s.done s.todo at line e s.parts s.upto there in
     read_more classes at items body all s rest f.0 line statement item small.0 (small_at lines at line small.1 there) f.1 other says out
 
-no_more : (classes : List Class) (todo : List Sentence) (left : List Item) (rest tail : List Sentence) (line : Sentence) → AreItems (StandsFor classes) todo left → length classes ≤ 256 → IsSmall line →
+no_more : (classes : List Class) (todo : List Sentence) (left : List Item) (rest tail : List Sentence) (line : Sentence) → AreItems (StandsFor classes) todo left → length classes ≤ 256 → HasSmallNumbers line →
     todo ++ Ends ∷ rest ≡ line ∷ tail → IsOther line → IsStatement classes line None → ⊥
 no_more classes todo left rest tail Heads d few small f other says = let k = stray Heads rest tail d f in cc
 no_more classes todo left rest tail (Sets j n) d few small f other says = let k = stray (Sets j n) rest tail d f in cc
@@ -266,10 +266,10 @@ record AtRepeat (classes : List Class) (lines : List Sentence) (at times : ℕ) 
   tail : List Sentence
   parts : Repeated (StandsFor classes) times state.todo state.left rest tail
   inner : drop (at + 1) lines ++ more ≡ parts.body ++ Ends ∷ (parts.behind ++ Ends ∷ rest)
-  small : AreSmall classes (drop (at + 1) lines)
+  small : HaveSmallNumbers classes (drop (at + 1) lines)
 
 at_repeat : (classes : List Class) (lines : List Sentence) (at times : ℕ) (items : List Item) → IsInBody classes lines at items → slice_get lines at ≡ Some (Repeats times) →
-    (more body rest : List Sentence) (all : List Item) → AreSmall classes lines → lines ++ more ≡ body ++ Ends ∷ rest → AreItems (StandsFor classes) body all → AtRepeat classes lines at times items more body rest all
+    (more body rest : List Sentence) (all : List Item) → HaveSmallNumbers classes lines → lines ++ more ≡ body ++ Ends ∷ rest → AreItems (StandsFor classes) body all → AtRepeat classes lines at times items more body rest all
 at_repeat classes lines at times items inv there more body rest all small e d =
     let s = inv more body rest all small e d in
     let f = next_line lines more body rest s.done s.todo at (Repeats times) e s.parts s.upto there in
@@ -335,10 +335,6 @@ repeat_more classes lines at times items b item inv there is some out = λ more 
           r.state.whole ∙ ap (λ x. items ++ x) (q.3 ∙ ap (λ x. x ∷ r.parts.more) same) ∙ sym (append_assoc items (item ∷ []) r.parts.more)
     ])
 
--- a repeat has a number that isn't small
-pub repeat_large : (classes : List Class) (lines : List Sentence) (at times : ℕ) → slice_get lines at ≡ Some (Repeats times) → 1048576 < times → IsBody classes lines None
-repeat_large classes lines at times there large = λ more body rest all small e d. let k = small_at lines at (Repeats times) small.1 there in absurd (omega arith)
-
 -- a line of the code that neither ends a body nor begins a repeat
 pub other_line : (line : Line) → ¬ (line ≡ End) → ((times : ℕ) → ¬ (line ≡ RepeatLine times)) → IsOther (sentence_of line)
 other_line Head e r = tt
@@ -354,6 +350,10 @@ other_line (Do statement) e r = tt
 -- the lines behind a line, as the code takes them
 pub slice_is : {A : Type 0} (xs : List A) (n : ℕ) → take (length xs - n) (drop n xs) ≡ drop n xs
 slice_is xs n = take_all (length xs - n) (drop n xs) (let l = length-drop n xs in let q : length (drop n xs) ≤ length xs - n = omega arith in q)
+
+pub inner_small : (lines : List Line) (at : ℕ) → AllByRecursion HasSmallNumbers (map sentence_of lines) → AllByRecursion HasSmallNumbers (map sentence_of (take (length lines - (at + 1)) (drop (at + 1) lines)))
+inner_small lines at small =
+    subst (AllByRecursion HasSmallNumbers) (sym (ap (map sentence_of) (slice_is lines (at + 1)) ∙ sym (drop-map sentence_of (at + 1) lines))) (small_drop (at + 1) (map sentence_of lines) small)
 
 pub inner_body : (classes : List Class) (lines : List Line) (at : ℕ) (o p : Option Body) → o ≡ p → IsBody classes (map sentence_of (take (length lines - (at + 1)) (drop (at + 1) lines))) o →
     IsBody classes (drop (at + 1) (map sentence_of lines)) p

@@ -16,11 +16,11 @@ use Rattle.sg_parse.specs.declared.scripts.Scripts.{Scripts}
 use Rattle.sg_parse.specs.declared.scripts.Scripts.TheVariants.{Read, Heavy}
 use Rattle.sg_parse.specs.declared.build.Built.TheVariants.{Program as Made, Over, NoMutator}
 use Rattle.sg_text.specs.Lines.{Sentence, Begins}
-use Rattle.sg_grammar.specs.Text.{IsWhole, IsProgram, StandsFor}
+use Rattle.sg_grammar.specs.Text.{IsWholeText, IsProgram, StandsFor}
 use Rattle.sg_parse.specs.Faults.{classes_in, IsMisnamed}
 use Rattle.sg_text.specs.Reading.{sentence_of}
 use Rattle.sg_parse.specs.Indices.{HasNoneIn}
-use Rattle.sg_parse.specs.Building.{IsSmall, AreRead, AreLines, IsToldWithin, IsBuilt, config_of, total_of, finals_of}
+use Rattle.sg_parse.specs.Building.{HasSmallNumbers, AreScriptsRead, AreLines, IsToldWithin, IsBuiltAs, config_of, total_of, finals_of}
 use Rattle.sg_parse.specs.LineLimits.{HasNoLineFault, IsLineFault}
 use Rattle.sg_parse.proofs.NamedProgram.{named_program}
 use Rattle.sg_parse.proofs.BuildEnd.{KeepBelow, above_of, above_plain, scripts_some}
@@ -54,7 +54,7 @@ pub record Situation (lines : List Line) (classes : List Class) (fault : Option 
   pub none : HasNoLineFault (says lines) end
   pub low : start ≤ end
   pub begun : Started (above_of is) is.scripts end start (says (take (end - start) (drop start lines)))
-  pub small : AllByRecursion IsSmall (says (take (end - start) (drop start lines)))
+  pub small : AllByRecursion HasSmallNumbers (says (take (end - start) (drop start lines)))
 
 part_is : (lines : List Line) (end start : ℕ) → take (end - start) (drop start (says lines)) ≡ says (take (end - start) (drop start lines))
 part_is lines end start = ap (take (end - start)) (drop-map sentence_of start lines) ∙ take-map sentence_of (end - start) (drop start lines)
@@ -62,7 +62,7 @@ part_is lines end start = ap (take (end - start)) (drop-map sentence_of start li
 some_or : {lines : List Sentence} {p : Program} (is : IsProgram (StandsFor p.classes) lines p) → ((is.scripts ≡ []) ⊎ ((tail : List Sentence) × (is.scripts ≡ Begins ∷ tail)))
 some_or {p = p} is = elim (scripts_some (StandsFor p.classes) is.scripts p.mutators is.are_scripts) [ inl n ↦ inl n.1 | inr t ↦ inr t ]
 
-pub situation : (lines : List Line) (classes : List Class) (fault : Option (ℕ × Which)) (end start : ℕ) → IsWhole (says lines) → HasNoneIn IsMisnamed (says lines) → classes ≡ classes_in (says lines) →
+pub situation : (lines : List Line) (classes : List Class) (fault : Option (ℕ × Which)) (end start : ℕ) → IsWholeText (says lines) → HasNoneIn IsMisnamed (says lines) → classes ≡ classes_in (says lines) →
     IsLineFault (says lines) fault → EndOf lines fault end → start ≤ length (take end lines) → ((j : ℕ) → j < start → ¬ (slice_get (says (take end lines)) j ≡ Some Begins)) →
     (start < length (take end lines) → slice_get (says (take end lines)) start ≡ Some Begins) → Situation lines classes fault end start
 situation lines classes fault end start whole named names f e low above here =
@@ -87,14 +87,21 @@ situation lines classes fault end start whole named names f e low above here =
       none = none;
       low = low_is;
       begun = subst (Started (above_of is) is.scripts end start) (part_is lines end start) s;
-      small = subst (AllByRecursion IsSmall) (part_is lines end start) (smalls (says lines) end start none low_is);
+      small = subst (AllByRecursion HasSmallNumbers) (part_is lines end start) (smalls (says lines) end start none low_is);
     }
+
+-- there are few enough classes, where a script is read
+pub few_where_read : (lines : List Line) (classes : List Class) (fault : Option (ℕ × Which)) (end start : ℕ) → Situation lines classes fault end start → 0 < length (take (end - start) (drop start lines)) → length classes ≤ 256
+few_where_read lines classes fault end start s some =
+    let l = length-map (take (end - start) (drop start lines)) sentence_of in
+    let few = few_started (says lines) s.program s.is end start (says (take (end - start) (drop start lines))) s.begun s.within s.none (omega arith) in
+    let few0 = few.0 in let same = ap length s.same in omega arith
 
 -- a script breaks a limit
 pub answer_heavy : (law : HaveOneProgram) → (lines : List Line) (classes : List Class) (fault : Option (ℕ × Which)) (end start : ℕ) (s : Situation lines classes fault end start) (o : Scripts) (index : ℕ) (which : Which) → o ≡ Heavy index which →
-    AreRead classes (says (take (end - start) (drop start lines))) o → IsToldWithin (length (take (end - start) (drop start lines))) o → IsBuilt (says lines) (Over (start + index) which)
+    AreScriptsRead classes (says (take (end - start) (drop start lines))) o → IsToldWithin (length (take (end - start) (drop start lines))) o → IsBuiltAs (says lines) (Over (start + index) which)
 answer_heavy law lines classes fault end start s o index which e read told =
-    let read1 : AreRead classes (says (take (end - start) (drop start lines))) (Heavy index which) = subst (AreRead classes (says (take (end - start) (drop start lines)))) e read in
+    let read1 : AreScriptsRead classes (says (take (end - start) (drop start lines))) (Heavy index which) = subst (AreScriptsRead classes (says (take (end - start) (drop start lines)))) e read in
     let told1 : index < length (take (end - start) (drop start lines)) = subst (IsToldWithin (length (take (end - start) (drop start lines)))) e told in
     let l = length-map (take (end - start) (drop start lines)) sentence_of in
     let few = few_started (says lines) s.program s.is end start (says (take (end - start) (drop start lines))) s.begun s.within s.none (omega arith) in
@@ -110,9 +117,9 @@ index_fits lines end start o index which e told low within =
 
 -- a line breaks a limit
 pub answer_fault : (law : HaveOneProgram) → (lines : List Line) (classes : List Class) (fault : Option (ℕ × Which)) (end start : ℕ) (s : Situation lines classes fault end start) (o : Scripts) (scripts : List Script) (index : ℕ) (which : Which) → o ≡ Read scripts →
-    AreRead classes (says (take (end - start) (drop start lines))) o → fault ≡ Some (index, which) → IsBuilt (says lines) (Over index which)
+    AreScriptsRead classes (says (take (end - start) (drop start lines))) o → fault ≡ Some (index, which) → IsBuiltAs (says lines) (Over index which)
 answer_fault law lines classes fault end start s o scripts index which e read f =
-    let read1 : AreRead classes (says (take (end - start) (drop start lines))) (Read scripts) = subst (AreRead classes (says (take (end - start) (drop start lines)))) e read in
+    let read1 : AreScriptsRead classes (says (take (end - start) (drop start lines))) (Read scripts) = subst (AreScriptsRead classes (says (take (end - start) (drop start lines)))) e read in
     let keep = keep_read law (says lines) s.program s.is classes end start (says (take (end - start) (drop start lines))) scripts s.same s.begun s.within s.none s.small read1 in
     let at : end ≡ index = subst (λ x. EndOf lines x end) f s.end_is in
     fault_over (says lines) index which (subst (IsLineFault (says lines)) f s.fault_is) (subst (KeepBelow (says lines)) at keep)
@@ -128,9 +135,9 @@ pub record Fine (lines : List Line) (classes : List Class) (end start : ℕ) (sc
   pub finals : finals_of scripts ≤ 1024
 
 pub fine : (law : HaveOneProgram) → (lines : List Line) (classes : List Class) (fault : Option (ℕ × Which)) (end start : ℕ) (s : Situation lines classes fault end start) (o : Scripts) (scripts : List Script) → o ≡ Read scripts →
-    AreRead classes (says (take (end - start) (drop start lines))) o → fault ≡ None → Fine lines classes end start scripts
+    AreScriptsRead classes (says (take (end - start) (drop start lines))) o → fault ≡ None → Fine lines classes end start scripts
 fine law lines classes fault end start s o scripts e read f =
-    let read1 : AreRead classes (says (take (end - start) (drop start lines))) (Read scripts) = subst (AreRead classes (says (take (end - start) (drop start lines)))) e read in
+    let read1 : AreScriptsRead classes (says (take (end - start) (drop start lines))) (Read scripts) = subst (AreScriptsRead classes (says (take (end - start) (drop start lines)))) e read in
     let at : end ≡ length lines = subst (λ x. EndOf lines x end) f s.end_is in
     let last : end ≡ length (says lines) = at ∙ sym (length-map lines sentence_of) in
     let none : HasNoLineFault (says lines) (length (says lines)) = subst (HasNoLineFault (says lines)) last s.none in
@@ -148,9 +155,9 @@ fine law lines classes fault end start s o scripts e read f =
       finals = r.1.finals;
     }
 
-pub answer_none : (lines : List Line) (classes : List Class) (end start : ℕ) (scripts : List Script) → Fine lines classes end start scripts → scripts ≡ [] → IsBuilt (says lines) NoMutator
+pub answer_none : (lines : List Line) (classes : List Class) (end start : ℕ) (scripts : List Script) → Fine lines classes end start scripts → scripts ≡ [] → IsBuiltAs (says lines) NoMutator
 answer_none lines classes end start scripts f e = no_mutator (says lines) f.program f.is (f.mutators ∙ e) f.none f.keep
 
 pub answer_made : (law : HaveOneProgram) → (unfolds : ItemsUnfold) → (lines : List Line) (classes : List Class) (end start : ℕ) (scripts : List Script) (config : Config) (declared : List Class) → Fine lines classes end start scripts → HasNoneIn IsMisnamed (says lines) → AreLines (says lines) →
-    config ≡ config_of (says lines) → declared ≡ classes_in (says lines) → scripts ≢ [] → IsBuilt (says lines) (Made (record { config = config; classes = declared; mutators = scripts }))
+    config ≡ config_of (says lines) → declared ≡ classes_in (says lines) → scripts ≢ [] → IsBuiltAs (says lines) (Made (record { config = config; classes = declared; mutators = scripts }))
 answer_made law unfolds lines classes end start scripts config declared f named said e g some = made law unfolds (says lines) f.program f.is config declared scripts named said e g f.mutators some f.none f.keep f.statements f.finals

@@ -15,7 +15,7 @@ use Rattle.sg_parse.specs.declared.scripts.Scripts.TheVariants.{Read, Heavy}
 use Rattle.sg_text.specs.Lines.{Sentence, Heads, Begins}
 use Rattle.sg_grammar.specs.Text.{AreScripts, IsProgram, StandsFor}
 use Rattle.sg_parse.specs.Faults.{classes_in, class_in, is_ending, Breaks, BreaksSome}
-use Rattle.sg_parse.specs.Building.{IsSmall, AreFront, IsHeavy, AreRead}
+use Rattle.sg_parse.specs.Building.{HasSmallNumbers, AreFront, IsHeavy, AreScriptsRead}
 use Rattle.sg_parse.specs.LineLimits.{HasNoLineFault}
 use Rattle.sg_parse.proofs.LineBreaks.{line_small, class_room, none_broken, is_counted_or}
 use Rattle.sg_parse.proofs.LineFaults.{take_next, classes-push}
@@ -66,13 +66,13 @@ few_classes lines (suc n) l none =
     let longer = ap (λ x. length (classes_in x)) whole ∙ ap length (classes-push (take n lines) (get_or lines n Heads)) ∙ length-append (classes_in (take n lines)) (class_in (get_or lines n Heads)) in
     omega arith
 
-pub smalls : (lines : List Sentence) (end start : ℕ) → HasNoLineFault lines end → start ≤ end → AllByRecursion IsSmall (take (end - start) (drop start lines))
-smalls lines end start none l = all_at IsSmall (take (end - start) (drop start lines))
+pub smalls : (lines : List Sentence) (end start : ℕ) → HasNoLineFault lines end → start ≤ end → AllByRecursion HasSmallNumbers (take (end - start) (drop start lines))
+smalls lines end start none l = all_at HasSmallNumbers (take (end - start) (drop start lines))
     (λ i x at. let t = get_take (drop start lines) (end - start) i x at in let d = get_drop lines start i x t.1 in let t0 = t.0 in
     line_small (take (start + i) lines) x (none (start + i) x (omega arith) d))
 
-pub all_small : (lines : List Sentence) → HasNoLineFault lines (length lines) → AllByRecursion IsSmall lines
-all_small lines none = all_at IsSmall lines (λ i x at. line_small (take i lines) x (none i x (slice_get_within lines i x at) at))
+pub all_small : (lines : List Sentence) → HasNoLineFault lines (length lines) → AllByRecursion HasSmallNumbers lines
+all_small lines none = all_at HasSmallNumbers lines (λ i x at. line_small (take i lines) x (none i x (slice_get_within lines i x at) at))
 
 -- a line breaks no limit where there is no fault of lines and nothing counted is too much
 pub none_breaks : (lines : List Sentence) (n : ℕ) → HasNoLineFault lines n → KeepBelow lines n → (j : ℕ) (line : Sentence) → j < n → slice_get lines j ≡ Some line → ¬ BreaksSome (take j lines) line
@@ -141,21 +141,21 @@ few_of lines p is end within l none =
     let k = ap (λ x. length (classes_in x)) whole in let k1 = ap length (above_classes is) in omega arith
 
 pub front_read : (lines : List Sentence) (p : Program) (is : IsProgram (StandsFor p.classes) lines p) (classes : List Class) (found : List Sentence) (scripts : List Script) (more : List Sentence) → classes ≡ p.classes →
-    found ++ more ≡ is.scripts → length p.classes ≤ 256 → AllByRecursion IsSmall found → AreRead classes found (Read scripts) → AreFront p.classes is.scripts p.mutators scripts (length found)
+    found ++ more ≡ is.scripts → length p.classes ≤ 256 → AllByRecursion HasSmallNumbers found → AreScriptsRead classes found (Read scripts) → AreFront p.classes is.scripts p.mutators scripts (length found)
 front_read lines p is classes found scripts more same parts few small read =
-    let read1 : AreRead p.classes found (Read scripts) = subst (λ cs. AreRead cs found (Read scripts)) same read in
+    let read1 : AreScriptsRead p.classes found (Read scripts) = subst (λ cs. AreScriptsRead cs found (Read scripts)) same read in
     subst (λ l. AreFront p.classes l p.mutators scripts (length found)) parts
     (read1 more p.mutators (few, small) (subst (λ l. AreScripts (StandsFor p.classes) l p.mutators) (sym parts) is.are_scripts))
 
 pub heavy_read : (lines : List Sentence) (p : Program) (is : IsProgram (StandsFor p.classes) lines p) (classes : List Class) (found : List Sentence) (index : ℕ) (which : Which) (more : List Sentence) → classes ≡ p.classes →
-    found ++ more ≡ is.scripts → length p.classes ≤ 256 → AllByRecursion IsSmall found → AreRead classes found (Heavy index which) → IsHeavy p.classes is.scripts p.mutators index which
+    found ++ more ≡ is.scripts → length p.classes ≤ 256 → AllByRecursion HasSmallNumbers found → AreScriptsRead classes found (Heavy index which) → IsHeavy p.classes is.scripts p.mutators index which
 heavy_read lines p is classes found index which more same parts few small read =
-    let read1 : AreRead p.classes found (Heavy index which) = subst (λ cs. AreRead cs found (Heavy index which)) same read in
+    let read1 : AreScriptsRead p.classes found (Heavy index which) = subst (λ cs. AreScriptsRead cs found (Heavy index which)) same read in
     subst (λ l. IsHeavy p.classes l p.mutators index which) parts
     (read1 more p.mutators (few, small) (subst (λ l. AreScripts (StandsFor p.classes) l p.mutators) (sym parts) is.are_scripts)).1
 
 pub keep_read : (law : HaveOneProgram) → (lines : List Sentence) (p : Program) (is : IsProgram (StandsFor p.classes) lines p) (classes : List Class) (end start : ℕ) (found : List Sentence) (scripts : List Script) → classes ≡ p.classes →
-    Started (above_of is) is.scripts end start found → end ≤ length lines → HasNoLineFault lines end → AllByRecursion IsSmall found → AreRead classes found (Read scripts) → KeepBelow lines end
+    Started (above_of is) is.scripts end start found → end ≤ length lines → HasNoLineFault lines end → AllByRecursion HasSmallNumbers found → AreScriptsRead classes found (Read scripts) → KeepBelow lines end
 keep_read law lines p is classes end start found scripts same s within none small read = elim s.place [
   | inl at ↦
       let a0 = at.0 in let a1 = at.1 in let a2 = at.2 in

@@ -19,7 +19,7 @@ use Rattle.sg_text.specs.Lines.{Sentence, Begins, Repeats, Ends, Says, Makes}
 use Rattle.sg_grammar.specs.Text.{AreItems, NoItem, OneSays, OneMakes, NoRepeat, OneRepeat, AreScripts, IsProgram, StandsFor}
 use Rattle.sg_parse.specs.Faults.{classes_in, is_opening, is_ending, open_behind, BreaksFirst, BreaksSome, IsMisnamed}
 use Rattle.sg_parse.specs.Indices.{HasNoneIn}
-use Rattle.sg_parse.specs.Building.{IsSmall, AreFront, IsHeavy, IsTooMuch, AreRead, AreLines, IsBuilt, config_of, total_of, finals_of}
+use Rattle.sg_parse.specs.Building.{HasSmallNumbers, AreFront, IsHeavy, IsTooMuch, AreScriptsRead, AreLines, IsBuiltAs, config_of, total_of, finals_of}
 use Rattle.sg_parse.specs.LineLimits.{HasNoLineFault, IsLineFault}
 use Rattle.sg_grammar.specs.Laws.{HaveOneProgram}
 use Rattle.sg_program.specs.Laws.{ItemsUnfold}
@@ -122,17 +122,17 @@ heavy_breaks law lines p is index which h =
 
 -- ---- what the building answers
 
-pub fault_over : (lines : List Sentence) (end : ℕ) (which : Which) → IsLineFault lines (Some (end, which)) → KeepBelow lines end → IsBuilt lines (Over end which)
+pub fault_over : (lines : List Sentence) (end : ℕ) (which : Which) → IsLineFault lines (Some (end, which)) → KeepBelow lines end → IsBuiltAs lines (Over end which)
 fault_over lines end which f keep =
     let line = f.0.0 in
     let first = found_broken (take end lines) f.0.0 which f.0.2 in
     (((f.0.0, f.0.1, (which, first.0)), λ j other below at. none_breaks lines end f.1 keep j other below at), (f.0.0, f.0.1, first))
 
 pub heavy_over : (law : HaveOneProgram) → (lines : List Sentence) (p : Program) (is : IsProgram (StandsFor p.classes) lines p) (end start index : ℕ) (which : Which) → HasNoLineFault lines end → start ≡ length (above_of is) → start + index ≤ end →
-    IsHeavy p.classes is.scripts p.mutators index which → IsBuilt lines (Over (start + index) which)
+    IsHeavy p.classes is.scripts p.mutators index which → IsBuiltAs lines (Over (start + index) which)
 heavy_over law lines p is end start index which none begin within h =
     let same : start + index ≡ length (above_of is) + index = ap (λ n. n + index) begin in
-    subst (λ n. IsBuilt lines (Over n which)) (sym same)
+    subst (λ n. IsBuiltAs lines (Over n which)) (sym same)
     (let b = heavy_breaks law lines p is index which h in
     let keep = keep_front law lines p is h.scripts index h.front in
     let fine = no_fault_below lines (length (above_of is) + index) end (omega arith) none in
@@ -146,7 +146,7 @@ no_left names done todo (x ∷ left) until d next l =
 
 -- without a fault of lines all scripts are read
 pub all_read : (lines : List Sentence) (p : Program) (is : IsProgram (StandsFor p.classes) lines p) (classes : List Class) (start : ℕ) (found : List Sentence) (scripts : List Script) → classes ≡ p.classes →
-    Started (above_of is) is.scripts (length lines) start found → HasNoLineFault lines (length lines) → AllByRecursion IsSmall found → AreRead classes found (Read scripts) → (p.mutators ≡ scripts) × AreFront p.classes is.scripts p.mutators scripts (length found)
+    Started (above_of is) is.scripts (length lines) start found → HasNoLineFault lines (length lines) → AllByRecursion HasSmallNumbers found → AreScriptsRead classes found (Read scripts) → (p.mutators ≡ scripts) × AreFront p.classes is.scripts p.mutators scripts (length found)
 all_read lines p is classes start found scripts same s none small read =
     let few = few_all lines p is none in
     let front = front_read lines p is classes found scripts s.more same s.parts few small read in
@@ -169,7 +169,7 @@ keep_all law lines p is scripts until front same l =
     let k = ap length is.in_order in let k1 = length-append (above_of is) is.scripts in
     λ j line below there ends q of. keep j line (omega arith) there ends q of
 
-pub no_mutator : (lines : List Sentence) (p : Program) (is : IsProgram (StandsFor p.classes) lines p) → p.mutators ≡ [] → HasNoLineFault lines (length lines) → KeepBelow lines (length lines) → IsBuilt lines NoMutator
+pub no_mutator : (lines : List Sentence) (p : Program) (is : IsProgram (StandsFor p.classes) lines p) → p.mutators ≡ [] → HasNoLineFault lines (length lines) → KeepBelow lines (length lines) → IsBuiltAs lines NoMutator
 no_mutator lines p is empty none keep =
     let nothing : is.scripts ≡ [] = subst (λ m. AreScripts (StandsFor p.classes) is.scripts m) empty is.are_scripts in
     let whole : lines ≡ above_of is ++ [] = is.in_order ∙ ap (λ s. above_of is ++ s) nothing in (
@@ -186,7 +186,7 @@ not_none (x ∷ scripts) n = omega arith
 
 pub made : (law : HaveOneProgram) → (unfolds : ItemsUnfold) → (lines : List Sentence) (p : Program) (is : IsProgram (StandsFor p.classes) lines p) (config : Config) (classes : List Class) (mutators : List Script) → HasNoneIn IsMisnamed lines → AreLines lines →
     config ≡ config_of lines → classes ≡ classes_in lines → p.mutators ≡ mutators → mutators ≢ [] → HasNoLineFault lines (length lines) → KeepBelow lines (length lines) → total_of mutators ≤ 1048576 → finals_of mutators ≤ 1024 →
-    IsBuilt lines (Made (record { config = config; classes = classes; mutators = mutators }))
+    IsBuiltAs lines (Made (record { config = config; classes = classes; mutators = mutators }))
 made law unfolds lines p is config classes mutators named said e f g some none keep statements finals =
     let same_config : p.config ≡ config = sym (e ∙ config_is (StandsFor p.classes) lines p is) in
     let same_classes : p.classes ≡ classes = classes_are (StandsFor p.classes) lines p is ∙ sym f in
@@ -199,5 +199,5 @@ made law unfolds lines p is config classes mutators named said e f g some none k
       | inr b ↦ (length (above_of is), ap (λ x. slice_get x (length (above_of is))) (is.in_order ∙ ap (λ s. above_of is ++ s) b.1) ∙ get_seam (above_of is) b.0 Begins)
     ] in
     let least : 1 ≤ length mutators = not_none mutators some in
-    subst (λ (x : Program). IsBuilt lines (Made x)) same
+    subst (λ (x : Program). IsBuiltAs lines (Made x)) same
     (is, none_broken, within_limits law unfolds lines p is none_broken named said (omega arith) (omega arith) (omega arith), begin)

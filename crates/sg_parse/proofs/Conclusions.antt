@@ -1,5 +1,5 @@
 -- From the sentences of a text to what it reads as, and to its first fault.
-use Rattle.std.proofs.Common.{◌≡◌, ◌≢◌, ℕ, zero, suc, ◌<◌, ◌≤◌, ◌⊎◌, Some, List, [], ◌∷◌, length, take, slice_get, inl, inr, refl, sym, ap, ◌∙◌, subst, arith}
+use Rattle.std.proofs.Common.{◌≡◌, ◌≢◌, ℕ, suc, ◌<◌, ◌≤◌, Some, List, [], ◌∷◌, length, take, slice_get, inl, inr, refl, sym, ap, ◌∙◌, subst, arith}
 use Rattle.std.specs.Prelude.{Result, Ok, Err, IfOk, IfErr}
 use Rattle.std.specs.List.{AllByRecursion}
 use Rattle.sg_program.specs.declared.program.Program.{Program}
@@ -8,10 +8,10 @@ use Rattle.sg_program.specs.Laws.{ItemsUnfold}
 use Rattle.sg_program.specs.Invariants.{IsWithinLimits}
 use Rattle.sg_text.specs.Words.{lines_of}
 use Rattle.sg_text.specs.Lines.{Sentence, Begins}
-use Rattle.sg_text.specs.Numbered.{Numbered, sentences, SayBelow, Say}
+use Rattle.sg_text.specs.Numbered.{Numbered, sentences, SayBelow}
 use Rattle.sg_text.specs.Reading.{numbered, AreRead}
 use Rattle.sg_text.specs.Laws.{HaveOneSaying}
-use Rattle.sg_grammar.specs.Text.{IsProgram, IsWhole, IsTextOf, StandsFor, HasOneReading}
+use Rattle.sg_grammar.specs.Text.{IsProgram, IsWholeText, IsTextOf, StandsFor, HasOneReading}
 use Rattle.sg_parse.specs.declared.refusal.Refusal.{Refusal}
 use Rattle.sg_parse.specs.declared.refusal.Refusal.TheVariants.{Class, Limit, Later, Memory}
 use Rattle.sg_parse.specs.declared.refusal.Which.{Which}
@@ -38,12 +38,12 @@ said_below above (line ∷ lines) found (p, inr (one, rest, is, e, s)) =
 pub said_each : (lines : List (List ℕ)) (numbers : List ℕ) (said : List Sentence) → AreRead lines numbers said → AllByRecursion IsSaid said
 said_each lines numbers said read = subst (AllByRecursion IsSaid) (sentences_numbered numbers said read.as_many) (said_below 0 lines (numbered numbers said) read.say)
 
-module _ (bytes numbers : List ℕ) (s : List Sentence) (short : length bytes ≤ most_bytes) (read : AreRead (lines_of bytes) numbers s) (whole : IsWhole s) where
+module _ (bytes numbers : List ℕ) (s : List Sentence) (short : length bytes ≤ most_bytes) (read : AreRead (lines_of bytes) numbers s) (whole : IsWholeText s) where
   abbrev found : List Numbered
   found = numbered numbers s
 
   text : IsTextOf (lines_of bytes) found
-  text = (read.say, subst IsWhole (sym (sentences_numbered numbers s read.as_many)) whole)
+  text = (read.say, subst IsWholeText (sym (sentences_numbered numbers s read.as_many)) whole)
 
   -- what stands before a sentence, with numbers and without
   before : (Fault : List Sentence → Sentence → Type 0) (i : ℕ) (line : Sentence) → Fault (sentences (take i found)) line → Fault (take i s) line
@@ -80,12 +80,19 @@ module _ (bytes numbers : List ℕ) (s : List Sentence) (short : length bytes �
     pub no-mutator : (count : ℕ) → count ≡ length (lines_of bytes) → HasNoneIn BreaksSome s → ((j : ℕ) → ¬ (slice_get s j ≡ Some Begins)) → IsRefusedBy bytes (Limit count Mutators)
     no-mutator count counted none nobody = (
       short,
-      (found, text, (well-named, inr (
-        none-at-all BreaksSome none,
-        (λ k one there begins. nobody k (sentence_numbered numbers s k one there ∙ ap (λ (l : Sentence). Some l) begins)),
-        counted,
-        refl,
-      ))),
+      (
+        found,
+        text,
+        (
+          well-named,
+          inr (
+            none-at-all BreaksSome none,
+            (λ k one there begins. nobody k (sentence_numbered numbers s k one there ∙ ap (λ (l : Sentence). Some l) begins)),
+            counted,
+            refl,
+          ),
+        ),
+      ),
     )
 
     module _ (none : HasNoneIn BreaksSome s) (mutator : (j : ℕ) × (slice_get s j ≡ Some Begins)) where

@@ -1,15 +1,14 @@
 -- From what lines say to which line is refused first.
-use Rattle.std.proofs.Common.{◌≡◌, ℕ, zero, suc, ◌+◌, ◌<◌, ◌≤◌, true, false, Some, None, IsTrue, List, [], ◌∷◌, ◌++◌, length, take, drop, map, slice_get, codes, inl, inr, refl, sym, ap, ◌∙◌, subst, arith}
+use Rattle.std.proofs.Common.{◌≡◌, ℕ, zero, suc, ◌+◌, ◌<◌, true, false, Some, List, [], ◌∷◌, ◌++◌, length, take, slice_get, codes, inl, inr, refl, sym, ap, ◌∙◌, subst, arith}
 use Rattle.std.proofs.lemmas.List.{map-append, length-take, take-take}
 use Rattle.std.proofs.lemmas.Option.{none-some, same_Some}
 use Rattle.sg_program.specs.Scripts.{repeated}
-use Rattle.sg_program.specs.declared.program.Program.{Program}
-use Rattle.sg_text.specs.Words.{is_proper, words_of, is_empty}
-use Rattle.sg_text.specs.Lines.{Sentence, Heads, Ends, IsLine}
+use Rattle.sg_text.specs.Words.{is_empty}
+use Rattle.sg_text.specs.Lines.{Sentence, Heads, Ends}
 use Rattle.sg_text.specs.Numbered.{Numbered, sentences, SayBelow, Say}
 use Rattle.sg_text.specs.Reading.{IsNoLine}
 use Rattle.sg_text.specs.Laws.{HaveOneSaying}
-use Rattle.sg_grammar.specs.Text.{IsProgram, IsAnyName, defaults, IsWhole, IsPrefix, CanGoOn, IsText, MayGoOn, IsFirstRefused}
+use Rattle.sg_grammar.specs.Text.{defaults, IsWholeText, IsPrefix, CanGoOn, IsText, MayGoOn, IsFirstRefused}
 
 abbrev pub at : ℕ → Sentence → Numbered
 at number sentence = record { number = number; sentence = sentence }
@@ -45,7 +44,7 @@ unfolding ends_at
 ends_are above zero = refl
 ends_are above (suc n) = ap (λ (l : List Sentence). Ends ∷ l) (ends_are (suc above) n)
 
-bare_head : IsWhole (Heads ∷ [])
+bare_head : IsWholeText (Heads ∷ [])
 bare_head = (
   record { config = defaults; classes = []; mutators = [] },
   record {
@@ -116,23 +115,23 @@ module _ (law : HaveOneSaying) where
   pub may_go_on : (lines : List (List ℕ)) (found : List Numbered) → Say lines found → IsPrefix (sentences found) → MayGoOn lines
   may_go_on lines found say (inl none) =
       let head = at (suc (length lines)) Heads in
-      let whole : IsWhole (sentences (found ++ head ∷ [])) = subst IsWhole (sym (sentences-append found (head ∷ []) ∙ ap (λ (l : List Sentence). l ++ Heads ∷ []) none)) bare_head in
+      let whole : IsWholeText (sentences (found ++ head ∷ [])) = subst IsWholeText (sym (sentences-append found (head ∷ []) ∙ ap (λ (l : List Sentence). l ++ Heads ∷ []) none)) bare_head in
       (codes "sgen 1" ∷ [], (found ++ head ∷ [], (law.append lines (codes "sgen 1" ∷ []) found (head ∷ []) say (refl, inr (Heads, [], refl, refl, refl)), whole)))
   may_go_on lines found say (inr (n, whole)) =
       let ends = ends_at (length lines) n in
       let same : sentences (found ++ ends) ≡ sentences found ++ repeated n (Ends ∷ []) = sentences-append found ends ∙ ap (λ (l : List Sentence). sentences found ++ l) (ends_are (length lines) n) in
-      (repeated n (codes "end" ∷ []), (found ++ ends, (law.append lines (repeated n (codes "end" ∷ [])) found ends say (ends_say (length lines) n), subst IsWhole (sym same) whole)))
+      (repeated n (codes "end" ∷ []), (found ++ ends, (law.append lines (repeated n (codes "end" ∷ [])) found ends say (ends_say (length lines) n), subst IsWholeText (sym same) whole)))
 
   -- lines that say what is no text are no text
-  not_text : (lines : List (List ℕ)) (found : List Numbered) → Say lines found → ¬ IsWhole (sentences found) → ¬ IsText lines
-  not_text lines found say bad (other, (said, whole)) = bad (subst (λ (l : List Numbered). IsWhole (sentences l)) (law.one lines other found said say) whole)
+  not_text : (lines : List (List ℕ)) (found : List Numbered) → Say lines found → ¬ IsWholeText (sentences found) → ¬ IsText lines
+  not_text lines found say bad (other, (said, whole)) = bad (subst (λ (l : List Numbered). IsWholeText (sentences l)) (law.one lines other found said say) whole)
 
   -- lines that say what no text begins with are no prefix of a text
   no_prefix : (lines : List (List ℕ)) (found : List Numbered) → Say lines found → ¬ CanGoOn (sentences found) → ¬ MayGoOn lines
   no_prefix lines found say bad (more, (other, (said, whole))) =
       let parts = split_below 0 lines more other said in
       let same : parts.0 ≡ found = law.one lines parts.0 found parts.3 say in
-      bad (sentences parts.1, subst IsWhole (ap (λ (l : List Numbered). sentences l) parts.2 ∙ sentences-append parts.0 parts.1 ∙ ap (λ (l : List Numbered). sentences l ++ sentences parts.1) same) whole)
+      bad (sentences parts.1, subst IsWholeText (ap (λ (l : List Numbered). sentences l) parts.2 ∙ sentences-append parts.0 parts.1 ∙ ap (λ (l : List Numbered). sentences l ++ sentences parts.1) same) whole)
 
   -- the sentence with which the beginning of a text ends is on the first line that the grammar refuses
   pub refused_misplaced : (lines : List (List ℕ)) (found : List Numbered) (i : ℕ) (one : Numbered) → Say lines found → slice_get found i ≡ Some one →
@@ -174,5 +173,5 @@ module _ (law : HaveOneSaying) where
             no_line (0 + length (take m lines)) line last.1 none last.4),
       )
 
-  pub refused_end : (lines : List (List ℕ)) (found : List Numbered) → Say lines found → IsPrefix (sentences found) → ¬ IsWhole (sentences found) → IsFirstRefused lines (length lines)
+  pub refused_end : (lines : List (List ℕ)) (found : List Numbered) → Say lines found → IsPrefix (sentences found) → ¬ IsWholeText (sentences found) → IsFirstRefused lines (length lines)
   refused_end lines found say prefix bad = inr (refl, may_go_on lines found say prefix, not_text lines found say bad)

@@ -12,7 +12,7 @@ use Rattle.sg_text.specs.declared.line.Line.{Line}
 use Rattle.sg_text.specs.Lines.{Maker, AsNew, AsVector, AsMature, Sentence, Heads, Sets, Declares, Begins, Repeats, Ends, Makes, Says}
 use Rattle.sg_grammar.specs.Text.{IsClassName, StandsFor}
 use Rattle.sg_parse.specs.Faults.{class_in, classes_in, is_begin, wants_vector, IsFit, IsMisnamed, IsPairClass, IsLater, Another, GlobalPut, GlobalGet, Old, Major, Told, Wide, LinkSet, LinkGet, Registers, Ready, PairOf}
-use Rattle.sg_parse.specs.Names.{AreDistinct, IsMadeLater, IsDoneLater, IsLaterBy}
+use Rattle.sg_parse.specs.Names.{HaveOwnNames, IsMadeLater, IsDoneLater, IsLaterBy}
 use Rattle.sg_text.specs.Reading.{sentence_of}
 use Rattle.sg_parse.specs.Indices.{HasNoneIn, IsFirstIn}
 use Rattle.sg_parse.proofs.Naming.{class_name, name_of_class}
@@ -36,7 +36,7 @@ get_front (x ∷ xs) ys y (suc i) e = get_front xs ys y i e
 abbrev names : List Class → List (List ℕ)
 names classes = map (λ (class : Class). class.name) classes
 
-distinct_push : (cs : List Class) (c : Class) → AreDistinct cs → ((k : ℕ) → IsClassName cs c.name k → ⊥) → AreDistinct (cs ++ c ∷ [])
+distinct_push : (cs : List Class) (c : Class) → HaveOwnNames cs → ((k : ℕ) → IsClassName cs c.name k → ⊥) → HaveOwnNames (cs ++ c ∷ [])
 distinct_push cs c distinct new = λ i j name a b.
     let p = get_push (names cs) c.name name i (rw map-append at a) in
     let q = get_push (names cs) c.name name j (rw map-append at b) in
@@ -45,7 +45,7 @@ distinct_push cs c distinct new = λ i j name a b.
       | inr x ↦ elim q [ inl y ↦ absurd (new j (y ∙ ap (λ (n : List ℕ). Some n) x.1)) | inr y ↦ x.0 ∙ sym y.0 ]
     ]
 
-distinct_line : (before : List Sentence) (line : Sentence) → AreDistinct (classes_in before) → ¬ IsMisnamed before line → AreDistinct (classes_in before ++ class_in line)
+distinct_line : (before : List Sentence) (line : Sentence) → HaveOwnNames (classes_in before) → ¬ IsMisnamed before line → HaveOwnNames (classes_in before ++ class_in line)
 distinct_line before Heads distinct right = rw append-nil distinct
 distinct_line before (Sets at n) distinct right = rw append-nil distinct
 distinct_line before (Declares name shape) distinct right = distinct_push (classes_in before) (record { name = name; shape = shape }) distinct (λ c named. right (inl (name, shape, c, refl, named)))
@@ -58,15 +58,15 @@ distinct_line before (Says statement) distinct right = rw append-nil distinct
 classes_push : (before : List Sentence) (line : Sentence) → classes_in (before ++ line ∷ []) ≡ classes_in before ++ class_in line
 classes_push before line = flat_map-append class_in before (line ∷ []) ∙ ap (λ (cs : List Class). classes_in before ++ cs) (append-nil (class_in line))
 
-distinct_from : (before lines : List Sentence) → AreDistinct (classes_in before) → ((j : ℕ) (line : Sentence) → slice_get lines j ≡ Some line → ¬ IsMisnamed (before ++ take j lines) line) → AreDistinct (classes_in (before ++ lines))
+distinct_from : (before lines : List Sentence) → HaveOwnNames (classes_in before) → ((j : ℕ) (line : Sentence) → slice_get lines j ≡ Some line → ¬ IsMisnamed (before ++ take j lines) line) → HaveOwnNames (classes_in (before ++ lines))
 distinct_from before [] distinct right = rw append-nil distinct
 distinct_from before (line ∷ lines) distinct right =
     let here : ¬ IsMisnamed before line = subst (λ (b : List Sentence). ¬ IsMisnamed b line) (append-nil before) (right 0 line refl) in
-    let next : AreDistinct (classes_in (before ++ line ∷ [])) = rw (classes_push before line) (distinct_line before line distinct here) in
-    subst (λ (all : List Sentence). AreDistinct (classes_in all)) (append_assoc before (line ∷ []) lines)
+    let next : HaveOwnNames (classes_in (before ++ line ∷ [])) = rw (classes_push before line) (distinct_line before line distinct here) in
+    subst (λ (all : List Sentence). HaveOwnNames (classes_in all)) (append_assoc before (line ∷ []) lines)
     (distinct_from (before ++ line ∷ []) lines next (λ j other there. subst (λ (b : List Sentence). ¬ IsMisnamed b other) (sym (append_assoc before (line ∷ []) (take j lines))) (right (suc j) other there)))
 
-pub distinct_named : (lines : List Sentence) → HasNoneIn IsMisnamed lines → AreDistinct (classes_in lines)
+pub distinct_named : (lines : List Sentence) → HasNoneIn IsMisnamed lines → HaveOwnNames (classes_in lines)
 distinct_named lines named = distinct_from [] lines (λ c d word p q. absurd cc) (λ j line there. named j line there)
 
 split_classes : (lines : List Sentence) (i : ℕ) → classes_in lines ≡ classes_in (take i lines) ++ classes_in (drop i lines)
@@ -78,7 +78,7 @@ front_class lines i c class there = rw (split_classes lines i) (get_front (class
 front_name : (lines : List Sentence) (i c : ℕ) (word : List ℕ) → IsClassName (classes_in (take i lines)) word c → IsClassName (classes_in lines) word c
 front_name lines i c word named = let k = name_of_class _ c word named in class_name (classes_in lines) c k.0 word (front_class lines i c k.0 k.1) k.2
 
-stands : (classes : List Class) (word : List ℕ) (c : ℕ) → AreDistinct classes → IsClassName classes word c → StandsFor classes word c
+stands : (classes : List Class) (word : List ℕ) (c : ℕ) → HaveOwnNames classes → IsClassName classes word c → StandsFor classes word c
 stands classes word c distinct named = record { named = named; first = λ d before other. let same = distinct d c word other named in omega arith }
 
 find_by : (k : Class) (ks : List Class) (word : List ℕ) (b : Bool) → b ≡ pointwise nat_eq k.name word → ((c : ℕ) × IsClassName ks word c) ⊎ ((c : ℕ) → ¬ IsClassName ks word c)

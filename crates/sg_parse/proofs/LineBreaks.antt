@@ -2,12 +2,11 @@
 use Rattle.std.proofs.Common.{◌≡◌, ◌⊎◌, if◌then◌else◌, ℕ, suc, ◌+◌, ◌<◌, ◌≤◌, ◌==◌, nat_le, nat_lt, Bool, true, false, cond, Option, Some, None, List, length, inl, inr, sym, refl, ap, ◌∙◌, subst, arith}
 use Rattle.std.specs.List.{count_by}
 use Rattle.std.proofs.lemmas.Grind.{common_steps}
-use Rattle.std.proofs.lemmas.Bool.{cases_eq}
 use Rattle.std.proofs.lemmas.Bool.Decides.{nat_tests}
 use Rattle.sg_desc.specs.declared.shapes.Descriptor.{Descriptor}
 use Rattle.sg_desc.specs.declared.shapes.Descriptor.TheVariants.{PtrFree, Run, Bitmap, VectorRefs, VectorPlain, Ephemeron}
 use Rattle.sg_desc.specs.declared.shapes.Shape.{Shape}
-use Rattle.sg_program.specs.Limits.{MayHave, IsNurserySize, most_nursery, most_blocks, most_pages, least_buffer, most_buffer, most_workers, most_cement, most_classes, most_fields, most_vector, last_place, most_times, most_nesting, most_mutators}
+use Rattle.sg_program.specs.Limits.{MayHave, IsNurserySize, most_nursery, most_blocks, most_pages, least_buffer, most_buffer, most_workers, most_cement, most_classes, most_vector, last_place, most_times, most_nesting}
 use Rattle.sg_program.specs.declared.program.Statement.{Statement}
 use Rattle.sg_program.specs.declared.program.Statement.TheVariants.{New, NewV, Mature, Put, Get, PutD, GetD, Num, Move, Hide, Unhide, Drop, Push, Pop, GPut, GGet, WSet, WGet, Final, NextFin, Same, Collect, Sections}
 use Rattle.sg_parse.specs.declared.refusal.Which.{Which}
@@ -16,7 +15,7 @@ use Rattle.sg_text.specs.declared.line.Setting.{Setting}
 use Rattle.sg_text.specs.declared.line.Setting.TheVariants.{Nursery as TheNursery, Blocks as TheBlocks, Pages as ThePages, Buffer as TheBuffer, Workers as TheWorkers, Cement as TheCement}
 use Rattle.sg_text.specs.Lines.{Maker, AsNew, AsVector, AsMature, Sentence, Heads, Sets, Declares, Begins, Repeats, Ends, Makes, Says}
 use Rattle.sg_parse.specs.Faults.{classes_in, class_in, open_behind, is_begin, Breaks, BreaksFirst, place}
-use Rattle.sg_parse.specs.Building.{HasSmallPlace, IsSmall}
+use Rattle.sg_parse.specs.Building.{HasSmallPlace, HasSmallNumbers}
 use Rattle.sg_parse.specs.LineLimits.{is_within, is_nursery_size, may_have, unless, setting_fault, class_fault, repeat_fault, maker_fault, statement_fault, fault_behind}
 
 -- a limit on what is counted at a mutator's end
@@ -342,7 +341,7 @@ repeat_small : (behind times : ℕ) → repeat_fault behind times ≡ None → t
 repeat_small behind times q =
     pick (is_within 1 most_times times) (unless (nat_le behind most_nesting) Nesting) (Some Times) None q (λ t e. (within_true 1 most_times times t).1) (λ f e. absurd cc)
 
-maker_small : (maker : Maker) (r : ℕ) (name : List ℕ) → maker_fault maker ≡ None → IsSmall (Makes maker r name)
+maker_small : (maker : Maker) (r : ℕ) (name : List ℕ) → maker_fault maker ≡ None → HasSmallNumbers (Makes maker r name)
 maker_small AsNew r name q = tt
 maker_small (AsVector count) r name q = le_true count most_vector (unless_none _ _ q)
 maker_small AsMature r name q = tt
@@ -372,7 +371,7 @@ statement_small (Same r t) q = tt
 statement_small (Collect major) q = tt
 statement_small Sections q = tt
 
-pub line_small : (before : List Sentence) (line : Sentence) → fault_behind before line ≡ None → IsSmall line
+pub line_small : (before : List Sentence) (line : Sentence) → fault_behind before line ≡ None → HasSmallNumbers line
 line_small before Heads q = tt
 line_small before (Sets at n) q = setting_small at n q
 line_small before (Declares name shape) q = (class_small (length (classes_in before)) shape q).1

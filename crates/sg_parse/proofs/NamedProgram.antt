@@ -9,7 +9,7 @@ use Rattle.sg_program.specs.declared.program.Item.TheViews.{out-roll-Item}
 use Rattle.sg_program.specs.declared.program.Script.{Script}
 use Rattle.sg_program.specs.declared.program.Program.{Program}
 use Rattle.sg_text.specs.Lines.{made_by, Sentence, Begins, Repeats, Ends, Makes}
-use Rattle.sg_grammar.specs.Text.{AreItems, NoItem, OneSays, OneMakes, NoRepeat, OneRepeat, AreScripts, IsProgram, IsAnyName, IsWhole, StandsFor}
+use Rattle.sg_grammar.specs.Text.{AreItems, NoItem, OneSays, OneMakes, NoRepeat, OneRepeat, AreScripts, IsProgram, IsAnyName, IsWholeText, StandsFor}
 use Rattle.sg_parse.specs.Faults.{class_in, classes_in, IsMisnamed}
 use Rattle.sg_parse.specs.Indices.{HasNoneIn}
 use Rattle.sg_parse.proofs.LaterLemmas.{made_named}
@@ -108,7 +108,7 @@ named_at : (lines : List Sentence) → HasNoneIn IsMisnamed lines → (i : ℕ) 
 named_at lines none i (Makes maker r name) at = made_named lines i maker r name none at
 named_at lines none i line at = tt
 
-pub named_program : (lines : List Sentence) → IsWhole lines → HasNoneIn IsMisnamed lines → (p : Program) × IsProgram (StandsFor p.classes) lines p × (p.classes ≡ classes_in lines)
+pub named_program : (lines : List Sentence) → IsWholeText lines → HasNoneIn IsMisnamed lines → (p : Program) × IsProgram (StandsFor p.classes) lines p × (p.classes ≡ classes_in lines)
 named_program lines whole none =
     let p = whole.0 in
     let is = whole.1 in

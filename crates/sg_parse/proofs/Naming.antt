@@ -19,7 +19,7 @@ use Rattle.sg_text.specs.Lines.{Maker, Sentence, Declares, Makes}
 use Rattle.sg_grammar.specs.Text.{IsClassName, StandsFor}
 use Rattle.sg_parse.specs.Faults.{wants_vector, IsFit, IsPairClass}
 use Rattle.sg_text.specs.Reading.{shape_in}
-use Rattle.sg_parse.specs.Names.{class_of, AreDistinct, IsNamed, Misnames}
+use Rattle.sg_parse.specs.Names.{class_named, HaveOwnNames, IsNamed, Misnames}
 
 -- ---- entries of the map
 
@@ -31,7 +31,7 @@ Entries = List (Bor (List ℕ) × Form)
 
 -- the classes of entries
 abbrev pub classes_from : Entries → List Class
-classes_from es = map (λ e. class_of e.0.now e.1) es
+classes_from es = map (λ e. class_named e.0.now e.1) es
 
 abbrev same_key : Key → Key → Bool
 same_key a b = pointwise nat_eq a.now b.now
@@ -73,7 +73,7 @@ number_none es name None e = no_name es name (Missing-position (λ (k : Key). po
 other_below : (es : Entries) (k : Key) (c : ℕ) → AllByRecursion (λ y. same_key k y ≡ false) (keys_of es) → ¬ IsClassName (classes_from es) k.now c
 other_below es k c h named = no_name es k h c named
 
-pub distinct_entries : (es : Entries) → IsDistinct (λ (a b : Key). pointwise nat_eq a.now b.now) (keys_of es) → AreDistinct (classes_from es)
+pub distinct_entries : (es : Entries) → IsDistinct (λ (a b : Key). pointwise nat_eq a.now b.now) (keys_of es) → HaveOwnNames (classes_from es)
 unfolding IsDistinct
 distinct_entries [] h c d word p q = absurd cc
 distinct_entries (e ∷ es) h zero zero word p q = refl
@@ -91,8 +91,8 @@ add_new [] k form new = refl
 add_new (e ∷ es) k form new = add_by es e k form (same_key k e.0) refl new (add_new es k form (λ c. new (suc c)))
 
 pub classes_add : (es fs : Entries) (k : Key) (form : Form) → ((c : ℕ) → ¬ IsClassName (classes_from es) k.now c) → fs ≡ insert_entry same_key es k form
-    → classes_from fs ≡ classes_from es ++ class_of k.now form ∷ []
-classes_add es fs k form new e = ap classes_from (e ∙ add_new es k form new) ∙ map-append (λ (x : Key × Form). class_of x.0.now x.1) es ((k, form) ∷ [])
+    → classes_from fs ≡ classes_from es ++ class_named k.now form ∷ []
+classes_add es fs k form new e = ap classes_from (e ∙ add_new es k form new) ∙ map-append (λ (x : Key × Form). class_named x.0.now x.1) es ((k, form) ∷ [])
 
 -- ---- names among classes
 
@@ -111,16 +111,16 @@ pub twice : (classes : List Class) (line : Sentence) (name : List ℕ) (shape : 
 twice classes line name shape None e found s = absurd cc
 twice classes line name shape (Some i) e found s = inl (name, shape, i, e, found.named)
 
-pub not_fit : (classes : List Class) (maker : Maker) (name : List ℕ) (form : Form) (v w : Bool) → AreDistinct classes → IsNamed classes name form
+pub not_fit : (classes : List Class) (maker : Maker) (name : List ℕ) (form : Form) (v w : Bool) → HaveOwnNames classes → IsNamed classes name form
     → v ≡ is_vector (shape_in form).kind → w ≡ wants_vector maker → (v ≡ w → ⊥) → (c : ℕ) → ¬ IsFit classes maker name c
 not_fit classes maker name form v w distinct named ev ew other c fit =
     let same : c ≡ named.0 = distinct c named.0 name (class_name classes c fit.class name fit.there fit.named) named.1.named in
-    let class : fit.class ≡ class_of name form = same_Some _ _ (sym fit.there ∙ ap (λ (k : ℕ). slice_get classes k) same ∙ named.2) in
+    let class : fit.class ≡ class_named name form = same_Some _ _ (sym fit.there ∙ ap (λ (k : ℕ). slice_get classes k) same ∙ named.2) in
     let kind : is_vector fit.class.shape.kind ≡ is_vector (shape_in form).kind = ap (λ (k : Class). is_vector k.shape.kind) class in
     other (ev ∙ sym kind ∙ fit.fits ∙ sym ew)
 
 pub is_fit : (classes : List Class) (maker : Maker) (name : List ℕ) (form : Form) → (named : IsNamed classes name form) → is_vector (shape_in form).kind ≡ wants_vector maker → IsFit classes maker name named.0
-is_fit classes maker name form named same = record { class = class_of name form; there = named.2; named = refl; fits = same }
+is_fit classes maker name form named same = record { class = class_named name form; there = named.2; named = refl; fits = same }
 
 differ : (v w : Bool) → not (beq v w) ≡ true → v ≡ w → ⊥
 differ true true h e = absurd cc
@@ -134,7 +134,7 @@ agree false false h = refl
 agree true false h = absurd cc
 agree false true h = absurd cc
 
-pub make_wrong : (classes : List Class) (line : Sentence) (maker : Maker) (r : ℕ) (name : List ℕ) (form : Form) (v w : Bool) → line ≡ Makes maker r name → AreDistinct classes → IsNamed classes name form
+pub make_wrong : (classes : List Class) (line : Sentence) (maker : Maker) (r : ℕ) (name : List ℕ) (form : Form) (v w : Bool) → line ≡ Makes maker r name → HaveOwnNames classes → IsNamed classes name form
     → v ≡ is_vector (shape_in form).kind → w ≡ wants_vector maker → not (beq v w) ≡ true → Misnames classes line
 make_wrong classes line maker r name form v w e distinct named ev ew h = inr (maker, r, name, e, not_fit classes maker name form v w distinct named ev ew (differ v w h))
 
@@ -154,12 +154,12 @@ make_unknown classes line maker r name e none = inr (maker, r, name, e, λ c fit
 pub not_named : (classes : List Class) (line : Sentence) (name : List ℕ) (shape : Shape) → line ≡ Declares name shape → ¬ Misnames classes line → (c : ℕ) → ¬ IsClassName classes name c
 not_named classes line name shape e right c named = right (inl (name, shape, c, e, named))
 
-pub pair_named : (classes : List Class) (name : List ℕ) (form : Form) (b : Bool) → AreDistinct classes → IsNamed classes name form → IsTrue b ↔ ((shape_in form).kind ≡ Ephemeron) → IsTrue b ↔ IsPairClass classes name
+pub pair_named : (classes : List Class) (name : List ℕ) (form : Form) (b : Bool) → HaveOwnNames classes → IsNamed classes name form → IsTrue b ↔ ((shape_in form).kind ≡ Ephemeron) → IsTrue b ↔ IsPairClass classes name
 pair_named classes name form b distinct named told = (
-  λ yes. (named.0, class_of name form, named.2, refl, told.0 yes),
+  λ yes. (named.0, class_named name form, named.2, refl, told.0 yes),
   λ pair.
       let same : pair.0 ≡ named.0 = distinct pair.0 named.0 name (class_name classes pair.0 pair.1 name pair.2 pair.3) named.1.named in
-      let class : pair.1 ≡ class_of name form = same_Some _ _ (sym pair.2 ∙ ap (λ (k : ℕ). slice_get classes k) same ∙ named.2) in
+      let class : pair.1 ≡ class_named name form = same_Some _ _ (sym pair.2 ∙ ap (λ (k : ℕ). slice_get classes k) same ∙ named.2) in
       told.1 (sym (ap (λ (k : Class). k.shape.kind) class) ∙ pair.4),
 )
 

@@ -1,14 +1,14 @@
 -- Why a text isn't read, by what the scan and the order of its sentences say.
-use Rattle.std.proofs.Common.{◌≡◌, ℕ, zero, suc, ◌<◌, ◌≤◌, Some, List, [], ◌∷◌, ◌++◌, length, take, map, slice_get, refl, sym, ap, ◌∙◌, subst, inr, arith}
+use Rattle.std.proofs.Common.{◌≡◌, ℕ, zero, suc, ◌<◌, Some, List, [], ◌∷◌, length, take, slice_get, refl, sym, ap, ◌∙◌, subst, inr, arith}
 use Rattle.std.proofs.lemmas.List.{append-nil}
 use Rattle.std.proofs.lemmas.Option.{none-some, same_Some}
 use Rattle.sg_text.specs.Lines.{Sentence}
 use Rattle.sg_text.specs.Numbered.{Numbered, sentences}
-use Rattle.sg_text.specs.Reading.{numbered, AreRead, IsScan}
+use Rattle.sg_text.specs.Reading.{numbered, IsScan}
 use Rattle.sg_text.specs.declared.scanner.Extent.{Extent}
 use Rattle.sg_text.specs.declared.scanner.Extent.TheVariants.{Whole, Above}
 use Rattle.sg_text.specs.Laws.{HaveOneSaying}
-use Rattle.sg_grammar.specs.Text.{IsWhole, IsPrefix, CanGoOn, IsFirstRefused}
+use Rattle.sg_grammar.specs.Text.{IsWholeText, IsPrefix, CanGoOn, IsFirstRefused}
 use Rattle.sg_parse.proofs.Glue.{at, refused_misplaced, misplaced_above, refused_line, refused_end}
 
 -- ---- sentences and their numbers
@@ -53,8 +53,8 @@ pub as_many_numbers : (text : List (List ℕ)) (numbers : List ℕ) (said : List
 as_many_numbers text numbers said (Whole count) scan = scan.1.as_many
 as_many_numbers text numbers said (Above wrong) (j, line, number, there, none, read) = read.as_many
 
-whole_prefix : (s : List Sentence) → IsWhole s → IsPrefix s
-whole_prefix s whole = inr (0, subst IsWhole (sym (append-nil s)) whole)
+whole_prefix : (s : List Sentence) → IsWholeText s → IsPrefix s
+whole_prefix s whole = inr (0, subst IsWholeText (sym (append-nil s)) whole)
 
 module _ (law : HaveOneSaying) where
   pub at_misplaced : (text : List (List ℕ)) (numbers : List ℕ) (said : List Sentence) (extent : Extent) (i k : ℕ) → IsScan text numbers said extent →
@@ -75,11 +75,11 @@ module _ (law : HaveOneSaying) where
       subst (IsFirstRefused text) (sym number)
       (refused_line law text (numbered numbers said) m line there wordless read.say (subst IsPrefix (sym (sentences_numbered numbers said read.as_many)) prefix))
 
-  pub at_wrong_whole : (text : List (List ℕ)) (numbers : List ℕ) (said : List Sentence) (wrong : ℕ) → IsScan text numbers said (Above wrong) → IsWhole said → IsFirstRefused text wrong
+  pub at_wrong_whole : (text : List (List ℕ)) (numbers : List ℕ) (said : List Sentence) (wrong : ℕ) → IsScan text numbers said (Above wrong) → IsWholeText said → IsFirstRefused text wrong
   at_wrong_whole text numbers said wrong scan whole = at_wrong text numbers said wrong scan (whole_prefix said whole)
 
-  pub at_end : (text : List (List ℕ)) (numbers : List ℕ) (said : List Sentence) (count : ℕ) → IsScan text numbers said (Whole count) → IsPrefix said → ¬ IsWhole said → IsFirstRefused text count
+  pub at_end : (text : List (List ℕ)) (numbers : List ℕ) (said : List Sentence) (count : ℕ) → IsScan text numbers said (Whole count) → IsPrefix said → ¬ IsWholeText said → IsFirstRefused text count
   at_end text numbers said count (counted, read) prefix bad =
       let same : said ≡ sentences (numbered numbers said) = sym (sentences_numbered numbers said read.as_many) in
       subst (IsFirstRefused text) (sym counted)
-      (refused_end law text (numbered numbers said) read.say (subst IsPrefix same prefix) (subst (λ (z : List Sentence). ¬ IsWhole z) same bad))
+      (refused_end law text (numbered numbers said) read.say (subst IsPrefix same prefix) (subst (λ (z : List Sentence). ¬ IsWholeText z) same bad))

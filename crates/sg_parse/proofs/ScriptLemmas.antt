@@ -11,7 +11,7 @@ use Rattle.sg_parse.specs.declared.scripts.Body.{Body}
 use Rattle.sg_parse.specs.declared.scripts.Scripts.TheVariants.{Read, Heavy}
 use Rattle.sg_text.specs.Lines.{Sentence, Begins, Ends}
 use Rattle.sg_grammar.specs.Text.{AreItems, AreScripts, StandsFor}
-use Rattle.sg_parse.specs.Building.{AreSmall, IsBody, IsTooMuch, AreRead, total_of, finals_of}
+use Rattle.sg_parse.specs.Building.{HaveSmallNumbers, IsBody, IsTooMuch, AreScriptsRead, total_of, finals_of}
 use Rattle.sg_parse.proofs.Bodies.{behind, small_drop}
 
 pub scripts_append : (names : List ℕ → ℕ → Type 0) (l m : List Sentence) (a b : List Script) → AreScripts names l a → AreScripts names m b → AreScripts names (l ++ m) (a ++ b)
@@ -52,7 +52,7 @@ pub record InScripts (classes : List Class) (lines : List Sentence) (at : ℕ) (
 
 abbrev pub IsInScripts : List Class → List Sentence → ℕ → List Script → Type 0
 IsInScripts classes lines at scripts =
-    (more : List Sentence) (all : List Script) → AreSmall classes lines → AreScripts (StandsFor classes) (lines ++ more) all → InScripts classes (lines ++ more) at scripts all
+    (more : List Sentence) (all : List Script) → HaveSmallNumbers classes lines → AreScripts (StandsFor classes) (lines ++ more) all → InScripts classes (lines ++ more) at scripts all
 
 pub scripts_first : (classes : List Class) (lines : List Sentence) → IsInScripts classes lines 0 []
 scripts_first classes lines = λ more all small d. record { done = []; todo = lines ++ more; left = all; parts = refl; upto = refl; first = refl; rest = d; whole = refl }
@@ -63,7 +63,7 @@ inner_lines classes lines more at scripts all s body tail e there = behind lines
 
 -- the next script doesn't end within the lines
 pub scripts_stop : (classes : List Class) (lines : List Sentence) (at : ℕ) (scripts : List Script) → IsInScripts classes lines at scripts → at < length lines → IsBody classes (drop (at + 1) lines) None →
-    total_of scripts ≤ 1048576 → finals_of scripts ≤ 1024 → AreRead classes lines (Read scripts)
+    total_of scripts ≤ 1048576 → finals_of scripts ≤ 1024 → AreScriptsRead classes lines (Read scripts)
 scripts_stop classes lines at scripts inv there none statements finals = λ more all small d.
     let s = inv more all small d in
     record {
@@ -83,7 +83,7 @@ scripts_stop classes lines at scripts inv there none statements finals = λ more
 
 -- no line is left
 pub scripts_over : (classes : List Class) (lines : List Sentence) (at : ℕ) (scripts : List Script) → IsInScripts classes lines at scripts → length lines ≤ at →
-    total_of scripts ≤ 1048576 → finals_of scripts ≤ 1024 → AreRead classes lines (Read scripts)
+    total_of scripts ≤ 1048576 → finals_of scripts ≤ 1024 → AreScriptsRead classes lines (Read scripts)
 scripts_over classes lines at scripts inv over statements finals = λ more all small d.
     let s = inv more all small d in
     let u = s.upto in
@@ -112,7 +112,7 @@ record AtScript (classes : List Class) (lines : List Sentence) (at : ℕ) (scrip
   long : b.lines ≡ suc (length body)
 
 at_script : (classes : List Class) (lines : List Sentence) (at : ℕ) (scripts : List Script) (b : Body) (script : Script) → IsInScripts classes lines at scripts → at < length lines →
-    IsBody classes (drop (at + 1) lines) (Some b) → script.items ≡ b.items → (more : List Sentence) (all : List Script) → AreSmall classes lines → AreScripts (StandsFor classes) (lines ++ more) all →
+    IsBody classes (drop (at + 1) lines) (Some b) → script.items ≡ b.items → (more : List Sentence) (all : List Script) → HaveSmallNumbers classes lines → AreScripts (StandsFor classes) (lines ++ more) all →
     AtScript classes lines at scripts more all b script
 at_script classes lines at scripts b script inv there is same more all small d =
     let s = inv more all small d in
@@ -153,7 +153,7 @@ scripts_more classes lines at scripts b script inv there is same = λ more all s
 -- with a script a limit is broken
 pub scripts_heavy : (classes : List Class) (lines : List Sentence) (at : ℕ) (scripts : List Script) (b : Body) (script : Script) (index : ℕ) (which : Which) → IsInScripts classes lines at scripts → at < length lines →
     IsBody classes (drop (at + 1) lines) (Some b) → script.items ≡ b.items → at + (1 + b.lines) ≤ length lines → index ≡ at + (1 + b.lines) - 1 →
-    total_of scripts ≤ 1048576 → finals_of scripts ≤ 1024 → IsTooMuch which (scripts ++ script ∷ []) → AreRead classes lines (Heavy index which)
+    total_of scripts ≤ 1048576 → finals_of scripts ≤ 1024 → IsTooMuch which (scripts ++ script ∷ []) → AreScriptsRead classes lines (Heavy index which)
 scripts_heavy classes lines at scripts b script index which inv there is same within at_end statements finals much = λ more all small d.
     let r = at_script classes lines at scripts b script inv there is same more all small d in
     let s = r.state in

@@ -32,32 +32,32 @@ HasSmallPlace (WSet w r long) = w ≤ last_place
 HasSmallPlace (WGet r w) = w ≤ last_place
 HasSmallPlace s = Unit {0}
 
-abbrev pub IsSmall : Sentence → Type 0
-IsSmall (Sets setting n) = n ≤ most_nursery
-IsSmall (Declares name shape) = MayHave shape.kind shape.fields
-IsSmall (Repeats times) = times ≤ most_times
-IsSmall (Makes (AsVector count) r name) = count ≤ most_vector
-IsSmall (Says s) = HasSmallPlace s
-IsSmall line = Unit {0}
+abbrev pub HasSmallNumbers : Sentence → Type 0
+HasSmallNumbers (Sets setting n) = n ≤ most_nursery
+HasSmallNumbers (Declares name shape) = MayHave shape.kind shape.fields
+HasSmallNumbers (Repeats times) = times ≤ most_times
+HasSmallNumbers (Makes (AsVector count) r name) = count ≤ most_vector
+HasSmallNumbers (Says s) = HasSmallPlace s
+HasSmallNumbers line = Unit {0}
 
 -- there are few enough classes, and all numbers of the lines are small enough
-abbrev pub AreSmall : List Class → List Sentence → Type 0
-AreSmall classes lines = (length classes ≤ most_classes) × AllByRecursion IsSmall lines
+abbrev pub HaveSmallNumbers : List Class → List Sentence → Type 0
+HaveSmallNumbers classes lines = (length classes ≤ most_classes) × AllByRecursion HasSmallNumbers lines
 
 -- the statement of a line, where it has one
 abbrev pub IsStatement : List Class → Sentence → Option Statement → Type 0
 IsStatement classes (Says s) o = HasSmallPlace s → o ≡ Some s
-IsStatement classes (Makes maker r name) o = (c : ℕ) → length classes ≤ most_classes → IsSmall (Makes maker r name) → StandsFor classes name c → o ≡ Some (made_by maker r c)
+IsStatement classes (Makes maker r name) o = (c : ℕ) → length classes ≤ most_classes → HasSmallNumbers (Makes maker r name) → StandsFor classes name c → o ≡ Some (made_by maker r c)
 IsStatement classes line o = Unit {0}
 
 -- Where the lines, with what follows them, begin with the body of a mutator or a repeat and with its end: these are the body's items,
 -- and so many lines they are, with the end; or the body doesn't end within the lines.
 abbrev pub IsBody : List Class → List Sentence → Option Body → Type 0
 IsBody classes lines (Some b) =
-    (more body rest : List Sentence) (items : List Item) → AreSmall classes lines → lines ++ more ≡ body ++ Ends ∷ rest → AreItems (StandsFor classes) body items →
+    (more body rest : List Sentence) (items : List Item) → HaveSmallNumbers classes lines → lines ++ more ≡ body ++ Ends ∷ rest → AreItems (StandsFor classes) body items →
     (b.items ≡ items) × (b.lines ≡ suc (length body))
 IsBody classes lines None =
-    (more body rest : List Sentence) (items : List Item) → AreSmall classes lines → lines ++ more ≡ body ++ Ends ∷ rest → AreItems (StandsFor classes) body items →
+    (more body rest : List Sentence) (items : List Item) → HaveSmallNumbers classes lines → lines ++ more ≡ body ++ Ends ∷ rest → AreItems (StandsFor classes) body items →
     length lines ≤ length body
 
 abbrev pub total_of : List Script → ℕ
@@ -100,12 +100,12 @@ pub record IsHeavy (classes : List Class) (lines : List Sentence) (all : List Sc
   pub much : IsTooMuch which (scripts ++ script ∷ [])
 
 -- the scripts that end within the lines
-abbrev pub AreRead : List Class → List Sentence → Scripts → Type 0
-AreRead classes lines (Read scripts) =
-    (more : List Sentence) (all : List Script) → AreSmall classes lines → AreScripts (StandsFor classes) (lines ++ more) all →
+abbrev pub AreScriptsRead : List Class → List Sentence → Scripts → Type 0
+AreScriptsRead classes lines (Read scripts) =
+    (more : List Sentence) (all : List Script) → HaveSmallNumbers classes lines → AreScripts (StandsFor classes) (lines ++ more) all →
     AreFront classes (lines ++ more) all scripts (length lines)
-AreRead classes lines (Heavy index which) =
-    (more : List Sentence) (all : List Script) → AreSmall classes lines → AreScripts (StandsFor classes) (lines ++ more) all →
+AreScriptsRead classes lines (Heavy index which) =
+    (more : List Sentence) (all : List Script) → HaveSmallNumbers classes lines → AreScripts (StandsFor classes) (lines ++ more) all →
     (index < length lines) × IsHeavy classes (lines ++ more) all index which
 
 -- the line that is told is one of the first n
@@ -135,9 +135,9 @@ AreLines sentences = AllByRecursion (λ sentence. (words : List (List ℕ)) × I
 
 -- The program of the sentences, which is within the limits; or the first line that breaks a limit, and the first limit that it
 -- breaks; or no line does, and there is no mutator.
-abbrev pub IsBuilt : List Sentence → Built → Type 0
-IsBuilt lines (Made p) =
+abbrev pub IsBuiltAs : List Sentence → Built → Type 0
+IsBuiltAs lines (Made p) =
     IsProgram (StandsFor p.classes) lines p × HasNoneIn BreaksSome lines × IsWithinLimits p × ((j : ℕ) × (slice_get lines j ≡ Some Begins))
-IsBuilt lines (Over index which) =
+IsBuiltAs lines (Over index which) =
     IsFirstIn BreaksSome lines index × ((line : Sentence) × (slice_get lines index ≡ Some line) × BreaksFirst which (take index lines) line)
-IsBuilt lines NoMutator = HasNoneIn BreaksSome lines × ((j : ℕ) → ¬ (slice_get lines j ≡ Some Begins))
+IsBuiltAs lines NoMutator = HasNoneIn BreaksSome lines × ((j : ℕ) → ¬ (slice_get lines j ≡ Some Begins))

@@ -1,5 +1,5 @@
 -- The faults of a text that the grammar reads: misnamed classes, broken limits, and what isn't run yet.
-use Rattle.std.specs.Prelude.{◌≡◌, ℕ, suc, ◌-◌, ◌<◌, ◌≤◌, ◌⊎◌, Bool, true, false, Some, List, [], ◌∷◌, ◌++◌, length, take, slice_get}
+use Rattle.std.specs.Prelude.{◌≡◌, ℕ, ◌-◌, ◌<◌, ◌≤◌, ◌⊎◌, Bool, true, false, Some, List, [], ◌∷◌, ◌++◌, length, take, slice_get}
 use Rattle.std.specs.List.{flat_map, count_by}
 use Rattle.sg_desc.specs.declared.shapes.Descriptor.TheVariants.{Ephemeron}
 use Rattle.sg_desc.specs.declared.shapes.Shape.{Shape}

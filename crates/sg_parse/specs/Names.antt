@@ -16,24 +16,24 @@ use Rattle.sg_text.specs.Reading.{shape_in}
 use Rattle.sg_parse.specs.Indices.{IsFirstIn, HasNoneIn}
 
 -- the class of this name and form
-abbrev pub class_of : List ℕ → Form → Class
-class_of name form = record { name = name; shape = shape_in form }
+abbrev pub class_named : List ℕ → Form → Class
+class_named name form = record { name = name; shape = shape_in form }
 
 -- the classes, in order
 abbrev pub classes_of : Names → List Class
-classes_of names = map (λ e. class_of e.0.now e.1) names.forms.entries
+classes_of names = map (λ e. class_named e.0.now e.1) names.forms.entries
 
 -- the names are those of these classes
 abbrev pub AreNames : Names → List Class → Type 0
 AreNames names classes = classes_of names ≡ classes
 
 -- no two classes have one name
-abbrev pub AreDistinct : List Class → Type 0
-AreDistinct classes = (c d : ℕ) (word : List ℕ) → IsClassName classes word c → IsClassName classes word d → c ≡ d
+abbrev pub HaveOwnNames : List Class → Type 0
+HaveOwnNames classes = (c d : ℕ) (word : List ℕ) → IsClassName classes word c → IsClassName classes word d → c ≡ d
 
 -- the name stands for a class of this form
 abbrev pub IsNamed : List Class → List ℕ → Form → Type 0
-IsNamed classes name form = (c : ℕ) × StandsFor classes name c × (slice_get classes c ≡ Some (class_of name form))
+IsNamed classes name form = (c : ℕ) × StandsFor classes name c × (slice_get classes c ≡ Some (class_named name form))
 
 -- the line, behind the lines of these classes, misnames a class
 abbrev pub Misnames : List Class → Sentence → Type 0

@@ -1,13 +1,13 @@
 //! The program of a text, and the first line that breaks a limit.
 ghost use Rattle.std.specs.Prelude.{◌≡◌, ℕ, ◌^◌, ◌<◌, ◌≤◌, Some, slice_get, map, length, IfOk};
 ghost use Rattle.std.specs.List.{AllByRecursion};
-ghost use Rattle.sg_parse.specs.Building.{IsSmall, AreLines, config_set, config_with, config_of, IsBuilt};
+ghost use Rattle.sg_parse.specs.Building.{HasSmallNumbers, AreLines, config_set, config_with, config_of, IsBuiltAs};
 ghost use Rattle.sg_parse.specs.Faults.{classes_in, IsMisnamed};
 ghost use Rattle.sg_text.specs.Lines.{Begins};
 ghost use Rattle.sg_parse.specs.Names.{AreNames};
 ghost use Rattle.sg_text.specs.Reading.{sentence_of};
 ghost use Rattle.sg_parse.specs.Indices.{HasNoneIn};
-ghost use Rattle.sg_grammar.specs.Text.{IsWhole};
+ghost use Rattle.sg_grammar.specs.Text.{IsWholeText};
 
 use crate::limits::line_fault;
 use crate::names::Names;
@@ -48,7 +48,7 @@ fn config_set(config: Config, setting: Setting, n: u32) -> Config
 
 /// The settings, one of which may be changed by the line.
 fn config_with(config: Config, line: &Line<'_>) -> Config
-    requires { IsSmall (sentence_of line.now) }
+    requires { HasSmallNumbers (sentence_of line.now) }
     ensures { result ≡ config_with config (sentence_of line.now) }
 {
     match *line {
@@ -59,7 +59,7 @@ fn config_with(config: Config, line: &Line<'_>) -> Config
 
 /// The settings that lines give.
 fn config(lines: &[Line<'_>]) -> Config
-    requires { AllByRecursion IsSmall (map sentence_of lines.now) }
+    requires { AllByRecursion HasSmallNumbers (map sentence_of lines.now) }
     ensures { result ≡ config_of (map sentence_of lines.now) }
 {
     let mut config = Config {
@@ -78,7 +78,7 @@ fn config(lines: &[Line<'_>]) -> Config
 
 /// The classes that lines declare.
 fn classes(alloc: Global, lines: &[Line<'_>]) -> Result<List<Class>, AllocError>
-    requires { AllByRecursion IsSmall (map sentence_of lines.now) }
+    requires { AllByRecursion HasSmallNumbers (map sentence_of lines.now) }
     ensures { IfOk result (λ classes. classes ≡ classes_in (map sentence_of lines.now)) }
 {
     let mut classes = Vec::new(alloc);
@@ -116,11 +116,11 @@ pub(crate) fn build(
     lines: &[Line<'_>],
     names: &Names<'_>,
 ) -> Result<Built, AllocError>
-    requires whole { IsWhole (map sentence_of lines.now) }
+    requires whole { IsWholeText (map sentence_of lines.now) }
     requires named { HasNoneIn IsMisnamed (map sentence_of lines.now) }
     requires names { AreNames names.now (classes_in (map sentence_of lines.now)) }
     requires said { AreLines (map sentence_of lines.now) }
-    ensures { IfOk result (IsBuilt (map sentence_of lines.now)) }
+    ensures { IfOk result (IsBuiltAs (map sentence_of lines.now)) }
 {
     // Two laws: these calls do nothing.
     one_program();

@@ -39,7 +39,10 @@ fn may_have(form: &Form<'_>) -> bool
             fields,
             first,
             count,
-        } => 1 <= count && fields <= limits::MOST_FIELDS && count <= fields && first <= fields - count,
+        } => 1 <= count
+            && fields <= limits::MOST_FIELDS
+            && count <= fields
+            && first <= fields - count,
         Form::Map { mask } => mask.len() <= limits::MOST_MASK,
         Form::Refs | Form::Words | Form::Pair => true,
     }
@@ -61,7 +64,10 @@ fn setting_fault(setting: Setting, n: u64) -> Option<Which>
         Setting::Blocks => unless(is_within(1, limits::MOST_BLOCKS, n), Which::Blocks),
         Setting::Pages => unless(n <= limits::MOST_PAGES, Which::Pages),
         Setting::Buffer => {
-            unless(is_within(limits::LEAST_BUFFER, limits::MOST_BUFFER, n), Which::Buffer)
+            unless(
+                is_within(limits::LEAST_BUFFER, limits::MOST_BUFFER, n),
+                Which::Buffer,
+            )
         }
         Setting::Workers => unless(is_within(1, limits::MOST_WORKERS, n), Which::Workers),
         Setting::Cement => unless(is_within(1, limits::MOST_CEMENT, n), Which::Cement),
@@ -96,8 +102,10 @@ fn statement_fault(statement: &Statement) -> Option<Which>
     ensures { result ≡ statement_fault statement.now }
 {
     match *statement {
-        Statement::GPut { g, .. } | Statement::GGet { g, .. } if u64::from(g) > limits::LAST_PLACE => Some(Which::Global),
-        Statement::WSet { w, .. } | Statement::WGet { w, .. } if u64::from(w) > limits::LAST_PLACE => Some(Which::Weak),
+        Statement::GPut { g, .. } | Statement::GGet { g, .. }
+            if u64::from(g) > limits::LAST_PLACE => Some(Which::Global),
+        Statement::WSet { w, .. } | Statement::WGet { w, .. }
+            if u64::from(w) > limits::LAST_PLACE => Some(Which::Weak),
         _ => None,
     }
 }
@@ -115,10 +123,11 @@ impl Above {
             Line::Class { .. } => None,
             Line::Mutator if limits::MOST_MUTATORS <= self.begun => Some(Which::Mutators),
             Line::Mutator => None,
-            Line::Repeat { times } if !is_within(1, limits::MOST_TIMES, *times) => Some(Which::Times),
-            Line::Repeat { .. } if limits::MOST_NESTING < self.opened.saturating_sub(self.ended) => Some(
-                Which::Nesting,
+            Line::Repeat { times } if !is_within(1, limits::MOST_TIMES, *times) => Some(
+                Which::Times,
             ),
+            Line::Repeat { .. } if limits::MOST_NESTING < self.opened.saturating_sub(self.ended) =>
+                Some(Which::Nesting),
             Line::Repeat { .. } => None,
             Line::Make { maker, .. } => maker_fault(maker),
             Line::At { cell, r, place } => cell_fault(cell, *r, *place),

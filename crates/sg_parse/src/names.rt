@@ -2,7 +2,7 @@
 ghost use Rattle.std.specs.Prelude.{◌≡◌, ℕ, Some, true, false, ◌++◌, [], ◌∷◌, slice_get, map, OnOk, IfOk, IfSome, IfNone};
 ghost use Rattle.sg_desc.specs.Shapes.{is_vector};
 ghost use Rattle.sg_parse.specs.Faults.{wants_vector, class_in};
-ghost use Rattle.sg_parse.specs.Names.{class_of, classes_of, AreDistinct, Misnames, IsNamed, IsNaming};
+ghost use Rattle.sg_parse.specs.Names.{class_named, classes_of, HaveOwnNames, Misnames, IsNamed, IsNaming};
 ghost use Rattle.sg_text.specs.Reading.{maker_of, shape_in, sentence_of};
 ghost use Rattle.sg_grammar.specs.Text.{IsClassName, StandsFor};
 
@@ -59,7 +59,7 @@ impl<'a> Names<'a> {
     pub(crate) fn number(&self, name: &[u8]) -> Option<usize>
         ensures found { IfSome result (StandsFor (classes_of self.now) name.now) }
         ensures none { IfNone result ((c : ℕ) → ¬ IsClassName (classes_of self.now) name.now c) }
-        ensures distinct { AreDistinct (classes_of self.now) }
+        ensures distinct { HaveOwnNames (classes_of self.now) }
     {
         self.forms.get_index_of(name)
     }
@@ -68,7 +68,7 @@ impl<'a> Names<'a> {
     pub(crate) fn form(&self, name: &[u8]) -> Option<Form<'a>>
         ensures found { IfSome result (IsNamed (classes_of self.now) name.now) }
         ensures none { IfNone result ((c : ℕ) → ¬ IsClassName (classes_of self.now) name.now c) }
-        ensures distinct { AreDistinct (classes_of self.now) }
+        ensures distinct { HaveOwnNames (classes_of self.now) }
     {
         let number = self.number(name)?;
         let (_, form) = self.forms.get_index(number)?;
@@ -93,7 +93,7 @@ impl<'a> Names<'a> {
     /// Adds a class of another name.
     fn add(&mut self, name: &'a [u8], form: Form<'a>) -> Result<(), AllocError>
         requires { (c : ℕ) → ¬ IsClassName (classes_of self.old) name.now c }
-        ensures { OnOk result (classes_of self.new ≡ classes_of self.old ++ class_of name.now form.entry ∷ []) }
+        ensures { OnOk result (classes_of self.new ≡ classes_of self.old ++ class_named name.now form.entry ∷ []) }
     {
         self.forms.insert(name, form)?;
         Ok(())

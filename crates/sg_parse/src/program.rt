@@ -3,7 +3,7 @@ ghost use Rattle.std.specs.Prelude.{◌≡◌, ◌≢◌, ◌<◌, ◌≤◌, So
 ghost use Rattle.sg_program.specs.declared.program.Program.{Program as AnyProgram};
 ghost use Rattle.sg_parse.specs.declared.refusal.Refusal.{Refusal as AnyRefusal};
 ghost use Rattle.sg_text.specs.Words.{lines_of};
-ghost use Rattle.sg_grammar.specs.Text.{IsWhole};
+ghost use Rattle.sg_grammar.specs.Text.{IsWholeText};
 ghost use Rattle.sg_parse.specs.Faults.{IsMisnamed, IsLater, classes_in};
 ghost use Rattle.sg_parse.specs.Accepted.{IsReadAs, IsRefusedBy, HasOneRefusal};
 ghost use Rattle.sg_parse.specs.Invariants.{IsReadProgram};
@@ -60,7 +60,7 @@ fn text(alloc: Global, bytes: &[u8]) -> Result<Program, Refusal>
 fn sentences(alloc: Global, bytes: &[u8]) -> Result<WholeText<'_>, Refusal>
     requires { length bytes.now ≤ 1048576 }
     ensures read { IfOk result (λ t. AreRead (lines_of bytes.now) t.numbers.items (map sentence_of t.lines.items)) }
-    ensures whole { IfOk result (λ t. IsWhole (map sentence_of t.lines.items)) }
+    ensures whole { IfOk result (λ t. IsWholeText (map sentence_of t.lines.items)) }
     ensures count { IfOk result (λ t. t.count ≡ length (lines_of bytes.now)) }
     ensures refused { IfErr result (IsRefusedBy bytes.now) }
 {
@@ -93,7 +93,7 @@ fn sentences(alloc: Global, bytes: &[u8]) -> Result<WholeText<'_>, Refusal>
 fn read(alloc: Global, bytes: &[u8], text: &WholeText<'_>) -> Result<Program, Refusal>
     requires short { length bytes.now ≤ 1048576 }
     requires read { AreRead (lines_of bytes.now) text.now.numbers.items (map sentence_of text.now.lines.items) }
-    requires whole { IsWhole (map sentence_of text.now.lines.items) }
+    requires whole { IsWholeText (map sentence_of text.now.lines.items) }
     requires count { text.now.count ≡ length (lines_of bytes.now) }
     ensures read { IfOk result (IsReadAs bytes.now) }
     ensures known { IfOk result IsReadProgram }

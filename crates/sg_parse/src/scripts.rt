@@ -1,6 +1,7 @@
 //! The scripts of a text.
 ghost use Rattle.std.specs.Prelude.{◌≡◌, ℕ, ◌^◌, ◌<◌, ◌≤◌, map, length, IfOk, IfSome};
-ghost use Rattle.sg_parse.specs.Building.{IsStatement, IsBody, AreRead, IsToldWithin};
+ghost use Rattle.std.specs.List.{AllByRecursion};
+ghost use Rattle.sg_parse.specs.Building.{HasSmallNumbers, IsStatement, IsBody, AreScriptsRead, IsToldWithin};
 ghost use Rattle.sg_text.specs.Lines.{made_by};
 ghost use Rattle.sg_parse.specs.Names.{classes_of};
 ghost use Rattle.sg_text.specs.Reading.{maker_of, at_cell, sentence_of};
@@ -57,40 +58,32 @@ fn at_cell(cell: Cell, r: u8, place: u8) -> Statement
     }
 }
 
-/// The statement of a line.
+/// The statement of a line within the limits, where the line is one and its class is declared.
 fn statement(names: &Names<'_>, line: &Line<'_>) -> Option<Statement>
+    requires few { length (classes_of names.now) ≤ 256 }
+    requires small { HasSmallNumbers (sentence_of line.now) }
     ensures { IsStatement (classes_of names.now) (sentence_of line.now) result }
 {
     match *line {
         Line::Do(statement) => Some(statement),
-        Line::At { cell, r, place } => {
-            if place > 63 {
-                return None;
-            }
-            Some(at_cell(cell, r, place as u8))
-        }
+        Line::At { cell, r, place } => Some(at_cell(cell, r, place as u8)),
         Line::Make { maker, r, name } => {
             let class = names.number(name)?;
-            if let Maker::Vector { count } = maker
-                && count > 131_070
-            {
-                return None;
-            }
-            if class > 255 {
-                return None;
-            }
             Some(made_by(maker, r, class as u16))
         }
         _ => None,
     }
 }
 
-/// The items of the mutator or the repeat whose lines these are, up to its end.
+/// The items of the mutator or the repeat whose lines these are, up to its end; `None` where it doesn't end within the lines. The
+/// lines are within the limits. Linear in the lines, with the cost of looking up names.
 fn read_body(
     alloc: Global,
     names: &Names<'_>,
     lines: &[Line<'_>],
 ) -> Result<Option<Body>, AllocError>
+    requires few { 0 < length lines.now → length (classes_of names.now) ≤ 256 }
+    requires small { AllByRecursion HasSmallNumbers (map sentence_of lines.now) }
     ensures items { IfOk result (IsBody (classes_of names.now) (map sentence_of lines.now)) }
     ensures within { IfOk result (λ o. IfSome o (λ b. b.lines ≤ length lines.now)) }
 {
@@ -105,9 +98,6 @@ fn read_body(
                 }));
             }
             Line::Repeat { times } => {
-                if times > 1_048_576 {
-                    return Ok(None);
-                }
                 let Some(inner) = read_body(alloc, names, &lines[at + 1..])? else {
                     return Ok(None);
                 };
@@ -132,13 +122,16 @@ fn read_body(
     Ok(None)
 }
 
-/// The scripts that end within these lines, of which the first one begins a mutator.
+/// The scripts that end within these lines, of which the first one begins a mutator. The lines are within the limits. Linear in
+/// the lines, with the cost of looking up names.
 pub(crate) fn read_scripts(
     alloc: Global,
     names: &Names<'_>,
     lines: &[Line<'_>],
 ) -> Result<Scripts, AllocError>
-    ensures read { IfOk result (AreRead (classes_of names.now) (map sentence_of lines.now)) }
+    requires few { 0 < length lines.now → length (classes_of names.now) ≤ 256 }
+    requires small { AllByRecursion HasSmallNumbers (map sentence_of lines.now) }
+    ensures read { IfOk result (AreScriptsRead (classes_of names.now) (map sentence_of lines.now)) }
     ensures within { IfOk result (IsToldWithin (length lines.now)) }
 {
     let mut scripts = Vec::new(alloc);

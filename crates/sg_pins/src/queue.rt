@@ -1,7 +1,8 @@
 ghost use Rattle.std.specs.Prelude.{◌≡◌, ℕ, Option, IfOk, map};
 ghost use Rattle.std.specs.List.Sorted.{IsPermutation, IsNonDecreasing, IsStrictlyIncreasing};
 ghost use Rattle.sg_space.specs.declared.objects.Object.{Object as Told};
-ghost use Rattle.sg_space.specs.Standing.{IsSoundBy, IsSound};
+ghost use Rattle.sg_space.specs.Standing.{IsSoundBy, IsSound, TellsYoung};
+ghost use Rattle.sg_space.specs.Space.{Contents};
 ghost use Rattle.sg_pins.specs.Pins.{ArePinned, AreReached};
 
 use crate::merge;
@@ -27,7 +28,8 @@ pub fn pinned_among(
     objects: &[Object],
 ) -> Result<List<Addr>, AllocError>
     requires { IsStrictlyIncreasing (map (λ (o : Told). o.at) objects.now) }
-    ensures { IfOk result (λ pinned. AreReached ambiguous.now objects.now pinned) }
+    ensures reached { IfOk result (λ pinned. AreReached ambiguous.now objects.now pinned) }
+    ensures pinned { IfOk result (λ pinned. (s : Contents) (owner : ℕ → Option ℕ) → IsSoundBy s owner → TellsYoung s owner objects.now → ArePinned s.layout owner ambiguous.now pinned) }
 {
     let words = sorted(alloc, ambiguous)?;
     let pinned = merge::pointed_into(alloc, objects, &words)?;

@@ -1,9 +1,8 @@
 -- Counting the statements that items do.
-use Rattle.std.proofs.Common.{◌≡◌, ℕ, zero, suc, ◌+◌, ◌*◌, ◌<◌, ◌≤◌, min, zero-add, zero-mul, Bool, false, cond, List, [], ◌∷◌, ◌++◌, length, get_or, take, inl, inr, ap, sym, refl, ◌∙◌, arith}
+use Rattle.std.proofs.Common.{◌≡◌, ℕ, zero, suc, ◌+◌, ◌*◌, ◌<◌, ◌≤◌, min, zero-mul, Bool, false, List, [], ◌∷◌, ◌++◌, length, get_or, take, inl, inr, ap, sym, refl, ◌∙◌, arith}
 use Rattle.std.proofs.Math.Nat.{min-eq_left, min-eq_right, mul_comm, le-mul_of_pos_right}
 use Rattle.std.proofs.lemmas.Bool.{cases_lt}
 use Rattle.std.proofs.lemmas.List.{take_more, append-nil}
-use Rattle.std.proofs.lemmas.List.Sums.{sum_by-append}
 use Rattle.std.proofs.lemmas.Grind.{flat_map-append}
 use Rattle.std.specs.List.{count_by}
 use Rattle.sg_words.proofs.Everywhere.{count-append, count-cons}

@@ -1,6 +1,6 @@
 -- What a program keeps to that was read from a text within the limits, and what its statements find. No promise of the program
 -- rests on these alone: they are what its parts know of each other.
-use Rattle.std.specs.Prelude.{◌≡◌, ◌≢◌, ℕ, suc, ◌+◌, ◌%◌, ◌≤◌, max, true, false, List, [], ◌∷◌, length}
+use Rattle.std.specs.Prelude.{◌≡◌, ◌≢◌, ℕ, suc, ◌%◌, ◌≤◌, max, true, false, List, [], ◌∷◌, length}
 use Rattle.std.specs.List.{AllByRecursion, flat_map}
 use Rattle.sg_desc.specs.declared.shapes.Descriptor.TheVariants.{Ephemeron}
 use Rattle.sg_desc.specs.Shapes.{is_vector}

@@ -5,7 +5,9 @@ pub const MOST_BYTES: usize = 1_048_576;
 
 /// Words of the nursery, whose number is a multiple of [`NURSERY_STEP`].
 pub const LEAST_NURSERY: u64 = 256;
+
 pub const MOST_NURSERY: u64 = 65_536;
+
 pub const NURSERY_STEP: u64 = 64;
 
 /// Blocks of the major heap, of which there is one at least.
@@ -16,6 +18,7 @@ pub const MOST_PAGES: u64 = 1024;
 
 /// Words that a mutator takes from a fragment at once.
 pub const LEAST_BUFFER: u64 = 16;
+
 pub const MOST_BUFFER: u64 = 1024;
 
 /// Workers of a pause, of which there is one at least.

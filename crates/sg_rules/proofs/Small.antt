@@ -59,6 +59,7 @@ pub runnable : (p : Program) (s : Statement) → AllByRecursion IsSmallClass p.c
 runnable p s all good run = record { good = good; run = run; small = small_made p s all run }
 
 -- and so for a whole script
-pub all_runnable : (p : Program) (script : List Statement) → AllByRecursion IsSmallClass p.classes → AllByRecursion (IsGood p) script → AllByRecursion (IsBuilt p) script → AllByRecursion (IsRunnable p) script
+pub all_runnable : (p : Program) (script : List Statement) → AllByRecursion IsSmallClass p.classes → AllByRecursion (IsGood p) script →
+    AllByRecursion (IsBuilt p) script → AllByRecursion (IsRunnable p) script
 all_runnable p [] all good run = tt
 all_runnable p (s ∷ script) all good run = (runnable p s all good.0 run.0, all_runnable p script all good.1 run.1)

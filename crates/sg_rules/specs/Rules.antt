@@ -124,9 +124,11 @@ pub data Comes (p : Program) (lay : Constants) : Actor → Step → Bool → Act
       Comes p lay (before a s rest) (Load Stop 0) false (within a rest (TestTag s test))
   loads_tag : (a : Actor) (s : Statement) (rest : List Statement) (test : Test) (class : ℕ) →
       Comes p lay (within a rest (TestTag s test)) (Load (Word (object_in a test.register)) (plain_word class)) false (within a rest (TestLength s test class))
-  loads_length : (a : Actor) (s : Statement) (rest : List Statement) (test : Test) (class len : ℕ) → has_field test.sort (kind_of p class) len test.field ≡ true →
+  loads_length : (a : Actor) (s : Statement) (rest : List Statement) (test : Test) (class len : ℕ) →
+      has_field test.sort (kind_of p class) len test.field ≡ true →
       Comes p lay (within a rest (TestLength s test class)) (Load (Word (object_in a test.register + 1)) len) false (within a rest (Access s))
-  test_fails : (a : Actor) (s : Statement) (rest : List Statement) (test : Test) (class len : ℕ) → has_field test.sort (kind_of p class) len test.field ≡ false →
+  test_fails : (a : Actor) (s : Statement) (rest : List Statement) (test : Test) (class len : ℕ) →
+      has_field test.sort (kind_of p class) len test.field ≡ false →
       Comes p lay (within a rest (TestLength s test class)) (Load (Word (object_in a test.register + 1)) len) true (over a rest (cleared s a.reg) Field)
   -- the load or the store of the field
   put_stores : (a : Actor) (rest : List Statement) (r i s : ℕ) →
@@ -183,7 +185,8 @@ pub data Comes (p : Program) (lay : Constants) : Actor → Step → Bool → Act
   stores_length : (a : Actor) (s : Statement) (rest : List Statement) (x : ℕ) →
       Comes p lay (within a rest (StoreLength s x)) (Store (Word (x + 1)) (made_fields p s)) false (within a rest (StoreTag s x))
   stores_tag : (a : Actor) (s : Statement) (rest : List Statement) (x : ℕ) →
-      Comes p lay (within a rest (StoreTag s x)) (Store (Word x) (plain_word (made_class s))) false (over a rest (put a.reg (made_in s) (byte_at x)) (At (byte_at x)))
+      Comes p lay (within a rest (StoreTag s x)) (Store (Word x) (plain_word (made_class s))) false
+      (over a rest (put a.reg (made_in s) (byte_at x)) (At (byte_at x)))
 
 -- these steps are the next ones of a mutator, which is `last` after them
 abbrev pub Follows : Program → Constants → Actor → List Tick → Actor → Type 0

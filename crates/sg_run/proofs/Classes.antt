@@ -82,7 +82,7 @@ first_scripts items runs p a = record {
   kinds = λ k. of_scripts p (FindKinds first_kinds) (λ script h. items.kinds script.items (operands_of p (written script.items) h.good.statements) h.kinds) tt p.mutators k (all_known p a);
   runnable = λ k. of_scripts p (AllByRecursion (IsRunnable p))
       (λ script h. (let all = runs p (written script.items) a.read.limits.fields h.good.statements h.run in
-          all_of (IsRunnable p) (written_out script.items) (λ s there. all_at (IsRunnable p) (written script.items) s all (items.each script.items s there))))
+      all_of (IsRunnable p) (written_out script.items) (λ s there. all_at (IsRunnable p) (written script.items) s all (items.each script.items s there))))
       tt p.mutators k (all_known p a);
 }
 

@@ -183,8 +183,8 @@ module _ (keeps : KeepsPointedInto) (stays : StaysReady) (serves : ServesReady) 
     ready_served : AreReadyBehind p h paused.book 0 turn.graph turn.book (served (actor_of o) t.statement o.script service.answer) o.script
     ready_served =
         let by = serves p (constants_of v) (words_of v) h turn.graph paused.book turn.book asked (record { mutator = 0; statement = m.first + length m.told; answer = service.answer }) (actor_of o)
-            (held_of_heap p v h paused.book t.plain paused.heap) turn.served
-            (subst (λ s. IsReady p h paused.book 0 (actor_of o) (s ∷ turn.served.rest)) (sym turn.statement) (subst (λ rest. IsReady p h paused.book 0 (actor_of o) (t.statement ∷ rest)) (sym turn.behind) ready_dropped)) in
+        (held_of_heap p v h paused.book t.plain paused.heap) turn.served
+        (subst (λ s. IsReady p h paused.book 0 (actor_of o) (s ∷ turn.served.rest)) (sym turn.statement) (subst (λ rest. IsReady p h paused.book 0 (actor_of o) (t.statement ∷ rest)) (sym turn.behind) ready_dropped)) in
         subst (λ s. AreReadyBehind p h paused.book 0 turn.graph turn.book (served (actor_of o) s o.script service.answer) o.script) turn.statement
         (subst (λ rest. AreReadyBehind p h paused.book 0 turn.graph turn.book (served (actor_of o) turn.served.statement rest service.answer) rest) turn.behind by)
 
@@ -195,7 +195,7 @@ module _ (keeps : KeepsPointedInto) (stays : StaysReady) (serves : ServesReady) 
     ready_now = put-all (λ k (a : Actor). IsReady p turn.graph turn.book k a a.script) (λ _. fresh []) 0 (actor_of n)
         (subst (λ (a : Actor). IsReady p turn.graph turn.book 0 a a.script) (sym actor_is) (ready_untold p turn.graph turn.book 0 _ o.script ready_served.answered))
         (λ k d. ready_served.others k (fresh []) [] d (after_pause k (fresh []) [] (none_among (words_in m) [])
-            (subst (λ (a : Actor). IsReady p h t.book k a (before_it a.mid a.script)) (put-other (λ _. fresh []) 0 (actor_of m) k d) (t.ready k))))
+        (subst (λ (a : Actor). IsReady p h t.book k a (before_it a.mid a.script)) (put-other (λ _. fresh []) 0 (actor_of m) k d) (t.ready k))))
 
     stop_report : StopReport
     stop_report = record { number = world.number; minor = Some minor; served = service ∷ [] }

@@ -91,7 +91,7 @@ fn write_stop<'a, O: Sink>(
     requires { (p : AnyProgram) × (phases : List Phase) × (report : AnyEpoch) × (order : List Said) × (swept : List ℕ) × IsAtStop p phases report order swept world }
     ensures written { IfOk result (λ next. (stop : AnyStop)
         × ((p : AnyProgram) (phases : List Phase) (report : AnyEpoch) (order : List Said) (swept : List ℕ) → IsAtStop p phases report order swept world.entry →
-            IsBetween p (phases ++ Epoch report order swept ∷ Stop stop ∷ []) next)
+        IsBetween p (phases ++ Epoch report order swept ∷ Stop stop ∷ []) next)
         × Appends (O.taken sink.old) (O.taken sink.new) (stop_text stop)) }
     ensures ahead { IfOk result (λ next. length next.mutator.script ≤ length world.entry.mutator.script) }
     ensures front { IfErr result (λ _. (p : AnyProgram) (phases : List Phase) (report : AnyEpoch) (order : List Said) (swept : List ℕ) → IsAtStop p phases report order swept world.entry →

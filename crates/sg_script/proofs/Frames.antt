@@ -12,7 +12,7 @@ use Rattle.sg_program.specs.declared.program.Item.TheOpen.{One, Repeat}
 use Rattle.sg_program.specs.Scripts.{repeated, statements_of, item_out, written_out}
 use Rattle.sg_program.specs.Invariants.{most_of, depth_step, item_depth}
 use Rattle.sg_script.specs.declared.cursor.Frame.{Frame}
-use Rattle.sg_script.specs.Left.{frame_left, left, Fits, AreNested, IsAt, Stands, cost_step, item_cost, items_cost, frame_cost, cost}
+use Rattle.sg_script.specs.Left.{frame_left, left, FitsAtDepth, AreNested, IsAt, Stands, cost_step, item_cost, items_cost, frame_cost, cost}
 
 -- what an item does
 out_one : (item : Item) (s : Statement) → out-Item item ≡ One s → item_out item ≡ s ∷ []
@@ -40,15 +40,15 @@ pub cost_push : (fs : List Frame) (f : Frame) → cost (fs ++ f ∷ []) ≡ cost
 cost_push [] f = refl
 cost_push (x ∷ fs) f = let e = cost_push fs f in omega arith
 
-pub nested_push : (d : ℕ) (fs : List Frame) (f : Frame) → AreNested d fs → Fits (d + length fs) f.body.now → AreNested d (fs ++ f ∷ [])
-nested_push d [] f n h = (subst (λ z. Fits z f.body.now) (let e : d + 0 ≡ d = omega arith in e) h, tt)
-nested_push d (x ∷ fs) f n h = (n.0, nested_push (suc d) fs f n.1 (subst (λ z. Fits z f.body.now) (let e : d + suc (length fs) ≡ suc d + length fs = omega arith in e) h))
+pub nested_push : (d : ℕ) (fs : List Frame) (f : Frame) → AreNested d fs → FitsAtDepth (d + length fs) f.body.now → AreNested d (fs ++ f ∷ [])
+nested_push d [] f n h = (subst (λ z. FitsAtDepth z f.body.now) (let e : d + 0 ≡ d = omega arith in e) h, tt)
+nested_push d (x ∷ fs) f n h = (n.0, nested_push (suc d) fs f n.1 (subst (λ z. FitsAtDepth z f.body.now) (let e : d + suc (length fs) ≡ suc d + length fs = omega arith in e) h))
 
-pub nested_pop : (d : ℕ) (fs : List Frame) (f : Frame) → AreNested d (fs ++ f ∷ []) → AreNested d fs × Fits (d + length fs) f.body.now
-nested_pop d [] f n = (tt, subst (λ z. Fits z f.body.now) (let e : d ≡ d + 0 = omega arith in e) n.0)
+pub nested_pop : (d : ℕ) (fs : List Frame) (f : Frame) → AreNested d (fs ++ f ∷ []) → AreNested d fs × FitsAtDepth (d + length fs) f.body.now
+nested_pop d [] f n = (tt, subst (λ z. FitsAtDepth z f.body.now) (let e : d ≡ d + 0 = omega arith in e) n.0)
 nested_pop d (x ∷ fs) f n =
     let r = nested_pop (suc d) fs f n.1 in
-    ((n.0, r.0), subst (λ z. Fits z f.body.now) (let e : suc d + length fs ≡ d + suc (length fs) = omega arith in e) r.1)
+    ((n.0, r.0), subst (λ z. FitsAtDepth z f.body.now) (let e : suc d + length fs ≡ d + suc (length fs) = omega arith in e) r.1)
 
 -- what a push that succeeds leaves
 pub ok_then : {A B E : Type 0} (r : Result A E) (a : A) (x y : B) → r ≡ Ok a → (if is_ok r then x else y) ≡ x
@@ -95,8 +95,8 @@ module _ (fs new : List Frame) (f : Frame) (body : List Item) (t : ℕ) (some : 
       ∙ ap (λ (k : ℕ). (written_out body ++ repeated k (written_out body)) ++ left fs) times_is
       ∙ ap (λ (z : List Statement). z ++ left fs) (sym (again t (written_out body) some))
 
-  pub enter_nested : AreNested 0 fs → Fits (length fs) body → AreNested 0 new
-  enter_nested n h = subst (AreNested 0) (sym is) (nested_push 0 fs f n (subst (Fits (0 + length fs)) (sym body_is) (subst (λ z. Fits z body) (let e : length fs ≡ 0 + length fs = omega arith in e) h)))
+  pub enter_nested : AreNested 0 fs → FitsAtDepth (length fs) body → AreNested 0 new
+  enter_nested n h = subst (AreNested 0) (sym is) (nested_push 0 fs f n (subst (FitsAtDepth (0 + length fs)) (sym body_is) (subst (λ z. FitsAtDepth z body) (let e : length fs ≡ 0 + length fs = omega arith in e) h)))
 
   pub enter_cost : cost new ≡ cost fs + t * (1 + items_cost body)
   enter_cost =
@@ -125,8 +125,8 @@ module _ (frames fs : List Frame) (f : Frame) (is : frames ≡ fs ++ f ∷ []) w
   pub outer_nested : AreNested 0 frames → AreNested 0 fs
   outer_nested n = (nested_pop 0 fs f (subst (AreNested 0) is n)).0
 
-  pub body_fits : AreNested 0 frames → Fits (length fs) f.body.now
-  body_fits n = subst (λ z. Fits z f.body.now) (let e : 0 + length fs ≡ length fs = omega arith in e) (nested_pop 0 fs f (subst (AreNested 0) is n)).1
+  pub body_fits : AreNested 0 frames → FitsAtDepth (length fs) f.body.now
+  body_fits n = subst (λ z. FitsAtDepth z f.body.now) (let e : 0 + length fs ≡ length fs = omega arith in e) (nested_pop 0 fs f (subst (AreNested 0) is n)).1
 
   pub pass_nested : (new : List Frame) → new ≡ fs ++ passed f ∷ [] → AreNested 0 frames → AreNested 0 new
   pass_nested new e n = let q = nested_pop 0 fs f (subst (AreNested 0) is n) in subst (AreNested 0) (sym e) (nested_push 0 fs (passed f) q.0 q.1)
@@ -178,14 +178,14 @@ module _ (frames fs : List Frame) (f : Frame) (is : frames ≡ fs ++ f ∷ []) w
 
       -- a repeat is entered
       module _ (t : ℕ) (body : List Item) (out : out-Item item ≡ Repeat t body) (end : List Frame) where
-        pub repeat_fits : AreNested 0 frames → Fits (length new) body
+        pub repeat_fits : AreNested 0 frames → FitsAtDepth (length new) body
         repeat_fits n =
             let fits = body_fits n in
             let l : length new ≡ suc (length fs) = (let e = length_same in omega arith) in
             let depth = depth_repeat item t body out in
             let most : item_depth item + length fs ≤ 4 = all_at (λ x. item_depth x + length fs ≤ 4) f.body.now f.at item here fits.1 in
             let all = shallow body (length fs) (omega arith) in
-            subst (λ z. Fits z body) (sym l) ((omega arith), all)
+            subst (λ z. FitsAtDepth z body) (sym l) ((omega arith), all)
 
         pub repeat_left : left end ≡ (repeated t (written_out body) ++ left new) → left end ≡ left frames
         repeat_left e = e ∙ ap (λ (z : List Statement). z ++ left new) (sym (out_repeat item t body out)) ∙ sym pass_left

@@ -18,13 +18,13 @@ left [] = []
 left (f ∷ fs) = left fs ++ frame_left f
 
 -- the body may stand in d others: there are five at most, and in the body repeats stand at most 4 - d deep
-abbrev pub Fits : ℕ → List Item → Type 0
-Fits d body = (d ≤ 4) × AllByRecursion (λ item. item_depth item + d ≤ 4) body
+abbrev pub FitsAtDepth : ℕ → List Item → Type 0
+FitsAtDepth d body = (d ≤ 4) × AllByRecursion (λ item. item_depth item + d ≤ 4) body
 
 -- the frames from number d on stand in one another
 abbrev pub AreNested : ℕ → List Frame → Type 0
 AreNested d [] = Unit {0}
-AreNested d (f ∷ fs) = Fits d f.body.now × AreNested (suc d) fs
+AreNested d (f ∷ fs) = FitsAtDepth d f.body.now × AreNested (suc d) fs
 
 -- the next item of the innermost body is the statement s
 abbrev pub IsAt : List Frame → Statement → Type 0

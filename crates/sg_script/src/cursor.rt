@@ -3,7 +3,7 @@ ghost use Rattle.std.specs.List.{AllByRecursion};
 ghost use Rattle.sg_program.specs.declared.program.Statement.{Statement as AnyStatement};
 ghost use Rattle.sg_program.specs.Scripts.{repeated, written_out};
 ghost use Rattle.sg_program.specs.Invariants.{item_depth};
-ghost use Rattle.sg_script.specs.Left.{left, Fits, AreNested, IsAt, Stands, items_cost, cost};
+ghost use Rattle.sg_script.specs.Left.{left, FitsAtDepth, AreNested, IsAt, Stands, items_cost, cost};
 
 use sg_program::{Item, Statement};
 use std::alloc::{AllocError, Global};
@@ -160,7 +160,7 @@ fn step(frames: &mut Vec<Frame>) -> bool
 // Begins with this body, if it is to be done some times.
 fn enter<'a>(frames: &mut Vec<Frame<'a>>, body: &'a [Item], times: u32)
     requires nested { AreNested 0 frames.old.items }
-    requires fits { Fits (length frames.old.items) body.now }
+    requires fits { FitsAtDepth (length frames.old.items) body.now }
     requires room { 5 ≤ vec_capacity frames.old }
     ensures left { left frames.new.items ≡ repeated times (written_out body.now) ++ left frames.old.items }
     ensures nested { AreNested 0 frames.new.items }

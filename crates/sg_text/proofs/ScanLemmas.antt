@@ -1,14 +1,16 @@
 -- The sentences of a text, line by line.
-use Rattle.std.proofs.Common.{Bor, ◌≡◌, ℕ, zero, suc, ◌+◌, ◌<◌, ◌≤◌, ◌⊎◌, true, Option, Some, None, List, [], ◌∷◌, ◌++◌, length, take, refl, sym, ap, subst, ◌∙◌, inl, inr, append_assoc, arith}
-use Rattle.std.specs.Prelude.{slice_get, IsTrue, IfSome, IfNone}
+use Rattle.std.proofs.Common.{Bor, ◌≡◌, ℕ, suc, ◌+◌, ◌<◌, ◌≤◌, true, Option, Some, None, List, [], ◌∷◌, ◌++◌, length, refl, sym, ap, subst, ◌∙◌, inl, inr, append_assoc, arith}
+use Rattle.std.specs.Prelude.{slice_get, IfSome}
 use Rattle.std.proofs.Math.Seq.{take-append_seam}
 use Rattle.std.proofs.lemmas.List.{append-nil}
 use Rattle.sg_text.specs.declared.scanner.Extent.TheVariants.{Whole, Above}
 use Rattle.sg_text.specs.Words.{is_proper, words_of, lines_of}
 use Rattle.sg_text.specs.Lines.{Sentence, IsLine}
-use Rattle.sg_text.specs.Numbered.{Numbered, SayBelow, Say}
+use Rattle.sg_text.specs.Numbered.{Numbered, Say}
 use Rattle.sg_text.specs.Reading.{numbered, AreRead, IsNoLine, IsScan}
+use Rattle.sg_text.specs.Steps.{first_line, lines_below, lines_left}
 use Rattle.sg_text.proofs.OneSentence.{at, say_append}
+use Rattle.sg_text.proofs.LineWords.{lines_front}
 
 -- ---- lists with one more
 
@@ -46,11 +48,6 @@ read_line lines numbers said text s read proper is = record {
     one_at n s = let same : n ≡ 0 + n = omega arith in ap (λ (k : ℕ). at (suc k) s ∷ []) same
 
 -- ---- the lines of a text, one after another
-
--- the lines that aren't read yet
-abbrev pub lines_behind : Option (Bor (List ℕ)) → List (List ℕ)
-lines_behind None = []
-lines_behind (Some rest) = lines_of rest.now
 
 abbrev pub size_behind : Option (Bor (List ℕ)) → ℕ
 size_behind None = 0
@@ -103,11 +100,10 @@ scan_end lines number numbers said so_far =
     let whole : lines ≡ so_far.before = so_far.whole ∙ append-nil so_far.before in
     (so_far.as_many ∙ ap (λ (l : List (List ℕ)). length l) (sym whole), subst (λ (l : List (List ℕ)). AreRead l numbers said) (sym whole) so_far.read)
 
--- the lines behind a line that is cut off
-pub cut_behind : (bytes line : List ℕ) (more : Option (Bor (List ℕ))) → IfSome more (λ rest. lines_of bytes ≡ line ∷ lines_of rest.now) → IfNone more (lines_of bytes ≡ line ∷ []) → lines_of bytes ≡ line ∷ lines_behind more
-cut_behind bytes line None some none = none
-cut_behind bytes line (Some rest) some none = some
+-- the first line of what is left, and the lines behind it
+pub left_front : (bytes : List ℕ) (more : Option (Bor (List ℕ))) → lines_below bytes ≡ lines_left more → lines_of bytes ≡ first_line bytes ∷ lines_left more
+left_front bytes more e = lines_front bytes ∙ ap (λ (l : List (List ℕ)). first_line bytes ∷ l) e
 
-pub cut_smaller : (bytes : List ℕ) (more : Option (Bor (List ℕ))) → IfSome more (λ rest. length rest.now < length bytes) → size_behind more ≤ length bytes
-cut_smaller bytes None some = omega arith
-cut_smaller bytes (Some rest) some = some
+pub left_smaller : (bytes : List ℕ) (more : Option (Bor (List ℕ))) → IfSome more (λ rest. length rest.now < length bytes) → size_behind more ≤ length bytes
+left_smaller bytes None some = omega arith
+left_smaller bytes (Some rest) some = some

@@ -5,7 +5,9 @@ use mir.Val.{bool_byte}
 use Rattle.std.proofs.Math.Seq.{drop-cons}
 use Rattle.std.proofs.Math.Nat.{pow-suc}
 use Rattle.std.proofs.Math.Pow.{pow_mono}
-use Rattle.std.proofs.Common.{Option, Some, ◌≡◌, ◌≢◌, ℕ, zero, suc, ◌+◌, ◌*◌, ◌-◌, ◌^◌, ◌<◌, ◌≤◌, Bool, true, false, cond, eqb, List, [], ◌∷◌, length, get_or, drop, Result, Ok, Err, refl, sym, subst, ◌∙◌, arith}
+use Rattle.std.proofs.Common.{Option, Some, ◌≡◌, ◌≢◌, ℕ, zero, suc, ◌+◌, ◌*◌, ◌-◌, ◌^◌, ◌<◌, ◌≤◌, Bool, true, false, cond, eqb, List, [], ◌∷◌, length, get_or, drop, Result, Ok, Err, refl, sym, ap, subst, ◌∙◌, arith}
+use Rattle.std.proofs.lemmas.Bool.Decides.{nat_tests}
+use Rattle.std.proofs.lemmas.Grind.{common_steps}
 use Rattle.std.specs.Fmt.{decimal}
 use Rattle.std.specs.Str.Parse.{ParsesUnsigned, digits_value}
 use Rattle.std.specs.Str.{all_ascii_digits}
@@ -89,3 +91,20 @@ mask_small len at bits d pos within b one small =
 
 pub mask_fits : (len bits : ℕ) → len < 61 → bits < 2 ^ len → bits < 2 ^ 60
 mask_fits len bits short small = let most : 2 ^ len ≤ 2 ^ 60 = pow_mono {i = len} {j = 60} (omega arith) in omega arith
+
+-- a single byte
+pub digit_found : (byte : ℕ) → 48 ≤ byte → byte ≤ 57 → IsNumber (byte ∷ []) (byte - 48)
+digit_found byte low high =
+    let same : byte ≡ 48 + (byte - 48) = omega arith in
+    (ap (λ (b : ℕ). b ∷ []) same ∙ sym (decimal_digit (byte - 48) (omega arith)), omega arith)
+
+pub digit_only : (byte n : ℕ) → IsNumber (byte ∷ []) n → (48 ≤ byte) × (byte ≤ 57)
+digit_only byte n is = let digits : all_ascii_digits (byte ∷ []) ≡ true = number_has_digits (byte ∷ []) n is in in_range byte digits
+  where
+    in_range : (b : ℕ) → all_ascii_digits (b ∷ []) ≡ true → (48 ≤ b) × (b ≤ 57)
+    in_range b e = grind (arith, nat_tests, common_steps)
+
+pub one_alone : (word : List ℕ) → length word ≡ 1 → get_or word 0 0 ∷ [] ≡ word
+one_alone [] e = absurd (omega (arith, e))
+one_alone (c ∷ []) e = refl
+one_alone (c ∷ d ∷ cs) e = absurd (omega (arith, e))

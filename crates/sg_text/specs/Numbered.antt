@@ -20,7 +20,7 @@ SayBelow above (line ∷ lines) found =
     IsTrue (is_proper line)
     × (((words_of line ≡ []) × SayBelow (suc above) lines found)
     ⊎ ((sentence : Sentence) × (rest : List Numbered) × IsLine (words_of line) sentence
-        × (found ≡ record { number = suc above; sentence = sentence } ∷ rest) × SayBelow (suc above) lines rest))
+    × (found ≡ record { number = suc above; sentence = sentence } ∷ rest) × SayBelow (suc above) lines rest))
 
 -- the lines of a whole text say this
 abbrev pub Say : List (List ℕ) → List Numbered → Type 0

@@ -1,10 +1,22 @@
-//! Lines, and the words of a line.
-ghost use Rattle.std.specs.Prelude.{◌≡◌, ◌≤◌, ◌<◌, [], ◌∷◌, true, false, length, IfOk, IfSome, IfNone, map, ◌==◌};
-ghost use Rattle.std.specs.List.{list_all, position_or_len};
-ghost use Rattle.sg_text.specs.Words.{is_blank, is_line_feed, is_proper, lines_of, words_of};
-ghost use Rattle.sg_text.specs.Steps.{is_shown, words_in};
+//! The words of a line, and what they say.
+ghost use Rattle.std.specs.Prelude.{◌≡◌, ◌≤◌, ◌<◌, not, length, map, IfSome, IfNone};
+ghost use Rattle.std.specs.List.{position_or_len};
+ghost use Rattle.sg_text.specs.Words.{is_blank, is_line_feed};
+ghost use Rattle.sg_text.specs.Reading.{IsNoLine};
+ghost use Rattle.sg_text.specs.Steps.{is_word_byte, first_line, lines_below, lines_left, AreSaid, AreNoLine, SaysMaybe};
 
-use std::alloc::{AllocError, Global};
+use crate::line::Line;
+use crate::sentence::line;
+
+/// The most words of a line of the language.
+const MOST_WORDS: usize = 6;
+
+/// What a line says, if it has words, and the bytes behind its line feed, if it has one.
+#[derive(Clone, Copy, Debug, PartialEq, Eq)]
+pub(crate) struct Heard<'a> {
+    pub(crate) said: Option<Line<'a>>,
+    pub(crate) rest: Option<&'a [u8]>,
+}
 
 /// How many bytes stand before the first line feed.
 fn line_len(bytes: &[u8]) -> usize
@@ -19,90 +31,77 @@ fn line_len(bytes: &[u8]) -> usize
     bytes.len()
 }
 
-/// How many bytes stand before the `#` that begins a comment.
-fn comment_at(line: &[u8]) -> usize
-    ensures value { result ≡ position_or_len (λ c. c == 35) line.now }
-    ensures within { result ≤ length line.now }
-{
-    for (at, byte) in line.iter().enumerate() {
-        if *byte == b'#' {
-            return at;
-        }
-    }
-    line.len()
-}
-
 fn is_blank(byte: u8) -> bool
     ensures { result ≡ is_blank byte }
 {
     byte == b' ' || byte == b'\t' || byte == b'\r'
 }
 
-fn is_shown(byte: u8) -> bool
-    ensures { result ≡ is_shown byte }
+fn is_word_byte(byte: u8) -> bool
+    ensures { result ≡ is_word_byte byte }
 {
-    is_blank(byte) || (33 <= byte && byte <= 126)
+    33 <= byte && byte <= 126 && byte != b'#'
 }
 
-/// Whether a text without its comment has blanks and printable bytes alone.
-fn are_shown(text: &[u8]) -> bool
-    ensures { result ≡ list_all is_shown text.now }
-{
-    text.iter().all(|byte| is_shown(*byte))
-}
-
-/// How many bytes stand before the first blank.
+/// How many bytes of a word stand at the front.
 fn word_len(text: &[u8]) -> usize
-    ensures value { result ≡ position_or_len is_blank text.now }
+    ensures value { result ≡ position_or_len (λ c. not (is_word_byte c)) text.now }
     ensures within { result ≤ length text.now }
 {
     for (at, byte) in text.iter().enumerate() {
-        if is_blank(*byte) {
+        if !is_word_byte(*byte) {
             return at;
         }
     }
     text.len()
 }
 
-/// The words of a text without its comment.
-fn words_in(alloc: Global, text: &[u8]) -> Result<Vec<&[u8]>, AllocError>
-    ensures { IfOk result (λ words. map (λ word. word.now) words.items ≡ words_in text.now) }
+/// What words say, if there are some; `None` where they are no line of the language.
+fn said_by<'a>(words: &[&'a [u8]]) -> Option<Option<Line<'a>>>
+    ensures some { IfSome result (AreSaid (map (λ w. w.now) words.now)) }
+    ensures none { IfNone result (AreNoLine (map (λ w. w.now) words.now)) }
 {
-    let mut words = Vec::new(alloc);
-    let mut rest = text;
+    if words.is_empty() {
+        return Some(None);
+    }
+    match line(words) {
+        Some(found) => Some(Some(found)),
+        None => None,
+    }
+}
+
+/// What the first line says; `None` where no text has such a line. It goes over the line's bytes once.
+pub(crate) fn hear_line(bytes: &[u8]) -> Option<Heard<'_>>
+    ensures said { IfSome result (λ h. SaysMaybe (first_line bytes.now) h.said) }
+    ensures rest { IfSome result (λ h. lines_below bytes.now ≡ lines_left h.rest) }
+    ensures shorter { IfSome result (λ h. IfSome h.rest (λ rest. length rest.now < length bytes.now)) }
+    ensures none { IfNone result (IsNoLine (first_line bytes.now)) }
+{
+    let mut words: [&[u8]; MOST_WORDS] = [&[]; MOST_WORDS];
+    let mut count = 0;
+    let mut rest = bytes;
     while let [first, after @ ..] = rest {
+        if *first == b'\n' {
+            let said = said_by(&words[..count])?;
+            return Some(Heard {
+                said,
+                rest: Some(after),
+            });
+        }
         if is_blank(*first) {
             rest = after;
-        } else {
-            let (word, more) = rest.split_at(word_len(rest));
-            words.push(word)?;
+        } else if *first == b'#' {
+            let (_, more) = rest.split_at(line_len(rest));
             rest = more;
+        } else if is_word_byte(*first) && count < MOST_WORDS {
+            let (word, more) = rest.split_at(word_len(rest));
+            words[count] = word;
+            count += 1;
+            rest = more;
+        } else {
+            return None;
         }
     }
-    Ok(words)
-}
-
-/// The words of a line; `None` where another byte stands outside its comment.
-pub(crate) fn words_of(alloc: Global, line: &[u8]) -> Result<Option<Vec<&[u8]>>, AllocError>
-    ensures found { IfOk result (λ read. IfSome read (λ words. (is_proper line.now ≡ true) × (map (λ word. word.now) words.items ≡ words_of line.now))) }
-    ensures none { IfOk result (λ read. IfNone read (is_proper line.now ≡ false)) }
-{
-    let (text, _) = line.split_at(comment_at(line));
-    if !are_shown(text) {
-        return Ok(None);
-    }
-    Ok(Some(words_in(alloc, text)?))
-}
-
-/// The first line, and the bytes behind its line feed, if it has one.
-pub(crate) fn cut_line(bytes: &[u8]) -> (&[u8], Option<&[u8]>)
-    ensures cuts { IfSome result.1 (λ rest. lines_of bytes.now ≡ result.0.now ∷ lines_of rest.now) }
-    ensures shorter { IfSome result.1 (λ rest. length rest.now < length bytes.now) }
-    ensures last { IfNone result.1 (lines_of bytes.now ≡ result.0.now ∷ []) }
-{
-    let (line, rest) = bytes.split_at(line_len(bytes));
-    match rest {
-        [] => (line, None),
-        [_, after @ ..] => (line, Some(after)),
-    }
+    let said = said_by(&words[..count])?;
+    Some(Heard { said, rest: None })
 }

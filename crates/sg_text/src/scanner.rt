@@ -2,12 +2,10 @@
 ghost use Rattle.std.specs.Prelude.{◌≤◌, length, map, IfOk};
 ghost use Rattle.sg_text.specs.Words.{lines_of};
 ghost use Rattle.sg_text.specs.Reading.{sentence_of, IsScan};
-ghost use Rattle.sg_text.specs.Steps.{IsTold};
 ghost use Rattle.sg_text.specs.Laws.{HaveOneSaying};
 
 use crate::line::Line;
-use crate::lines::{cut_line, words_of};
-use crate::sentence::line;
+use crate::lines::hear_line;
 use std::alloc::{AllocError, Global};
 
 /// How far the lines of a text were read. Lines are numbered from 1.
@@ -28,33 +26,6 @@ pub struct Scanned<'a> {
     pub extent: Extent,
 }
 
-/// What one line of a text tells.
-#[derive(Clone, Copy, Debug, PartialEq, Eq)]
-pub(crate) enum Told<'a> {
-    /// It has no words.
-    Nothing,
-    /// It says something.
-    Sentence(Line<'a>),
-    /// No text has such a line.
-    Wrong,
-}
-
-/// What a line tells.
-fn told_by(alloc: Global, text: &[u8]) -> Result<Told<'_>, AllocError>
-    ensures { IfOk result (IsTold text.now) }
-{
-    let Some(words) = words_of(alloc, text)? else {
-        return Ok(Told::Wrong);
-    };
-    if words.is_empty() {
-        return Ok(Told::Nothing);
-    }
-    match line(words.as_slice()) {
-        Some(found) => Ok(Told::Sentence(found)),
-        None => Ok(Told::Wrong),
-    }
-}
-
 /// The sentences of a text, up to the first line that no text has. Linear in the bytes.
 pub fn scan(alloc: Global, bytes: &[u8]) -> Result<Scanned<'_>, AllocError>
     requires { length bytes.now ≤ 1048576 }
@@ -65,24 +36,20 @@ pub fn scan(alloc: Global, bytes: &[u8]) -> Result<Scanned<'_>, AllocError>
     let mut number = 0;
     let mut rest = Some(bytes);
     while let Some(from) = rest {
-        let (text, more) = cut_line(from);
-        rest = more;
         number += 1;
-        match told_by(alloc, text)? {
-            Told::Nothing => {}
-            Told::Sentence(line) => {
-                lines.push(line)?;
-                numbers.push(number)?;
-            }
-            Told::Wrong => {
-                let extent = Extent::Above { wrong: number };
-                return Ok(Scanned {
-                    lines,
-                    numbers,
-                    extent,
-                });
-            }
+        let Some(heard) = hear_line(from) else {
+            let extent = Extent::Above { wrong: number };
+            return Ok(Scanned {
+                lines,
+                numbers,
+                extent,
+            });
+        };
+        if let Some(line) = heard.said {
+            lines.push(line)?;
+            numbers.push(number)?;
         }
+        rest = heard.rest;
     }
     Ok(Scanned {
         lines,

@@ -1,21 +1,17 @@
 // What lines say, and the sentences of a text with their numbers.
 use crate::line::{Cell, Form, Line, Maker, Setting};
-use crate::lines::words_of;
+use crate::lines::hear_line;
 use crate::scanner::{Extent, scan};
-use crate::sentence::line;
 use sg_program::Statement;
-use std::alloc::{AllocError, Global};
 use std::test::Fail;
 
-fn said(alloc: Global, text: &str) -> Result<Option<Line<'_>>, AllocError> {
-    match words_of(alloc, text.as_bytes())? {
-        Some(words) => Ok(line(words.as_slice())),
-        None => Ok(None),
-    }
+/// What a line says; nothing where it has no words, or where no text has it.
+fn said(text: &str) -> Option<Line<'_>> {
+    hear_line(text.as_bytes())?.said
 }
 
 #[test]
-fn lines_say_what_their_words_do(rt: HostRuntime) -> Result<(), Fail> {
+fn lines_say_what_their_words_do(rt: HostRuntime) {
     let statements = [
         (
             "put r0 1 r2",
@@ -77,22 +73,29 @@ fn lines_say_what_their_words_do(rt: HostRuntime) -> Result<(), Fail> {
         ("sections", Statement::Sections),
     ];
     for (text, statement) in statements {
-        assert_eq!(rt;
-            said(rt.alloc(), text)?,
-            Some(Line::Do(statement)),
-            "at {text}"
-        );
+        assert_eq!(rt; said(text), Some(Line::Do(statement)), "at {text}");
     }
-    Ok(())
 }
 
 #[test]
-fn other_lines_say_theirs(rt: HostRuntime) -> Result<(), Fail> {
+fn other_lines_say_theirs(rt: HostRuntime) {
     let name = b"Pair_2".as_slice();
     let lines = [
         ("sgen 1", Line::Head),
-        ("nursery 4096", Line::Setting { setting: Setting::Nursery, n: 4096 }),
-        ("cement 0", Line::Setting { setting: Setting::Cement, n: 0 }),
+        (
+            "nursery 4096",
+            Line::Setting {
+                setting: Setting::Nursery,
+                n: 4096,
+            },
+        ),
+        (
+            "cement 0",
+            Line::Setting {
+                setting: Setting::Cement,
+                n: 0,
+            },
+        ),
         (
             "class Pair_2 plain 63",
             Line::Class {
@@ -210,15 +213,13 @@ fn other_lines_say_theirs(rt: HostRuntime) -> Result<(), Fail> {
         ),
     ];
     for (text, expected) in lines {
-        assert_eq!(rt; said(rt.alloc(), text)?, Some(expected), "at {text}");
+        assert_eq!(rt; said(text), Some(expected), "at {text}");
     }
-    Ok(())
 }
 
 #[test]
-fn wrong_lines_say_nothing(rt: HostRuntime) -> Result<(), Fail> {
+fn wrong_lines_are_told(rt: HostRuntime) {
     let wrong = [
-        "",
         "sgen 2",
         "sgen 1 1",
         "repeat 01",
@@ -239,14 +240,15 @@ fn wrong_lines_say_nothing(rt: HostRuntime) -> Result<(), Fail> {
         "collect",
         "put r0 r1 r2",
         "end end",
+        "class a run 4 1 2 3",
+        "class a run 4 1 2 3 4",
         "Mutator",
         "nurser 1",
         "drop r1 \x7f",
     ];
     for text in wrong {
-        assert_eq!(rt; said(rt.alloc(), text)?, None, "at {text}");
+        assert!(rt; hear_line(text.as_bytes()).is_none(), "at {text}");
     }
-    Ok(())
 }
 
 #[test]

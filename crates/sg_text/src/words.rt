@@ -1,11 +1,12 @@
 //! What single words mean.
-ghost use Rattle.std.specs.Prelude.{◌≡◌, ◌<◌, ◌^◌, ℕ, length, IfSome, Some};
+ghost use Rattle.std.specs.Prelude.{◌≡◌, ◌<◌, ◌^◌, ℕ, [], ◌∷◌, length, IfSome, Some};
 ghost use Rattle.std.specs.List.{list_all};
 ghost use Rattle.sg_text.specs.Words.{IsNumber, IsRegister, is_letter, is_name_byte, is_name, is_mask_byte, mask_bits};
 ghost use Rattle.sg_text.specs.Steps.{Only};
 ghost use Rattle.sg_text.specs.Sentences.{number_in, register_in};
 
 /// The number that the word spells.
+#[inline(never)]
 fn spelled(word: &[u8]) -> Option<u64>
     ensures found { IfSome result (IsNumber word.now) }
     ensures only { Only (IsNumber word.now) result }
@@ -25,13 +26,40 @@ fn spelled(word: &[u8]) -> Option<u64>
     }
 }
 
+/// The number that a single byte spells.
+#[inline]
+fn digit(byte: u8) -> Option<u64>
+    ensures found { IfSome result (IsNumber (byte ∷ [])) }
+    ensures only { Only (IsNumber (byte ∷ [])) result }
+{
+    if byte < b'0' {
+        return None;
+    }
+    if byte > b'9' {
+        return None;
+    }
+    Some(u64::from(byte - b'0'))
+}
+
+/// The number that the word spells: most numbers of a text are single digits.
+#[inline]
+fn spelled_fast(word: &[u8]) -> Option<u64>
+    ensures found { IfSome result (IsNumber word.now) }
+    ensures only { Only (IsNumber word.now) result }
+{
+    match word {
+        [byte] => digit(*byte),
+        _ => spelled(word),
+    }
+}
+
 /// The register that the word names.
 fn named(word: &[u8]) -> Option<u8>
     ensures found { IfSome result (IsRegister word.now) }
     ensures only { Only (IsRegister word.now) result }
 {
     match word {
-        [b'r', digits @ ..] => match spelled(digits) {
+        [b'r', digits @ ..] => match spelled_fast(digits) {
             Some(found) if found <= 15 => Some(found as u8),
             _ => None,
         },
@@ -43,7 +71,7 @@ fn named(word: &[u8]) -> Option<u8>
 pub(crate) fn number(word: &[u8]) -> Option<u64>
     ensures { result ≡ number_in word.now }
 {
-    spelled(word)
+    spelled_fast(word)
 }
 
 /// The register that the word names.

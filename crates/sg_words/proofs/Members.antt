@@ -1,7 +1,7 @@
 -- Members of lists.
-use Rattle.std.proofs.Common.{◌≡◌, ◌≢◌, ℕ, zero, suc, ◌+◌, ◌-◌, ◌*◌, ◌/◌, ◌%◌, ◌^◌, ◌≤◌, ◌<◌, ◌⊎◌, eqb, cond, Bool, true, false, List, [], ◌∷◌, ◌++◌, map, length, drop, get_or, slice_index_or, sym, refl, ap, ◌∙◌, subst, inl, inr, arith, zero-le, add-one}
+use Rattle.std.proofs.Common.{◌≡◌, ◌≢◌, ℕ, zero, suc, ◌+◌, ◌-◌, ◌*◌, ◌/◌, ◌%◌, ◌^◌, ◌≤◌, ◌<◌, ◌⊎◌, eqb, cond, Bool, true, false, List, [], ◌∷◌, ◌++◌, map, filter, length, drop, get_or, slice_index_or, sym, refl, ap, ◌∙◌, subst, inl, inr, arith, zero-le, add-one}
 use Rattle.std.proofs.lemmas.Bool.{cond-true, cond-false, cases_eq, cases_Bool, eq-eqb, ne_eqb}
-use Rattle.std.specs.List.{Contains}
+use Rattle.std.specs.List.{Contains, flat_map}
 use Rattle.std.proofs.lemmas.List.Elements.{Contains-append_right}
 use Rattle.sg_words.specs.Lists.{has, In}
 use Rattle.sg_words.specs.Reach.{IsFreshIn, AreDistinct, AreAmong}
@@ -124,4 +124,39 @@ map_in f b [] h = absurd (let z = h in cc)
 map_in f b (x ∷ xs) h = elim (has-cases b (f x) (map f xs) h) [
   | inl e ↦ (x, in-here x x xs refl, sym e)
   | inr i ↦ let q = map_in f b xs i in (q.0, in-there q.0 x xs q.1, q.2)
+]
+
+-- members of what passes a test, and of lists one behind another
+pub in-filter : (f : ℕ → Bool) (x : ℕ) (xs : List ℕ) → In x (filter f xs) → In x xs × (f x ≡ true)
+in-filter f x [] h = absurd (let z = h in cc)
+in-filter f x (y ∷ xs) h = elim (cases_Bool (f y)) [
+  | inl k ↦ elim (has-cases x y (filter f xs) (subst (λ (l : List ℕ). In x l) (cond-true _ _ _ k) h)) [
+    | inl e ↦ (in-here x y xs e, ap f e ∙ k)
+    | inr i ↦ let q = in-filter f x xs i in (in-there x y xs q.0, q.1)
+  ]
+  | inr k ↦ let q = in-filter f x xs (subst (λ (l : List ℕ). In x l) (cond-false _ (y ∷ filter f xs) _ k) h) in (in-there x y xs q.0, q.1)
+]
+
+pub filter-in : (f : ℕ → Bool) (x : ℕ) (xs : List ℕ) → In x xs → f x ≡ true → In x (filter f xs)
+filter-in f x [] h k = absurd (let z = h in cc)
+filter-in f x (y ∷ xs) h k = elim (has-cases x y xs h) [
+  | inl e ↦ subst (λ (l : List ℕ). In x l) (sym (cond-true _ _ _ (ap f (sym e) ∙ k))) (in-here x y (filter f xs) e)
+  | inr i ↦ (let more = filter-in f x xs i k in elim (cases_Bool (f y)) [
+    | inl e ↦ subst (λ (l : List ℕ). In x l) (sym (cond-true _ _ _ e)) (in-there x y (filter f xs) more)
+    | inr e ↦ subst (λ (l : List ℕ). In x l) (sym (cond-false _ (y ∷ filter f xs) _ e)) more
+  ])
+]
+
+pub flat-in : (f : ℕ → List ℕ) (n x : ℕ) (xs : List ℕ) → In n xs → In x (f n) → In x (flat_map f xs)
+flat-in f n x [] h k = absurd (let z = h in cc)
+flat-in f n x (y ∷ xs) h k = elim (has-cases n y xs h) [
+  | inl e ↦ in-left x (f y) (flat_map f xs) (subst (λ (z : ℕ). In x (f z)) e k)
+  | inr i ↦ in-right x (f y) (flat_map f xs) (flat-in f n x xs i k)
+]
+
+pub in-flat : (f : ℕ → List ℕ) (x : ℕ) (xs : List ℕ) → In x (flat_map f xs) → (n : ℕ) × In n xs × In x (f n)
+in-flat f x [] h = absurd (let z = h in cc)
+in-flat f x (y ∷ xs) h = elim (in-cases x (f y) (flat_map f xs) h) [
+  | inl i ↦ (y, in-here y y xs refl, i)
+  | inr i ↦ let q = in-flat f x xs i in (q.0, in-there q.0 y xs q.1, q.2)
 ]

@@ -24,7 +24,8 @@ pub returns-clause-none : goal.returns-clause-none
 returns-clause-none c =
     let so = c.loop-fragment.invariant in
     record {
-      went = search_ends c.args.space.now c.args.words c.loop-fragment.fragment so (omega (arith, c.fragments-fragment-end.ensures.value, c.loop-fragment-test.false, c.loop-fragment.auto.fragment-end));
+      went = search_ends c.args.space.now c.args.words c.loop-fragment.fragment so
+          (omega (arith, c.fragments-fragment-end.ensures.value, c.loop-fragment-test.false, c.loop-fragment.auto.fragment-end));
       none = λ f l. so.passed f (omega (arith, c.fragments-fragment-end.ensures.value, c.loop-fragment-test.false));
     }
 

@@ -1,25 +1,43 @@
-use Rattle.std.proofs.Common.{◌≡◌, ◌+◌, map, sym, subst, ap, ◌∙◌, arith}
+use Rattle.std.proofs.Common.{◌≡◌, ℕ, ◌+◌, ◌<◌, ◌≤◌, ◌++◌, ◌∷◌, [], List, false, map, filter, ap, subst, ◌∙◌, arith}
 use Rattle.sg_words.specs.Address.{word_at}
 use Rattle.sg_space.specs.Standing.{word}
-use Rattle.sg_copy.specs.Copying.{area_of, is_strong_in}
-use Rattle.sg_minor.specs.Parts.{GrowsBy, IsFieldOf}
-use Rattle.sg_minor.proofs.OldSlots.{field_taken, field_passed}
-use Rattle.sg_minor.proofs.seeds.add_fields.Goals.{then-is_strong+in_ok-add_slot, else-is_strong}
+use Rattle.sg_copy.specs.Copying.{area_of, strong_of_shape}
+use Rattle.sg_minor.specs.Joined.{holds_young}
+use Rattle.sg_minor.proofs.Added.{fields-open, fields-more, fields-all}
 use Rattle.sg_minor.proofs.seeds.add_fields.Goals as goal
+
+pub loop-i-init : goal.loop-i-init
+loop-i-init c =
+    let s = c.args.space.now in
+    let next = c.next_strong-i in
+    let kept = λ (k : ℕ). strong_of_shape s c.args.class k c.args.fields c.shape-kind.result c.shape-kind.ensures in
+    record {
+      below = next.ensures.within;
+      strong = λ l. kept next.result ∙ next.ensures.strong l;
+      added = fields-open (holds_young (area_of s) (word s)) ((area_of s).strong c.args.class) (word_at c.args.at) c.args.fields next.result (map word_at c.args.slots.now.items)
+          next.ensures.within (λ k a u. kept k ∙ next.ensures.passed k a u);
+    }
 
 pub loop-i-preserved : goal.loop-i-preserved
 loop-i-preserved c =
     let s = c.args.space.now in
     let i = c.loop-i.i in
-    let class = c.args.class in
-    let h = word_at c.args.at in
-    let old = map word_at c.args.slots.now.items in
-    let strong : (area_of s).strong class i ≡ c.is_strong.result = ap (λ z. is_strong_in z i) c.shape-shape.ensures ∙ sym c.is_strong.ensures in
-    elim c.if-is_strong.branch [
-      | then-is_strong+in_ok-add_slot w ↦
-          subst (λ z. GrowsBy (area_of s) (word s) (IsFieldOf (area_of s) class h (i + 1)) old (map word_at z.items)) (sym w.slots-is)
-          (field_taken (area_of s) (word s) class h i old _ _ (word_at w.plus.result) (strong ∙ w.if-is_strong.true) (let p = w.plus.ensures in omega arith) c.loop-i.invariant w.in_ok-add_slot.ensures)
-      | else-is_strong w ↦
-          subst (λ z. GrowsBy (area_of s) (word s) (IsFieldOf (area_of s) class h (i + 1)) old (map word_at z.items)) (sym w.slots-is)
-          (field_passed (area_of s) (word s) class h i old _ (strong ∙ w.if-is_strong.false) c.loop-i.invariant)
-    ]
+    let at = c.args.at in
+    let next = c.next_strong-i-in-loop-i in
+    let less = c.loop-i-test.true in
+    let invariant = c.loop-i.invariant in
+    let kept = λ (k : ℕ). strong_of_shape s c.args.class k c.args.fields c.shape-kind.result c.shape-kind.ensures in
+    let place : word_at c.plus.result ≡ word_at at + 2 + i = let p = c.plus.ensures in omega arith in
+    record {
+      below = next.ensures.within;
+      strong = λ l. kept next.result ∙ next.ensures.strong l;
+      added = fields-more (holds_young (area_of s) (word s)) ((area_of s).strong c.args.class) (word_at at) c.args.fields i next.result (map word_at c.loop-i.slots.items) _ _
+          less (invariant.strong less) next.ensures.from next.ensures.within (λ k a u. kept k ∙ next.ensures.passed k a u)
+          (subst (λ (z : ℕ). map word_at c.add_slot.new.slots.items ≡ map word_at c.loop-i.slots.items ++ filter (holds_young (area_of s) (word s)) (z ∷ [])) place c.in_ok-add_slot.ensures)
+          invariant.added;
+    }
+
+pub returns : goal.returns
+returns c =
+    let s = c.args.space.now in
+    fields-all (holds_young (area_of s) (word s)) ((area_of s).strong c.args.class) (word_at c.args.at) c.args.fields (map word_at c.loop-i.slots.items) _ c.loop-i.i c.loop-i-test.false c.loop-i.invariant.added

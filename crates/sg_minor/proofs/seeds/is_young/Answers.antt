@@ -5,7 +5,7 @@ use Rattle.sg_minor.proofs.seeds.is_young.Goals as goal
 
 pub returns-in-Some : goal.returns-in-Some
 returns-in-Some c =
-    let end : c.old_base.result ≡ 8 * old_base c.args.space.now.layout = c.old_base.ensures ∙ ap (λ l. 8 * old_base l) c.layout.ensures in
+    let end : c.old_base.result ≡ 8 * old_base c.args.space.now.layout = c.old_base.ensures ∙ ap (λ l. 8 * old_base l) c.layout.ensures.layout in
     let address = c.in-Some.ensures.0 in
     let from = address.0 in
     let whole = address.2 in (

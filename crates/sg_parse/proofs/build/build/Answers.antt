@@ -5,9 +5,29 @@ use Rattle.sg_text.specs.Reading.{sentence_of}
 use Rattle.sg_parse.specs.LineLimits.{IsLineFault}
 use Rattle.sg_parse.proofs.Bodies.{no_items, some_items}
 use Rattle.sg_parse.proofs.BuildStart.{all_small}
-use Rattle.sg_parse.proofs.BuildAnswers.{EndOf, end_within, situation, answer_heavy, index_fits, answer_fault, fine, answer_none, answer_made}
+use Rattle.sg_parse.proofs.BuildAnswers.{EndOf, end_within, situation, few_where_read, answer_heavy, index_fits, answer_fault, fine, answer_none, answer_made}
 use Rattle.sg_parse.proofs.build.build.Goals as goal
 use Rattle.sg_parse.proofs.build.build.Goals.{in-Some, in-None}
+
+pub read_scripts-requires-clause-few : goal.read_scripts-requires-clause-few
+read_scripts-requires-clause-few c =
+    let end_is : EndOf c.args.lines.now c.line_fault-fault.result c.match-fault.end = elim c.match-fault.branch [
+      | in-Some w ↦ subst (λ f. EndOf c.args.lines.now f c.match-fault.end) (sym w.in-Some.is) w.end-is
+      | in-None w ↦ subst (λ f. EndOf c.args.lines.now f c.match-fault.end) (sym w.in-None.is) w.end-is
+    ] in
+    let s = situation c.args.lines.now (classes_of c.args.names.now) c.line_fault-fault.result c.match-fault.end c.above_mutators-start.result c.requires.whole c.requires.named c.requires.names
+    c.line_fault-fault.ensures end_is c.above_mutators-start.ensures.within c.above_mutators-start.ensures.above c.above_mutators-start.ensures.here in
+    few_where_read c.args.lines.now (classes_of c.args.names.now) c.line_fault-fault.result c.match-fault.end c.above_mutators-start.result s
+
+pub read_scripts-requires-clause-small : goal.read_scripts-requires-clause-small
+read_scripts-requires-clause-small c =
+    let end_is : EndOf c.args.lines.now c.line_fault-fault.result c.match-fault.end = elim c.match-fault.branch [
+      | in-Some w ↦ subst (λ f. EndOf c.args.lines.now f c.match-fault.end) (sym w.in-Some.is) w.end-is
+      | in-None w ↦ subst (λ f. EndOf c.args.lines.now f c.match-fault.end) (sym w.in-None.is) w.end-is
+    ] in
+    let s = situation c.args.lines.now (classes_of c.args.names.now) c.line_fault-fault.result c.match-fault.end c.above_mutators-start.result c.requires.whole c.requires.named c.requires.names
+    c.line_fault-fault.ensures end_is c.above_mutators-start.ensures.within c.above_mutators-start.ensures.above c.above_mutators-start.ensures.here in
+    s.small
 
 pub overflow_add-result : goal.overflow_add-result
 overflow_add-result c =

@@ -3,7 +3,7 @@ use Rattle.std.proofs.lemmas.List.{append-nil}
 use Rattle.sg_text.specs.declared.line.Line.TheVariants.{Head}
 use Rattle.sg_parse.specs.Faults.{class_in}
 use Rattle.sg_text.specs.Reading.{sentence_of}
-use Rattle.sg_parse.specs.Building.{IsSmall}
+use Rattle.sg_parse.specs.Building.{HasSmallNumbers}
 use Rattle.sg_parse.proofs.LineFaults.{read_at}
 use Rattle.sg_parse.proofs.Bodies.{small_at}
 use Rattle.sg_parse.proofs.BuildLemmas.{class_more, no_class, same_class}
@@ -11,7 +11,7 @@ use Rattle.sg_parse.proofs.build.classes.Goals as goal
 use Rattle.sg_parse.proofs.build.classes.Goals.{in-Class+in_ok-bytes+in_ok-push, in_default}
 
 pub shape-requires : goal.shape-requires
-shape-requires c = subst (λ l. IsSmall (sentence_of l)) c.in-Class.is
+shape-requires c = subst (λ l. HasSmallNumbers (sentence_of l)) c.in-Class.is
     (small_at (map sentence_of c.args.lines.now) c.loop-line.line-index _ c.requires (read_at sentence_of c.args.lines.now c.loop-line.line-index Head c.loop-line-test.true))
 
 pub loop-line-preserved : goal.loop-line-preserved

@@ -1,7 +1,7 @@
 use Rattle.std.proofs.Common.{◌≡◌, ℕ, ◌<◌, List, length, map, slice_get, sym, ap, ◌∙◌, subst}
 use Rattle.sg_text.specs.declared.line.Line.{Line}
 use Rattle.sg_text.specs.Words.{lines_of}
-use Rattle.sg_grammar.specs.Text.{IsWhole}
+use Rattle.sg_grammar.specs.Text.{IsWholeText}
 use Rattle.sg_program.specs.declared.program.Program.{Program}
 use Rattle.sg_parse.specs.declared.refusal.Which.{Which}
 use Rattle.sg_parse.specs.declared.names.Names.{Names}
@@ -10,7 +10,7 @@ use Rattle.sg_parse.specs.declared.names.Named.TheVariants.{Classes, Misnamed}
 use Rattle.sg_parse.specs.declared.build.Built.{Built}
 use Rattle.sg_parse.specs.declared.build.Built.TheVariants.{Program as Made, Over, NoMutator}
 use Rattle.sg_parse.specs.Names.{IsNaming}
-use Rattle.sg_parse.specs.Building.{IsBuilt}
+use Rattle.sg_parse.specs.Building.{IsBuiltAs}
 use Rattle.sg_parse.specs.Faults.{IsMisnamed}
 use Rattle.sg_text.specs.Reading.{sentence_of, AreRead}
 use Rattle.sg_parse.specs.Indices.{IsFirstIn, HasNoneIn}
@@ -22,8 +22,8 @@ use Rattle.sg_parse.proofs.program.read.Goals as goal
 seen : (text : List (List ℕ)) (numbers : List ℕ) (lines now : List Line) → now ≡ lines → AreRead text numbers (map sentence_of lines) → AreRead text numbers (map sentence_of now)
 seen text numbers lines now same = subst (λ (z : List Line). AreRead text numbers (map sentence_of z)) (sym same)
 
-whole-seen : (lines now : List Line) → now ≡ lines → IsWhole (map sentence_of lines) → IsWhole (map sentence_of now)
-whole-seen lines now same = subst (λ (z : List Line). IsWhole (map sentence_of z)) (sym same)
+whole-seen : (lines now : List Line) → now ≡ lines → IsWholeText (map sentence_of lines) → IsWholeText (map sentence_of now)
+whole-seen lines now same = subst (λ (z : List Line). IsWholeText (map sentence_of z)) (sym same)
 
 misnamed : (s : List Sentence) (answer : Named) (i : ℕ) → answer ≡ Misnamed i → IsNaming s answer → IsFirstIn IsMisnamed s i
 misnamed s answer i e = subst (IsNaming s) e
@@ -31,14 +31,14 @@ misnamed s answer i e = subst (IsNaming s) e
 named : (s : List Sentence) (answer : Named) (names : Names) → answer ≡ Classes names → IsNaming s answer → HasNoneIn IsMisnamed s
 named s answer names e is = (subst (IsNaming s) e is).0
 
-over : (s : List Sentence) (answer : Built) (i : ℕ) (which : Which) → answer ≡ Over i which → IsBuilt s answer → IsBuilt s (Over i which)
-over s answer i which e = subst (IsBuilt s) e
+over : (s : List Sentence) (answer : Built) (i : ℕ) (which : Which) → answer ≡ Over i which → IsBuiltAs s answer → IsBuiltAs s (Over i which)
+over s answer i which e = subst (IsBuiltAs s) e
 
-nobody : (s : List Sentence) (answer : Built) → answer ≡ NoMutator → IsBuilt s answer → IsBuilt s NoMutator
-nobody s answer e = subst (IsBuilt s) e
+nobody : (s : List Sentence) (answer : Built) → answer ≡ NoMutator → IsBuiltAs s answer → IsBuiltAs s NoMutator
+nobody s answer e = subst (IsBuiltAs s) e
 
-made : (s : List Sentence) (answer : Built) (p : Program) → answer ≡ Made p → IsBuilt s answer → IsBuilt s (Made p)
-made s answer p e = subst (IsBuilt s) e
+made : (s : List Sentence) (answer : Built) (p : Program) → answer ≡ Made p → IsBuiltAs s answer → IsBuiltAs s (Made p)
+made s answer p e = subst (IsBuiltAs s) e
 
 pub returns-in-Ok-Misnamed-clause-refused : goal.returns-in-Ok-Misnamed-clause-refused
 returns-in-Ok-Misnamed-clause-refused c =

@@ -4,7 +4,7 @@ use Rattle.sg_text.specs.declared.line.Line.{Line}
 use Rattle.sg_text.specs.Words.{lines_of}
 use Rattle.sg_text.specs.Lines.{Sentence}
 use Rattle.sg_text.specs.Reading.{sentence_of, IsScan}
-use Rattle.sg_grammar.specs.Text.{IsWhole, IsPrefix, CanGoOn, IsFirstRefused}
+use Rattle.sg_grammar.specs.Text.{IsWholeText, IsPrefix, CanGoOn}
 use Rattle.sg_parse.proofs.Refused.{as_many_numbers, at_misplaced, at_wrong, at_wrong_whole, at_end}
 use Rattle.sg_parse.proofs.program.sentences.Goals as goal
 
@@ -44,7 +44,7 @@ returns-in-Above c = record {
   refused = (
     c.requires,
     at_wrong_whole c.one_saying.ensures (lines_of c.args.bytes.now) _ (said c.in-Ok.scan.lines.items) c.in-Above.wrong (subst (IsScan _ _ _) c.in-Above.is c.in-Ok.ensures)
-        (subst (λ (z : List Line). IsWhole (said z)) c.as_slice.ensures.value (c.in-Whole.ensures.whole refl)),
+        (subst (λ (z : List Line). IsWholeText (said z)) c.as_slice.ensures.value (c.in-Whole.ensures.whole refl)),
   );
 }
 
@@ -60,5 +60,5 @@ returns-clause-refused c = (
   c.requires,
   at_end c.one_saying.ensures (lines_of c.args.bytes.now) _ (said c.in-Ok.scan.lines.items) c.in-Whole-extent-2.lines (subst (IsScan _ _ _) c.in-Whole-extent-2.is c.in-Ok.ensures)
       (subst (λ (z : List Line). IsPrefix (said z)) c.as_slice.ensures.value (c.in-Unfinished.ensures.unfinished refl).0)
-      (subst (λ (z : List Line). ¬ IsWhole (said z)) c.as_slice.ensures.value (c.in-Unfinished.ensures.unfinished refl).1),
+      (subst (λ (z : List Line). ¬ IsWholeText (said z)) c.as_slice.ensures.value (c.in-Unfinished.ensures.unfinished refl).1),
 )

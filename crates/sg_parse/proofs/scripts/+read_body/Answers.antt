@@ -6,10 +6,11 @@ use Rattle.sg_program.specs.declared.program.Item.TheViews.{the_lemmas}
 use Rattle.sg_parse.specs.declared.scripts.Body.{Body}
 use Rattle.sg_text.specs.declared.line.Line.TheVariants.{Head}
 use Rattle.sg_parse.specs.Names.{classes_of}
+use Rattle.sg_text.specs.Lines.{Repeats}
 use Rattle.sg_text.specs.Reading.{sentence_of}
 use Rattle.sg_parse.specs.Building.{IsStatement}
 use Rattle.sg_parse.proofs.LineFaults.{read_at}
-use Rattle.sg_parse.proofs.Bodies.{IsInBody, body_end, body_more, body_none, body_over, repeat_none, repeat_empty, repeat_more, repeat_large, other_line, inner_body, inner_within, some_items, no_items}
+use Rattle.sg_parse.proofs.Bodies.{IsInBody, body_end, body_more, body_none, body_over, repeat_none, repeat_empty, repeat_more, small_at, inner_small, other_line, inner_body, inner_within, some_items, no_items}
 use Rattle.sg_parse.proofs.scripts.+read_body.Goals as goal
 
 pub returns-in-End-clause-items : goal.returns-in-End-clause-items
@@ -18,10 +19,21 @@ returns-in-End-clause-items t c =
     body_end (classes_of c.args.names.now) (map sentence_of c.args.lines.now) c.loop-at.at c.loop-at.items.items b c.loop-at.invariant.state
     (read_at sentence_of c.args.lines.now c.loop-at.at Head c.loop-at-test.true ∙ ap (λ l. Some (sentence_of l)) c.in-End.is) c.from_vec.ensures refl
 
-pub returns-then-times-gt1048576-clause-items : goal.returns-then-times-gt1048576-clause-items
-returns-then-times-gt1048576-clause-items t c =
-    repeat_large (classes_of c.args.names.now) (map sentence_of c.args.lines.now) c.loop-at.at c.in-Repeat.times
-    (read_at sentence_of c.args.lines.now c.loop-at.at Head c.loop-at-test.true ∙ ap (λ l. Some (sentence_of l)) c.in-Repeat.is) c.if-times-gt1048576.true
+pub read_body-requires : goal.read_body-requires
+read_body-requires t c = (search rules, (λ some. c.requires.few (let l = c.loop-at-test.true in omega arith), inner_small c.args.lines.now c.loop-at.at c.requires.small))
+
+pub overflow_cast-times : goal.overflow_cast-times
+overflow_cast-times t c =
+    let small : c.in-Repeat.times ≤ 1048576 =
+    small_at (map sentence_of c.args.lines.now) c.loop-at.at (Repeats c.in-Repeat.times) c.requires.small
+    (read_at sentence_of c.args.lines.now c.loop-at.at Head c.loop-at-test.true ∙ ap (λ l. Some (sentence_of l)) c.in-Repeat.is) in
+    omega (arith, small)
+
+pub statement-requires : goal.statement-requires
+statement-requires t c = record {
+  few = c.requires.few (let l = c.loop-at-test.true in omega arith);
+  small = small_at (map sentence_of c.args.lines.now) c.loop-at.at _ c.requires.small (read_at sentence_of c.args.lines.now c.loop-at.at Head c.loop-at-test.true);
+}
 
 pub returns-in_default-2-clause-items : goal.returns-in_default-2-clause-items
 returns-in_default-2-clause-items t c =

@@ -7,11 +7,14 @@ use Rattle.sg_parse.specs.declared.refusal.Which.TheVariants.{Statements, Finals
 use Rattle.sg_parse.specs.declared.scripts.Scripts.TheVariants.{Read}
 use Rattle.sg_parse.specs.Names.{classes_of}
 use Rattle.sg_text.specs.Reading.{sentence_of}
-use Rattle.sg_parse.specs.Building.{AreRead, total_of, finals_of}
-use Rattle.sg_parse.proofs.Bodies.{inner_body, inner_within}
+use Rattle.sg_parse.specs.Building.{AreScriptsRead, total_of, finals_of}
+use Rattle.sg_parse.proofs.Bodies.{inner_small, inner_body, inner_within}
 use Rattle.sg_parse.proofs.ScriptLemmas.{IsInScripts, scripts_stop, scripts_over, scripts_more, scripts_heavy, sum_small, sum_large}
 use Rattle.sg_parse.proofs.scripts.read_scripts.Goals as goal
 use Rattle.sg_parse.proofs.scripts.read_scripts.Goals.{else-loop-at-test, then-loop-at-test+in_ok-body+in_default}
+
+pub read_body-requires-clause-small : goal.read_body-requires-clause-small
+read_body-requires-clause-small c = inner_small c.args.lines.now c.loop-at.at c.requires.small
 
 pub returns-then-statements-gt-MOST_STATEMENTS : goal.returns-then-statements-gt-MOST_STATEMENTS
 returns-then-statements-gt-MOST_STATEMENTS c =
@@ -64,7 +67,7 @@ returns c =
     let statements : total_of c.loop-at.scripts.items ≤ 1048576 = (let e = c.loop-at.invariant.statements_are in let f = c.loop-at.invariant.statements_few in omega arith) in
     let finals : finals_of c.loop-at.scripts.items ≤ 1024 = (let e = c.loop-at.invariant.finals_are in let f = c.loop-at.invariant.finals_few in omega arith) in
     let long = length-map c.args.lines.now sentence_of in
-    let read : AreRead (classes_of c.args.names.now) (map sentence_of c.args.lines.now) (Read c.loop-at.scripts.items) = elim c.loop-at-test.branch [
+    let read : AreScriptsRead (classes_of c.args.names.now) (map sentence_of c.args.lines.now) (Read c.loop-at.scripts.items) = elim c.loop-at-test.branch [
       | else-loop-at-test w ↦
           let over = w.loop-at-test.false in
           scripts_over (classes_of c.args.names.now) (map sentence_of c.args.lines.now) c.loop-at.at c.loop-at.scripts.items c.loop-at.invariant.state (let q : length (map sentence_of c.args.lines.now) ≤ c.loop-at.at = omega arith in q) statements finals
@@ -73,4 +76,4 @@ returns c =
           scripts_stop (classes_of c.args.names.now) (map sentence_of c.args.lines.now) c.loop-at.at c.loop-at.scripts.items c.loop-at.invariant.state (let q : c.loop-at.at < length (map sentence_of c.args.lines.now) = omega arith in q)
           (inner_body (classes_of c.args.names.now) c.args.lines.now c.loop-at.at w.in_ok-body.field-0 None w.in_default.is w.in_ok-body.ensures.items) statements finals
     ] in
-    record { read = subst (λ x. AreRead (classes_of c.args.names.now) (map sentence_of c.args.lines.now) (Read x)) (sym c.from_vec.ensures) read; within = tt }
+    record { read = subst (λ x. AreScriptsRead (classes_of c.args.names.now) (map sentence_of c.args.lines.now) (Read x)) (sym c.from_vec.ensures) read; within = tt }

@@ -1,8 +1,7 @@
-use Rattle.std.proofs.Common.{List, subst}
+use Rattle.std.proofs.Common.{List, sym, subst}
 use Rattle.std.proofs.lemmas.Result.{IfOk-weaker}
 use Rattle.sg_space.specs.declared.objects.Object.{Object}
-use Rattle.sg_pins.specs.Pins.{AreReached}
-use Rattle.sg_pins.proofs.Owners.{pinned_by}
+use Rattle.sg_space.specs.Standing.{TellsYoung}
 use Rattle.sg_pins.proofs.queue.pin_queue.Goals as goal
 
 pub pinned_among-requires : goal.pinned_among-requires
@@ -12,6 +11,6 @@ pinned_among-requires c =
 
 pub returns : goal.returns
 returns c = IfOk-weaker c.pinned_among.result _ _
-    (λ pinned reached owner sound. pinned_by c.args.space.now owner c.args.ambiguous.now c.in_ok-told.told pinned sound (c.in_ok-told.ensures owner sound)
-    (subst (λ (objects : List Object). AreReached c.args.ambiguous.now objects pinned) c.as_slice.ensures reached))
-    c.pinned_among.ensures
+    (λ _ pinned owner sound. pinned c.args.space.now owner sound
+    (subst (λ (objects : List Object). TellsYoung c.args.space.now owner objects) (sym c.as_slice.ensures) (c.in_ok-told.ensures owner sound)))
+    c.pinned_among.ensures.pinned

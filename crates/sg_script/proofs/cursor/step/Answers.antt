@@ -3,7 +3,7 @@ use Rattle.sg_program.specs.declared.program.Item.{Item, out-Item}
 use Rattle.sg_program.specs.declared.program.Item.TheOpen.{Repeat}
 use Rattle.sg_program.specs.declared.program.Item.TheVariants.{outs-Repeat, outs-One}
 use Rattle.sg_program.specs.Scripts.{repeated, written_out}
-use Rattle.sg_script.specs.Left.{left, Fits, items_cost, cost}
+use Rattle.sg_script.specs.Left.{left, FitsAtDepth, items_cost, cost}
 use Rattle.sg_script.proofs.Frames.{ok_then, at_there, outer_nested, body_fits, again_left, again_cost, pass_nested, repeat_fits, repeat_left, repeat_cost}
 use Rattle.sg_script.proofs.cursor.step.Goals as goal
 
@@ -31,7 +31,7 @@ enter-requires-in-Repeat-clause-fits c =
     let f = c.in-Some.frame in
     let item = c.index-frame-frame.result in
     let out : out-Item item ≡ Repeat c.in-Repeat.times c.in-Repeat.body = ap out-Item (c.index-frame-frame.is ∙ c.in-Repeat.is) ∙ outs-Repeat c.in-Repeat.times c.in-Repeat.body in
-    subst (Fits (length c.push-in-Repeat.new.self.items)) (sym c.as_slice.ensures)
+    subst (FitsAtDepth (length c.push-in-Repeat.new.self.items)) (sym c.as_slice.ensures)
     (repeat_fits c.args.frames.now.items c.pop.new.self.items f c.in-Some.ensures.items item (at_there f.body.now f.at item item c.if-frame.false c.index-frame-frame.is)
     c.push-in-Repeat.new.self.items (c.push-in-Repeat.ensures.items ∙ ok_then _ _ _ _ c.unwrap-in-Repeat.ensures) c.in-Repeat.times c.in-Repeat.body out c.push-in-Repeat.new.self.items c.requires.nested)
 

@@ -11,4 +11,5 @@ returns-clause-went c rest making e =
     let p = c.args.program.now in
     let room = c.args.room in
     let is : c.min-taken.result ≡ taken p (constants_of s) room.fragment room.next c.args.words = cc (c.min-taken.ensures, c.max.ensures, c.end.ensures) in
-    went_claims p (constants_of s) (acting c.args.self.now rest) rest (words_of s) making room.fragment room.next c.args.words c.min-taken.result _ e is c.in-Ok.ensures.words.0 c.in-Ok.ensures.words.1
+    went_claims p (constants_of s) (acting c.args.self.now rest) rest
+    (words_of s) making room.fragment room.next c.args.words c.min-taken.result _ e is c.in-Ok.ensures.words.0 c.in-Ok.ensures.words.1

@@ -24,7 +24,8 @@ returns-then-offset-load_word-clause-went c rest =
     let some : a.reg c.args.s ≢ 0 = λ z. c.if-held-eq0.false (c.held-held.ensures ∙ z) in
     let len : w.word (object_in a c.args.s + 1) ≡ c.load_word.result = ap (λ x. w.word (x / 8 + 1)) (sym c.held-held.ensures) ∙ c.load_word.ensures in
     went_fits c.args.program.now (constants_of s) a rest w c.requires.going c.args.d c.args.s c.args.offset _ some c.load_word.result len c.if-offset-load_word.true
-    (c.tell_inner-then-offset-load_word.ensures.told rest ∙ ap (λ x. over_with a rest (put a.reg c.args.d (x + c.args.offset)) (put a.offset c.args.d c.args.offset) a.stack Fine) c.held-held.ensures)
+    (c.tell_inner-then-offset-load_word.ensures.told rest ∙ ap
+    (λ x. over_with a rest (put a.reg c.args.d (x + c.args.offset)) (put a.offset c.args.d c.args.offset) a.stack Fine) c.held-held.ensures)
 
 pub returns-else-offset-load_word-clause-went : goal.returns-else-offset-load_word-clause-went
 returns-else-offset-load_word-clause-went c rest =
@@ -33,4 +34,5 @@ returns-else-offset-load_word-clause-went c rest =
     let w = words_of s in
     let some : a.reg c.args.s ≢ 0 = λ z. c.if-held-eq0.false (c.held-held.ensures ∙ z) in
     let len : w.word (object_in a c.args.s + 1) ≡ c.load_word.result = ap (λ x. w.word (x / 8 + 1)) (sym c.held-held.ensures) ∙ c.load_word.ensures in
-    went_past c.args.program.now (constants_of s) a rest w c.requires.going c.args.d c.args.s c.args.offset _ some c.load_word.result len (omega (arith, c.if-offset-load_word.false)) (c.tell_inner-else-offset-load_word.ensures.told rest)
+    went_past c.args.program.now (constants_of s) a rest w c.requires.going c.args.d c.args.s c.args.offset _ some c.load_word.result len
+    (omega (arith, c.if-offset-load_word.false)) (c.tell_inner-else-offset-load_word.ensures.told rest)

@@ -21,7 +21,8 @@ returns-in-Some-clause-done c =
       went = λ rest.
           let a = acting c.take.new.self rest in
           went_to p lay _ _ _ _ _
-          (c.tell.ensures.told rest ∙ ap₂ (λ y z. over a rest (put a.reg c.args.r y) (At z)) (c.get.ensures.value ∙ c.at_word-at.ensures) c.at_word-at.ensures ∙ ap (λ r. over a rest (put a.reg r (byte_at x)) (At (byte_at x))) c.requires.r)
+          (c.tell.ensures.told rest ∙ ap₂ (λ y z. over a rest (put a.reg c.args.r y) (At z)) (c.get.ensures.value ∙ c.at_word-at.ensures) c.at_word-at.ensures
+          ∙ ap (λ r. over a rest (put a.reg r (byte_at x)) (At (byte_at x))) c.requires.r)
           (went_then p lay _ _ _ _ _ _ (c.in-Some.ensures.went.went rest st c.requires.can.making words)
           (c.store_header.ensures.header p lay a rest st (sym c.requires.class) (sym c.requires.fields)));
       answers = search rules;

@@ -11,13 +11,15 @@ pub returns-in-NoObject-clause-went : goal.returns-in-NoObject-clause-went
 returns-in-NoObject-clause-went c rest =
     let s = c.args.space.now in
     let test : Test = record { register = c.args.r; field = c.args.field; sort = Reference } in
-    went_null c.args.program.now (constants_of s) (acting c.args.self.now []) rest (words_of s) c.requires.can.0 (Put c.args.r c.args.field c.args.s) test refl _ c.in-NoObject.ensures (c.say.ensures.said rest)
+    went_null c.args.program.now (constants_of s) (acting c.args.self.now []) rest (words_of s) c.requires.can.0
+    (Put c.args.r c.args.field c.args.s) test refl _ c.in-NoObject.ensures (c.say.ensures.said rest)
 
 pub returns-in-NoField-clause-went : goal.returns-in-NoField-clause-went
 returns-in-NoField-clause-went c rest =
     let s = c.args.space.now in
     let test : Test = record { register = c.args.r; field = c.args.field; sort = Reference } in
-    went_misses c.args.program.now (constants_of s) (acting c.args.self.now []) rest (words_of s) c.requires.can.0 (Put c.args.r c.args.field c.args.s) test refl _ c.in-NoField.ensures (c.say-in-NoField.ensures.said rest)
+    went_misses c.args.program.now (constants_of s) (acting c.args.self.now []) rest (words_of s) c.requires.can.0
+    (Put c.args.r c.args.field c.args.s) test refl _ c.in-NoField.ensures (c.say-in-NoField.ensures.said rest)
 
 pub returns-in-At-clause-went : goal.returns-in-At-clause-went
 returns-in-At-clause-went c rest =
@@ -25,4 +27,6 @@ returns-in-At-clause-went c rest =
     let a = acting c.args.self.now [] in
     let test : Test = record { register = c.args.r; field = c.args.field; sort = Reference } in
     went_finds c.args.program.now (constants_of s) a rest (words_of s) c.requires.can.0 (Put c.args.r c.args.field c.args.s) test refl _ _ c.in-At.ensures.0
-    (went_put c.args.program.now (constants_of s) a rest (words_of s) c.args.r c.args.field c.args.s c.in-At.place _ _ _ c.in-At.ensures.1 c.held.ensures c.store_word.ensures.words (c.say-in-At.ensures.said rest))
+    (went_put c.args.program.now (constants_of s) a rest
+    (words_of s) c.args.r c.args.field c.args.s c.in-At.place _ _ _ c.in-At.ensures.1 c.held.ensures c.store_word.ensures.words
+    (c.say-in-At.ensures.said rest))

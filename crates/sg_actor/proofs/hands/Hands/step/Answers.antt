@@ -18,7 +18,8 @@ returns-in-Collect-false-clause-done c =
     record {
       went = λ rest. let a = acting m rest in
           subst (λ statement. Went p lay (acting m (statement ∷ rest)) (words_of s) (within a rest (Left statement)) (words_of c.ask.new.space)) (sym is)
-          (went_minor p lay a rest (words_of s) c.requires.can.0 _ _ (went_leaves p lay a rest (words_of s) (Collect false) _ (ap words_of c.ask.ensures.asked)));
+          (went_minor p lay a rest (words_of s) c.requires.can.0 _ _
+          (went_leaves p lay a rest (words_of s) (Collect false) _ (ap words_of c.ask.ensures.asked)));
       fits = subst (λ q. IsRequestOf p c.args.statement q) (sym c.ask.ensures.request) (subst (λ statement. IsRequestOf p statement Minor) (sym is) tt);
       space = search rules;
       mutator = search rules;

@@ -11,7 +11,8 @@ returns-then-words-saturating_sub-clause-went c =
     let fits : m.from + c.args.words ≤ m.to = omega (arith, c.saturating_sub.ensures, c.if-words-saturating_sub.true, c.requires.some) in
     let lies = c.requires.buffer (omega (arith, c.requires.some)) in
     record {
-      went = λ rest making is e. went_bumps c.args.program.now (constants_of s) (acting m rest) rest (words_of s) c.requires.going making c.args.words is e fits;
+      went = λ rest making is e. went_bumps c.args.program.now (constants_of s) (acting m rest) rest
+          (words_of s) c.requires.going making c.args.words is e fits;
       above = lies.0;
       inside = omega (arith, lies.1);
       answers = refl;
@@ -24,7 +25,8 @@ returns-in_default-clause-went c =
     let m = c.args.self.now in
     let found = c.in_default.ensures.none in
     record {
-      went = λ rest making is e. went_looks c.args.program.now (constants_of s) (acting m rest) rest (words_of s) c.requires.going making c.args.words is e _ _ (omega (arith, c.saturating_sub.ensures))
+      went = λ rest making is e. went_looks c.args.program.now (constants_of s) (acting m rest) rest
+          (words_of s) c.requires.going making c.args.words is e _ _ (omega (arith, c.saturating_sub.ensures))
           (found.went c.args.program.now (acting m rest) rest making e);
       space = refl;
       mutator = refl;
@@ -37,8 +39,10 @@ returns-clause-went c =
     let room = c.in-Some.room in
     let found = c.in-Some.ensures.found in
     record {
-      went = λ rest making is e. went_looks c.args.program.now (constants_of s) (acting m rest) rest (words_of s) c.requires.going making c.args.words is e _ _ (omega (arith, c.saturating_sub.ensures))
-          (went_then c.args.program.now (constants_of s) _ _ _ _ _ _ (found.went c.args.program.now (acting m rest) rest making e) (c.claim.ensures.went rest making e));
+      went = λ rest making is e. went_looks c.args.program.now (constants_of s) (acting m rest) rest
+          (words_of s) c.requires.going making c.args.words is e _ _ (omega (arith, c.saturating_sub.ensures))
+          (went_then c.args.program.now (constants_of s) _ _ _ _ _ _ (found.went c.args.program.now (acting m rest) rest making e)
+          (c.claim.ensures.went rest making e));
       above = found.above;
       inside = omega (arith, found.room, c.requires.ends room.fragment found.there);
       answers = c.claim.ensures.answers;

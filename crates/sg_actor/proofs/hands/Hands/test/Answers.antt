@@ -11,5 +11,7 @@ pub unwrap-class-requires : goal.unwrap-class-requires
 unwrap-class-requires c =
     let s = c.args.space.now in
     let w = words_of s in
-    let o = subst (λ v. v ≢ 0 → IsObjectIn c.args.program.now w (words_end s.layout) (word_at v)) (sym c.held-held.ensures) c.requires.object.2 c.if-held-eq0.false in
-    subst IsSome (sym (reads_class c.plain_class.result c.load_word.result o.class (omega (arith, o.there, c.requires.object.1)) (sym o.tag ∙ c.load_word.ensures) c.plain_class.ensures)) refl
+    let o = subst (λ v. v ≢ 0 → IsObjectIn c.args.program.now w (words_end s.layout) (word_at v))
+    (sym c.held-held.ensures) c.requires.object.2 c.if-held-eq0.false in
+    subst IsSome (sym (reads_class c.plain_class.result c.load_word.result o.class (omega (arith, o.there, c.requires.object.1))
+    (sym o.tag ∙ c.load_word.ensures) c.plain_class.ensures)) refl

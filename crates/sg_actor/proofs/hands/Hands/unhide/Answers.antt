@@ -11,7 +11,8 @@ pub returns-then-held-eq0-clause-went : goal.returns-then-held-eq0-clause-went
 returns-then-held-eq0-clause-went c p lay w rest going =
     let a = acting c.args.self.now [] in
     went_at_once p lay a rest w going (Unhide c.args.d c.args.s) _ _ (unhide_sets a rest c.args.d c.args.s)
-    (c.tell.ensures.told rest ∙ ap (λ x. over a rest (put a.reg c.args.d x) (reference_answer x)) (unhidden_none a c.args.s _ c.held-held.ensures c.if-held-eq0.true))
+    (c.tell.ensures.told rest ∙ ap (λ x. over a rest (put a.reg c.args.d x) (reference_answer x))
+    (unhidden_none a c.args.s _ c.held-held.ensures c.if-held-eq0.true))
 
 pub returns-else-held-eq0-clause-went : goal.returns-else-held-eq0-clause-went
 returns-else-held-eq0-clause-went c p lay w rest going =

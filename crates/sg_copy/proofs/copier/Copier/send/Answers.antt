@@ -22,7 +22,7 @@ returns-in_default-forwarded_to c =
     let r = c.requires in
     let first = c.read-first.ensures.value in
     let pinned = pinned_target c.args.self.now.space (word_at c.args.target) r.target r.contents.shapes.classes
-        (λ class l e. c.in_default.ensures class l (e ∙ sym first)) (λ to a e. c.in_default-forwarded_to.ensures to a (e ∙ sym first)) in
+    (λ class l e. c.in_default.ensures class l (e ∙ sym first)) (λ to a e. c.in_default-forwarded_to.ensures to a (e ∙ sym first)) in
     record {
       handled = same_handled c.args.self.now (word_at c.args.slot) r.front
           (FindsPinned pinned.0 (word_at c.args.target) (r.refers ∙ sym r.whole) r.young pinned.1 (λ y. refl) refl refl refl refl);

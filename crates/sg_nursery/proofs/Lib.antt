@@ -1,0 +1,6 @@
+pub mod Gaps
+pub mod Walk
+pub mod Keeping
+pub mod Cleaning
+pub mod Tagged
+pub mod Few
