@@ -18,13 +18,12 @@ use Rattle.sg_program.specs.Scripts.{made_in, written_out, statements_at, script
 use Rattle.sg_program.specs.Invariants.{IsWithinLimits}
 use Rattle.sg_space.specs.Space.{Contents, words_of}
 use Rattle.sg_rules.specs.Rules.{Actor, owning}
-use Rattle.sg_rules.specs.Resting.{IsRunnable, sections_of, IsInHeap, IsProgramObject, HoldsObject, HoldsInner, HasPlaces, RestsOn, MayDo, answered_register, word_in, with_word}
-use Rattle.sg_rules.specs.Resting.{IsReference as IsReferenceIn}
+use Rattle.sg_rules.specs.Resting.{IsRunnable, sections_of, IsInHeap, IsReference, IsProgramObject, HoldsObject, HoldsInner, HasPlaces, RestsOn, MayDo, answered_register, word_in, with_word}
 use Rattle.sg_actor.specs.declared.hands.Hands.{Hands}
 use Rattle.sg_actor.specs.declared.mutator.Stage.{Stage}
 use Rattle.sg_actor.specs.declared.mutator.Stage.TheVariants.{Between, Asking}
-use Rattle.sg_actor.specs.Views.{constants_of, slot_of, acting, EndsInside, KeepsSpace, HasByteAddresses, IsReference, IsObjectIn, FindsObject, FindsInner, IsBufferIn, CanDo, CanGo, IsFresh, IsEmptied, IsAnswered, HasAsked}
-use Rattle.sg_actor.specs.State.{Mutating, seen, actor_of, mid_of, DropsBuffer, BeginsEpoch, HasServed, IsSpaceFor, MayStep, HasStepped, IsWhole}
+use Rattle.sg_actor.specs.Views.{constants_of, slot_of, acting, EndsInside, KeepsSpace, HasByteAddresses, IsAddressOrNone, IsObjectIn, FindsObject, FindsInner, IsBufferIn, CanDo, CanGo, IsFresh, IsEmptied, IsAnswered, LeavesAsking}
+use Rattle.sg_actor.specs.State.{Mutating, seen, actor_of, mid_of, DropsBuffer, BeginsEpoch, HasServed, IsSpaceFor, MayStep, HasStepped, IsSoundMutator}
 
 module _ (p : Program) (s : Contents) (of : IsSpaceFor p s) (few : length p.classes ≤ 256) where
   abbrev w : Words
@@ -42,7 +41,7 @@ module _ (p : Program) (s : Contents) (of : IsSpaceFor p s) (few : length p.clas
   is_address : (a : ℕ) → IsInHeap p a → IsAddress a
   is_address a i = (omega (arith, i.above), omega (arith, i.below, heap_end.1), i.whole)
 
-  is_reference : (v : ℕ) → IsReferenceIn p v → IsReference v
+  is_reference : (v : ℕ) → IsReference p v → IsAddressOrNone v
   is_reference v r = elim r [ inl none ↦ inl none | inr i ↦ inr (is_address v i) ]
 
   object_in_space : (x : ℕ) → IsProgramObject p w x → IsObjectIn p w (words_end s.layout) x
@@ -138,7 +137,7 @@ steps_on p number first stage s t h o statement rest script next between is past
 -- the mutator left with its next statement
 pub steps_out : (p : Program) (number first : ℕ) (stage : Stage) (s t : Contents) (h o : Hands) (statement : Statement) (request : Request)
     (rest script next : List Statement) → stage ≡ Between → script ≡ statement ∷ rest →
-    next ≡ rest → HasAsked p s h statement t o request → KeepsSpace s t →
+    next ≡ rest → LeavesAsking p s h statement t o request → KeepsSpace s t →
     HasStepped s (seen p number first stage h script) t (seen p number first (Asking statement request) o next)
 steps_out p number first stage s t h o statement request rest script next between is past asked keeps =
     subst (λ stage. HasStepped s (seen p number first stage h script) t (seen p number first (Asking statement request) o next)) (sym between)
@@ -155,12 +154,12 @@ steps_out p number first stage s t h o statement request rest script next betwee
 -- and it is whole
 pub whole_out : (p : Program) (number first : ℕ) (stage : Stage) (h o : Hands) (statement : Statement) (request : Request)
     (rest script next : List Statement) → stage ≡ Between → script ≡ statement ∷ rest → next ≡ rest →
-    made_in statement < 16 → o ≡ h → IsWhole p number first stage h script → IsWhole p number first (Asking statement request) o next
+    made_in statement < 16 → o ≡ h → IsSoundMutator p number first stage h script → IsSoundMutator p number first (Asking statement request) o next
 whole_out p number first stage h o statement request rest script next between is past register same whole =
-    subst (λ o. IsWhole p number first (Asking statement request) o next) (sym same)
-    (subst (λ next. IsWhole p number first (Asking statement request) h next) (sym past)
-    (let before = subst (λ stage. IsWhole p number first stage h (statement ∷ rest)) between
-    (subst (λ script. IsWhole p number first stage h script) is whole) in
+    subst (λ o. IsSoundMutator p number first (Asking statement request) o next) (sym same)
+    (subst (λ next. IsSoundMutator p number first (Asking statement request) h next) (sym past)
+    (let before = subst (λ stage. IsSoundMutator p number first stage h (statement ∷ rest)) between
+    (subst (λ script. IsSoundMutator p number first stage h script) is whole) in
     record { counted = omega (arith, before.counted); few = before.few; classes = before.classes; room = before.room; piled = before.piled; register = register }))
 
 -- a mutator by its parts, which may do its next statement
@@ -241,7 +240,7 @@ script_is p k l scripts are script is items items_are = ap written_out items_are
     at (x ∷ xs) (suc k) l e = at xs k (omega arith) e
 
 pub whole_new : (p : Program) (k n : ℕ) (h : Hands) (script : List Statement) → k < length p.mutators → IsWithinLimits p → IsFresh h n →
-    script ≡ script_of p k → n ≡ min (length (script_of p k)) 18446744073709551615 → IsWhole p k 0 Between h script
+    script ≡ script_of p k → n ≡ min (length (script_of p k)) 18446744073709551615 → IsSoundMutator p k 0 Between h script
 whole_new p k n h script there limits fresh is count =
     let few : length (script_of p k) ≤ 1048576 = omega (arith, script_in p.mutators k there, limits.statements) in
     record {

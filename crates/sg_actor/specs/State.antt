@@ -163,7 +163,7 @@ AsksInRegister Ended = Unit {0}
 AsksInRegister (Asking statement request) = made_in statement < 16
 
 -- what is true of every mutator, whose program this is, by its parts
-pub record IsWhole (p : Program) (number first : ℕ) (stage : Stage) (hands : Hands) (script : List Statement) : Type 0 where
+pub record IsSoundMutator (p : Program) (number first : ℕ) (stage : Stage) (hands : Hands) (script : List Statement) : Type 0 where
   pub counted : first + (length hands.answers.items + (waiting stage + length script)) ≡ length (script_of p number)
   pub few : length (script_of p number) ≤ 1048576
   pub classes : length p.classes ≤ 256

@@ -127,8 +127,8 @@ sort_of true = Reference
 sort_of false = Plain
 
 -- a word of a reference: none, or an address
-abbrev pub IsReference : ℕ → Type 0
-IsReference v = (v ≡ 0) ⊎ IsAddress v
+abbrev pub IsAddressOrNone : ℕ → Type 0
+IsAddressOrNone v = (v ≡ 0) ⊎ IsAddress v
 
 -- the word x is the first one of an object of the program, among the words below n
 pub record IsObjectIn (p : Program) (w : Words) (n x : ℕ) : Type 0 where
@@ -137,7 +137,7 @@ pub record IsObjectIn (p : Program) (w : Words) (n x : ℕ) : Type 0 where
   pub there : class < length p.classes
   pub above : nursery_base ≤ x
   pub inside : x + 2 + w.word (x + 1) ≤ n
-  pub references : (i : ℕ) → has_field Reference (kind_of p class) (w.word (x + 1)) i ≡ true → IsReference (w.word (x + 2 + i))
+  pub references : (i : ℕ) → has_field Reference (kind_of p class) (w.word (x + 1)) i ≡ true → IsAddressOrNone (w.word (x + 2 + i))
 
 -- register r holds an object or none
 abbrev pub FindsObject : Program → Contents → Hands → ℕ → Type 0
@@ -204,7 +204,7 @@ pub record IsAnswered (p : Program) (s : Contents) (m : Hands) (statement : Stat
   pub keeps : KeepsGoing s t
 
 -- the mutator has asked for a stop and left: its statement waits for the answer, and nothing but the stop word has changed
-pub record HasAsked (p : Program) (s : Contents) (m : Hands) (statement : Statement) (t : Contents) (o : Hands) (request : Request) : Type 0 where
+pub record LeavesAsking (p : Program) (s : Contents) (m : Hands) (statement : Statement) (t : Contents) (o : Hands) (request : Request) : Type 0 where
   pub went : (rest : List Statement) → Went p (constants_of s) (acting m (statement ∷ rest)) (words_of s) (within (acting o rest) rest (Left statement))
       (words_of t)
   pub fits : IsRequestOf p statement request

@@ -8,7 +8,7 @@ ghost use Rattle.sg_space.specs.Space.{Contents, words_of, IsContents};
 ghost use Rattle.sg_rules.specs.Rules.{Constants, reference_answer, over, over_with, owning, Went};
 ghost use Rattle.sg_rules.specs.Resting.{answered_register, word_in, with_word};
 ghost use Rattle.sg_actor.specs.Direct.{IsDirect};
-ghost use Rattle.sg_actor.specs.Views.{constants_of, acting, EndsInside, KeepsSpace, KeepsGoing, HasByteAddresses, FindsRoom, sort_of, IsTested, IsBufferIn, IsReference, IsNext, HasSpareRoom, CanGo, CanMake, FindsObject, FindsInner, IsFresh, IsEmptied, IsAnswered, HasAsked, GetsRoom, GetsNone, WinsRoom};
+ghost use Rattle.sg_actor.specs.Views.{constants_of, acting, EndsInside, KeepsSpace, KeepsGoing, HasByteAddresses, FindsRoom, sort_of, IsTested, IsBufferIn, IsAddressOrNone, IsNext, HasSpareRoom, CanGo, CanMake, FindsObject, FindsInner, IsFresh, IsEmptied, IsAnswered, LeavesAsking, GetsRoom, GetsNone, WinsRoom};
 
 use crate::shared::{Room, end, exchange_next, find, load_word, store_header, store_word};
 use sg_desc::{Descriptor, Shape};
@@ -134,7 +134,7 @@ impl Hands {
         requires space { IsContents space.old }
         requires answers { HasSpareRoom self.old }
         requires can { CanGo program.now space.old self.old statement }
-        ensures done { MatchOption result (IsAnswered program.now space.old self.old statement space.new self.new) (HasAsked program.now space.old self.old statement space.new self.new) }
+        ensures done { MatchOption result (IsAnswered program.now space.old self.old statement space.new self.new) (LeavesAsking program.now space.old self.old statement space.new self.new) }
         ensures keeps { KeepsSpace space.old space.new }
     {
         if space.stopping() {
@@ -406,7 +406,7 @@ impl Hands {
         requires r { r ≡ made_in statement }
         requires class { class ≡ made_class statement }
         requires fields { fields ≡ made_fields program.now statement }
-        ensures done { MatchOption result (IsAnswered program.now space.old self.old statement space.new self.new) (HasAsked program.now space.old self.old statement space.new self.new) }
+        ensures done { MatchOption result (IsAnswered program.now space.old self.old statement space.new self.new) (LeavesAsking program.now space.old self.old statement space.new self.new) }
         ensures keeps { KeepsSpace space.old space.new }
     {
         let words = fields + 2;
@@ -608,7 +608,7 @@ fn has_field(kind: &Descriptor, len: u64, field: u64, is_reference: bool) -> boo
 
 /// The answer with the object that a word refers to.
 fn reference(word: u64) -> Answer
-    requires { IsReference word }
+    requires { IsAddressOrNone word }
     ensures { result ≡ reference_answer word }
 {
     match Addr::of(word) {

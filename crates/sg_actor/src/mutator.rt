@@ -41,7 +41,7 @@ pub struct Mutator<'a> {
 impl<'a> Model for Mutator<'a> {
     ghost use Rattle.sg_program.specs.contracts.program.Item as e;
     ghost use Rattle.std.specs.Coded.{codes};
-    ghost use Rattle.sg_actor.specs.State.{Mutating, IsWhole};
+    ghost use Rattle.sg_actor.specs.State.{Mutating, IsSoundMutator};
 
     ghost Value = { Mutating };
 
@@ -61,7 +61,7 @@ impl<'a> Model for Mutator<'a> {
       told = m.hands.answers.items;
     } };
 
-    ghost invariant = { λ m. IsWhole m.program.now m.number m.first m.stage m.hands m.cursor };
+    ghost invariant = { λ m. IsSoundMutator m.program.now m.number m.first m.stage m.hands m.cursor };
 }
 
 impl<'a> Mutator<'a> {

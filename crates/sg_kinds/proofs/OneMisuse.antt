@@ -1,12 +1,13 @@
 -- A script has one first misuse at most, and so has a program.
-use Rattle.std.proofs.Common.{◌≡◌, ℕ, suc, ◌+◌, ◌<◌, List, length, slice_get, inl, inr, refl, sym, ap, ◌∙◌, subst, arith}
+use Rattle.std.specs.List.{AllByRecursion}
+use Rattle.std.proofs.Common.{◌≡◌, ℕ, zero, suc, ◌+◌, ◌<◌, Some, List, [], ◌∷◌, length, slice_get, inl, inr, refl, sym, ap, ◌∙◌, subst, arith}
 use Rattle.std.proofs.lemmas.Bool.{cases_lt}
 use Rattle.std.proofs.lemmas.Option.{same_Some}
 use Rattle.sg_program.specs.declared.program.Item.{Item}
 use Rattle.sg_program.specs.declared.program.Script.{Script}
 use Rattle.sg_program.specs.declared.program.Program.{Program}
 use Rattle.sg_program.specs.Scripts.{written}
-use Rattle.sg_program.specs.Kinds.{Kinds, Needs, kinds_after, first_kinds, AreSame, Leads, Misuses, Here, Behind, Inside, AtItsEnd, BehindIt, IsFirstMisuse}
+use Rattle.sg_program.specs.Kinds.{Kinds, Needs, kinds_after, first_kinds, AreSame, Leads, Misuses, Here, Behind, Inside, AtItsEnd, BehindIt, HasNoMisuse, IsFirstMisuse}
 use Rattle.sg_kinds.specs.Laws.{HasOneMisuse}
 use Rattle.sg_kinds.proofs.Walks.{not_both, one_statement, one_body, one_end, no_way}
 
@@ -73,5 +74,14 @@ one_place p m n s t a b =
     let same : a.script ≡ b.script = same_Some a.script b.script (sym a.there ∙ ap (slice_get p.mutators) (one_mutator p m n s t a b) ∙ b.there) in
     one_misuse first_kinds b.script.items s t (subst (λ (script : Script). Misuses first_kinds script.items s) same a.misuse) b.misuse
 
+-- a script at a place is one of them all
+fine_at : (scripts : List Script) (m : ℕ) (script : Script) → AllByRecursion (λ (script : Script). HasNoMisuse script.items) scripts → slice_get scripts m ≡ Some script → HasNoMisuse script.items
+fine_at [] m script all there = absurd (cc there)
+fine_at (x ∷ xs) zero script all there = subst (λ (s : Script). HasNoMisuse s.items) (same_Some x script there) all.0
+fine_at (x ∷ xs) (suc m) script all there = fine_at xs m script all.1 there
+
+no_misuse : (p : Program) (m s : ℕ) → IsFirstMisuse p m s → ¬ AllByRecursion (λ (script : Script). HasNoMisuse script.items) p.mutators
+no_misuse p m s first all = let fine = fine_at p.mutators m first.script all first.there in no_way first_kinds first.script.items fine.0 s fine.1 first.misuse
+
 pub has-one-misuse : HasOneMisuse
-has-one-misuse = record { mutator = one_mutator; statement = one_place }
+has-one-misuse = record { mutator = one_mutator; statement = one_place; none = no_misuse }

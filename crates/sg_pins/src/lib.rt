@@ -11,7 +11,7 @@ pub use queue::{pin_queue, pinned_among};
 
 #[cfg(test)]
 mod tests {
-    use super::{merge, pin_queue, queue};
+    use super::{pin_queue, pinned_among};
     use sg_space::{Layout, Object, Space};
     use sg_words::Addr;
     use std::test::Fail;
@@ -43,10 +43,13 @@ mod tests {
                 words: 2,
             },
         ];
-        let none = queue::sorted(rt.alloc(), &[u64::MAX, 4128, 0, 4176, 4095])?;
-        assert_eq!(rt; merge::pointed_into(rt.alloc(), &objects, &none)?.len(), 0);
-        let words = queue::sorted(rt.alloc(), &[4170, u64::MAX, 4127, 4168, 0])?;
-        let pinned = merge::pointed_into(rt.alloc(), &objects, &words)?;
+        let none = pinned_among(rt.alloc(), &[u64::MAX, 4128, 0, 4176, 4095], &objects)?;
+        assert_eq!(rt; none.as_slice().len(), 0);
+        let pinned = pinned_among(
+            rt.alloc(),
+            &[4170, u64::MAX, 4127, 4168, 0],
+            &objects,
+        )?.into_vec();
         assert_eq!(rt; pinned.len(), 2);
         assert_eq!(rt; pinned[0], first);
         assert_eq!(rt; pinned[1], third);

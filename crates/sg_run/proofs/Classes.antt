@@ -1,9 +1,9 @@
 -- What the code asks of a program holds of an accepted one: its settings and its classes fit a space, its statements are run
 -- now and find the kinds that they need, and there are few of them.
-use Rattle.std.proofs.Common.{◌≡◌, ℕ, zero, suc, ◌-◌, ◌^◌, ◌≤◌, min, List, [], ◌∷◌, length, map, slice_get, arith}
+use Rattle.std.proofs.Common.{◌≡◌, ℕ, zero, suc, ◌-◌, ◌^◌, ◌≤◌, min, List, [], ◌∷◌, length, map, slice_get, refl, subst, arith}
 use Rattle.std.proofs.lemmas.List.{length-map}
 use Rattle.std.proofs.lemmas.List.Elements.{All-nil, All-cons}
-use Rattle.std.specs.List.{All, AllByRecursion, sum_by}
+use Rattle.std.specs.List.{All, AllByRecursion, Contains, sum_by}
 use Rattle.sg_desc.specs.declared.shapes.Descriptor.{Descriptor}
 use Rattle.sg_desc.specs.declared.shapes.Descriptor.TheVariants.{PtrFree, Run, Bitmap, VectorRefs, VectorPlain, Ephemeron}
 use Rattle.sg_desc.specs.declared.shapes.Shape.{Shape}
@@ -15,11 +15,12 @@ use Rattle.sg_program.specs.Scripts.{written, written_out, statements_at, script
 use Rattle.sg_program.specs.Kinds.{first_kinds, HasNoMisuse}
 use Rattle.sg_program.specs.Invariants.{FindKinds, IsSmallClass, HasOperands, IsGood, IsBuilt, IsGoodScript}
 use Rattle.sg_program.specs.Limits.{MayHave}
-use Rattle.sg_program.proofs.Runs.{all_out, finds_kinds}
+use Rattle.sg_program.specs.Laws.{ItemsDoWhatIsWritten}
 use Rattle.sg_space.specs.Space.{AreShapes}
-use Rattle.sg_parse.specs.Accepted.{IsAcceptedProgram}
-use Rattle.sg_order.specs.Rest.{IsRunnable}
-use Rattle.sg_order.proofs.Small.{all_runnable}
+use Rattle.sg_parse.specs.Invariants.{IsAcceptedProgram}
+use Rattle.sg_rules.specs.Resting.{IsRunnable}
+use Rattle.sg_rules.specs.Runnable.{BuiltRuns}
+use Rattle.sg_order.specs.Opening.{AreFirstScripts}
 
 small_kind : (kind : Descriptor) (n : ℕ) → MayHave kind n → n ≤ 62
 small_kind PtrFree n l = l
@@ -65,15 +66,25 @@ operands_of : (p : Program) (ss : List Statement) → AllByRecursion (IsGood p) 
 operands_of p [] h = tt
 operands_of p (s ∷ ss) h = (h.0.operands, operands_of p ss h.1)
 
--- the statements that a mutator does find the kinds that they need
-pub accepted_kinds : (p : Program) → IsAcceptedProgram p → (k : ℕ) → FindKinds first_kinds (script_of p k)
-accepted_kinds p a k =
-    of_scripts p (FindKinds first_kinds) (λ script h. finds_kinds script.items h.kinds.0 h.kinds.1 (operands_of p (written script.items) h.good.statements)) tt p.mutators k (all_known p a)
+-- what holds of each of some statements holds of each of those that are among them
+all_at : (P : Statement → Type 0) (xs : List Statement) (s : Statement) → AllByRecursion P xs → Contains xs s → P s
+all_at P [] s all (i, l, e) = absurd (omega arith)
+all_at P (x ∷ xs) s all (zero, l, e) = subst P e all.0
+all_at P (x ∷ xs) s all (suc i, l, e) = all_at P xs s all.1 (i, omega arith, e)
 
--- and are run now
-pub accepted_statements : (p : Program) → IsAcceptedProgram p → (k : ℕ) → AllByRecursion (IsRunnable p) (script_of p k)
-accepted_statements p a k =
-    of_scripts p (AllByRecursion (IsRunnable p)) (λ script h. all_out (IsRunnable p) script.items (all_runnable p (written script.items) a.read.limits.fields h.good.statements h.run)) tt p.mutators k (all_known p a)
+all_of : (P : Statement → Type 0) (xs : List Statement) → ((s : Statement) → Contains xs s → P s) → AllByRecursion P xs
+all_of P [] each = tt
+all_of P (x ∷ xs) each = (each x (zero, omega arith, refl), all_of P xs (λ s h. each s (suc h.0, let l = h.1 in omega arith, h.2)))
+
+-- the statements that a mutator does find the kinds that they need, and are run now
+pub first_scripts : ItemsDoWhatIsWritten → BuiltRuns → (p : Program) → IsAcceptedProgram p → AreFirstScripts p
+first_scripts items runs p a = record {
+  kinds = λ k. of_scripts p (FindKinds first_kinds) (λ script h. items.kinds script.items (operands_of p (written script.items) h.good.statements) h.kinds) tt p.mutators k (all_known p a);
+  runnable = λ k. of_scripts p (AllByRecursion (IsRunnable p))
+      (λ script h. (let all = runs p (written script.items) a.read.limits.fields h.good.statements h.run in
+      all_of (IsRunnable p) (written_out script.items) (λ s there. all_at (IsRunnable p) (written script.items) s all (items.each script.items s there))))
+      tt p.mutators k (all_known p a);
+}
 
 pub one_mutator : (p : Program) → IsAcceptedProgram p → length p.mutators ≡ 1
 one_mutator p a = a.read.alone
@@ -89,7 +100,3 @@ statements_counted p a = counted_in p.mutators (one_mutator p a)
 
 pub few_statements : (p : Program) → IsAcceptedProgram p → length (script_of p 0) ≤ 1048576
 few_statements p a = let e = statements_counted p a in let l = a.read.limits.statements in omega arith
-
--- the count of a program's statements is that of its one script, and isn't held back
-pub total_is : (p : Program) (count : ℕ) → IsAcceptedProgram p → count ≡ min (statements_in p) (2 ^ 64 - 1) → count ≡ length (script_of p 0)
-total_is p count a e = let same = statements_counted p a in let l = a.read.limits.statements in omega arith

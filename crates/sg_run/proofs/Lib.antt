@@ -1,13 +1,14 @@
-pub mod Epochs
 pub mod Classes
-pub mod Begins
-pub mod Serving
+pub mod Epochs
 mod Fronts
-mod Refused
+pub mod Halts
 mod OneCause
 mod Pieces
-mod Words
-pub mod Stops
-pub mod Rounds
-pub mod Texts
 pub mod Placing
+mod Promised
+mod Refused
+pub mod Rounds
+pub mod Serving
+pub mod Stops
+pub mod Texts
+mod Words

@@ -1,15 +1,14 @@
--- A new object at the front of a fragment, between two epochs.
+-- A new object at the front of a fragment, between two epochs. What the mutators have enters into nothing of it.
 use Rattle.std.proofs.Common.{◌≡◌, ◌≢◌, ℕ, suc, ◌+◌, ◌<◌, ◌≤◌, ◌⊎◌, cond, Bool, true, false, List, length, slice_index, inl, inr, sym, refl, ap, ◌∙◌, subst, arith, le_refl}
 use Rattle.std.proofs.lemmas.Bool.{cases_eq, cases_lt}
 use Rattle.sg_words.specs.Address.{byte_at}
 use Rattle.sg_words.specs.Tags.{plain_word}
 use Rattle.sg_words.specs.Words.{put}
 use Rattle.sg_words.proofs.Puts.{put-at, put-other, within_range, range-in, range-below, range-above, range-keeps}
-use Rattle.sg_program.specs.declared.program.Statement.{Statement}
 use Rattle.sg_program.specs.declared.program.Program.{Program}
 use Rattle.sg_desc.specs.Shapes.{holds_reference}
 use Rattle.sg_program.specs.Scripts.{kind_of, IsSizeOf, words_for}
-use Rattle.sg_graph.specs.Graph.{Entry, Ref, Int, Inner, Graph, empty_field, grown, goes_on}
+use Rattle.sg_graph.specs.Graph.{Entry, Ref, Int, Inner, Mutator, Graph, empty_field, grown}
 use Rattle.sg_graph.specs.Book.{Book, Young, placed, nursery_end, word_of}
 use Rattle.sg_words.specs.Sections.{nursery_base, globals_base}
 use Rattle.sg_space.specs.Space.{Contents}
@@ -38,7 +37,7 @@ empty_cond P true r i = r
 empty_cond P false r i = i
 
 module _ (p : Program) (s : Contents) (g : Graph) (b : Book) (owner : ℕ → Owner) (sp : IsSpaceOf p s b) (heap : IsHeap p (word s) g b owner)
-    (k class n f j : ℕ) (rest : List Statement) (register : ℕ → Entry) (t : Contents) (known : class < length p.classes) (sized : IsSizeOf p class n) (there : f < b.fragments)
+    (k class n f : ℕ) (mutator : ℕ → Mutator) (t : Contents) (known : class < length p.classes) (sized : IsSizeOf p class n) (there : f < b.fragments)
     (fits : b.next f + words_for n ≤ b.limit f) (pl : HasPlaced s f (b.next f) (words_for n) class n t) where
   abbrev x : ℕ
   x = b.next f
@@ -47,7 +46,7 @@ module _ (p : Program) (s : Contents) (g : Graph) (b : Book) (owner : ℕ → Ow
   new = suc g.count
 
   abbrev h : Graph
-  h = goes_on (grown p g k class n) j rest register
+  h = record (grown p g k class n) { mutator = mutator }
 
   abbrev c : Book
   c = record (placed b new x) { next = put b.next f (x + words_for n) }

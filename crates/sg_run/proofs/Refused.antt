@@ -1,5 +1,5 @@
 -- Why an input isn't accepted.
-use Rattle.std.proofs.Common.{◌≡◌, ◌≢◌, ℕ, List, inl, inr, refl, sym, subst, arith}
+use Rattle.std.proofs.Common.{◌≡◌, ◌≢◌, ℕ, List, inl, inr, refl, ap, sym, subst, arith}
 use Rattle.std.specs.Prelude.{Option, Some, None, IfSome}
 use Rattle.std.specs.List.{AllByRecursion}
 use Rattle.sg_program.specs.declared.program.Script.{Script}
@@ -8,7 +8,8 @@ use Rattle.sg_program.specs.Kinds.{HasNoMisuse}
 use Rattle.sg_parse.specs.declared.refusal.Refusal.{Refusal}
 use Rattle.sg_parse.specs.declared.refusal.Refusal.TheVariants.{TooLong, Syntax, Class, Limit, Later, Memory}
 use Rattle.sg_parse.specs.Accepted.{IsReadAs, IsRefusedBy, IsAccepted}
-use Rattle.sg_run.specs.declared.refusal.Cause.TheVariants.{Refused}
+use Rattle.sg_run.specs.declared.refusal.Cause.{Cause}
+use Rattle.sg_run.specs.declared.refusal.Cause.TheVariants.{Refused, Misused}
 use Rattle.sg_run.specs.Causes.{IsCause}
 use Rattle.sg_run.specs.Input.{ServesFor}
 
@@ -19,6 +20,15 @@ is_cause bytes (Class line) n r = r
 is_cause bytes (Limit line which) n r = r
 is_cause bytes (Later line) n r = r
 is_cause bytes Memory n r = absurd (n refl)
+
+refusal_in : Cause → Refusal
+refusal_in (Refused refusal) = refusal
+refusal_in (Misused fault) = TooLong
+
+-- want of memory is told by no line
+pub is_told : (refusal : Refusal) → refusal ≢ Memory → Refused refusal ≢ Refused Memory
+unfolding refusal_in
+is_told refusal n e = n (ap refusal_in e)
 
 -- a program that reads and has a misuse is not accepted, and neither is another
 pub no_other : (bytes : List ℕ) (p : Program) → ((q : Program) → IsReadAs bytes q → q ≡ p) → ¬ AllByRecursion (λ (script : Script). HasNoMisuse script.items) p.mutators → ¬ IsAccepted bytes

@@ -1,108 +1,51 @@
--- From one epoch to the next: a world's epoch, the stop behind it, and its beginning.
-use Rattle.std.proofs.Common.{◌≡◌, ℕ, zero, suc, ◌+◌, ◌<◌, ◌≤◌, true, false, None, List, [], ◌∷◌, ◌++◌, length, map, drop, get_or, slice_get, vec_len, vec_capacity, inl, inr, sym, refl, ap, ◌∙◌, subst, arith}
+-- From one epoch to the next: a world's beginning, its epoch, and the stop behind it.
+use Rattle.std.proofs.Common.{◌≡◌, ◌≢◌, ℕ, zero, suc, ◌+◌, ◌<◌, ◌≤◌, ◌↔◌, Bool, true, false, Some, None, IsTrue, List, [], ◌∷◌, ◌++◌, length, map, reverse, replicate, get_or, slice_get, inl, inr, sym, refl, ap, ◌∙◌, subst, arith}
+use Rattle.std.proofs.lemmas.Option.{same_Some}
+use Rattle.sg_words.specs.Address.{byte_at, word_at}
+use Rattle.sg_words.specs.Lists.{Pairwise}
+use Rattle.sg_words.specs.Sections.{IsLayout, nursery_base, old_base, words_end}
 use Rattle.sg_words.specs.Words.{put, Words}
-use Rattle.sg_program.specs.declared.program.Statement.{Statement}
-use Rattle.sg_program.specs.declared.program.Statement.TheVariants.{New, NewV, Mature, Put, Get, PutD, GetD, Num, Move, Hide, Unhide, Drop, Push, Pop, GPut, GGet, WSet, WGet, Final, NextFin, Same, Collect, Sections}
-use Rattle.sg_program.specs.declared.program.Script.{Script}
+use Rattle.sg_words.specs.declared.layout.Layout.{Layout}
+use Rattle.sg_words.proofs.Puts.{put-same, put-other, put-all}
+use Rattle.sg_desc.specs.declared.shapes.Shape.{Shape}
 use Rattle.sg_program.specs.declared.program.Class.{Class}
+use Rattle.sg_program.specs.declared.program.Script.{Script}
+use Rattle.sg_program.specs.declared.program.Statement.{Statement}
 use Rattle.sg_program.specs.declared.program.Program.{Program}
+use Rattle.sg_program.specs.declared.answers.Answer.{Answer}
 use Rattle.sg_program.specs.declared.answers.Request.{Request}
 use Rattle.sg_program.specs.declared.answers.Leave.{Leave}
 use Rattle.sg_program.specs.declared.answers.Leave.TheVariants.{Ended, Wants}
+use Rattle.sg_program.specs.Scripts.{script_of, statements_at}
 use Rattle.sg_graph.specs.declared.reports.EpochReport.{EpochReport}
-use Rattle.sg_graph.specs.declared.reports.StopReport.{StopReport}
-use Rattle.sg_program.specs.Scripts.{script_of, written_out, statements_at}
-use Rattle.sg_program.specs.declared.program.Item.{Item}
-use Rattle.sg_graph.specs.Graph.{Entry, no_objects}
-use Rattle.sg_words.specs.Address.{byte_at}
-use Rattle.sg_desc.specs.declared.shapes.Shape.{Shape}
-use Rattle.sg_graph.specs.Book.{empty_book}
-use Rattle.sg_words.specs.Sections.{nursery_base, old_base}
-use Rattle.sg_graph.specs.Epoch.{IsEpoch}
-use Rattle.sg_words.specs.Lists.{Pairwise}
-use Rattle.sg_graph.specs.Stop.{IsStop, requests_in}
-use Rattle.sg_graph.specs.Run.{Phase, Epoch, Stop, Goes, IsWholeRun}
-use Rattle.sg_graph.specs.Run.Goes.{Begins, GoesOn}
-use Rattle.sg_parse.specs.Accepted.{IsAcceptedProgram}
-use Rattle.sg_space.specs.Space.{Contents, words_of, IsContents, clear_space}
-use Rattle.sg_graph.specs.Heap.{layout_of as sections_of}
+use Rattle.sg_graph.specs.declared.reports.Part.{Part}
+use Rattle.sg_graph.specs.Graph.{Graph, no_objects}
+use Rattle.sg_graph.specs.Book.{Book, empty_book}
+use Rattle.sg_graph.specs.Epoch.{IsPart, running, is_done, left, AllEnded, IsEpoch}
+use Rattle.sg_graph.specs.Heap.{layout_of as sections_in}
+use Rattle.sg_graph.specs.Stop.{requests_in}
+use Rattle.sg_graph.specs.Run.{Phase, Epoch, Goes, IsWholeRun}
+use Rattle.sg_graph.specs.Run.Goes.{Begins}
+use Rattle.sg_space.specs.Space.{Contents, words_of, AreShapes, IsContents, clear_space}
 use Rattle.sg_minor.specs.Holding.{HoldsHeap}
-use Rattle.sg_actor.specs.declared.mutator.Mutator.{Mutator}
+use Rattle.sg_rules.specs.Rules.{Constants, Actor, Idle, Left, fresh, Went}
+use Rattle.sg_rules.specs.Resting.{MayDo}
+use Rattle.sg_order.specs.Rest.{IsReady, IsHeld, IsEpochOpening, before_it, IsOver}
+use Rattle.sg_order.specs.OneOrder.{IsOneOrder, IsSoFar, OpensSoFar, GoesSoFar, OrdersSoFar}
+use Rattle.sg_order.specs.Opening.{FirstOpening, AreFirstConstants, AreFirstWords, AreFirstScripts}
+use Rattle.sg_order.specs.Serving.{StaysReady}
+use Rattle.sg_order.specs.Held.{HeldIsSound, HeldWhoever}
+use Rattle.sg_actor.specs.declared.mutator.Stage.{Stage}
+use Rattle.sg_actor.specs.declared.mutator.Stage.TheVariants.{Between, Ended as HasEnded, Asking}
+use Rattle.sg_actor.specs.State.{Mutating, actor_of, mid_of, leave_of, waiting, IsCounted, IsSameMutator, IsSpaceFor, MayStep, StepsTo, HasStepped}
+use Rattle.sg_actor.specs.Views.{constants_of, KeepsSpace}
+use Rattle.sg_parse.specs.Invariants.{IsAcceptedProgram}
 use Rattle.sg_run.specs.declared.world.World.{World}
-use Rattle.sg_rules.specs.Rules.{Layout, Slot, Actor, Idle, Left, fresh, within, Went}
-use Rattle.sg_order.specs.Rest.{Holds, IsReady, IsHeld, IsEpochOpening, before_it}
-use Rattle.sg_actor.specs.Views.{layout_of, actor_of, IsSpace, KeepsSpace, IsFresh, IsEmptied, CanDo, CanGo, IsRequestOf}
-use Rattle.sg_run.specs.Worlds.{AreReady, CanServe, HasStopped, rest_of, IsBetween, IsAtStop, ComesTo, HasGone, HasAsked, Leaves, is_end}
-use Rattle.sg_words.proofs.Puts.{put-same, put-other, put-all}
-use Rattle.sg_graph.specs.Epoch.{answers_of}
-use Rattle.sg_order.proofs.Relation.{Ground, Stands}
-use Rattle.sg_order.proofs.Law.{so_far, ground_so_far, stands_so_far, first_opening}
-use Rattle.sg_run.proofs.Epochs.{report_of, HasEnded, HasAsked as EpochAsked, epoch_ends, epoch_asks}
-use Rattle.sg_actor.proofs.Steps.{went_then, went_in}
-use Rattle.sg_run.proofs.Begins.{IsOf, of_stays, layout_stays, space_stays, is_opening, is_first_layout, can_go}
-use Rattle.sg_run.proofs.Classes.{accepted_kinds, accepted_statements, one_mutator}
-use Rattle.sg_run.proofs.Serving.{of_heap, held_of_heap, heap_of_held, space_of_heap}
-
--- what is left of a list
-length_left : {A : Type 0} (xs : List A) (j : ℕ) → j ≤ length xs → j + length (drop j xs) ≡ length xs
-length_left xs zero l = let q : 0 + length xs ≡ length xs = omega arith in q
-length_left [] (suc j) l = absurd (omega arith)
-length_left (x ∷ xs) (suc j) l = let h = length_left xs j (omega arith) in omega arith
-
-below : {A : Type 0} (xs : List A) (j : ℕ) → 1 ≤ length (drop j xs) → j < length xs
-below [] zero l = l
-below [] (suc j) l = absurd (omega arith)
-below (x ∷ xs) zero l = omega arith
-below (x ∷ xs) (suc j) l = let h = below xs j l in omega arith
-
-tail_of : {A : Type 0} → List A → List A
-tail_of [] = []
-tail_of (x ∷ xs) = xs
-
-drop_suc : {A : Type 0} (xs : List A) (j : ℕ) (x : A) (ys : List A) → drop j xs ≡ x ∷ ys → drop (suc j) xs ≡ ys
-unfolding tail_of
-drop_suc [] zero x ys e = ap tail_of e
-drop_suc [] (suc j) x ys e = ap tail_of e
-drop_suc (z ∷ xs) zero x ys e = ap tail_of e
-drop_suc (z ∷ xs) (suc j) x ys e = drop_suc xs j x ys e
-
-left_next : {A : Type 0} (xs : List A) (j : ℕ) (x : A) (ys : List A) → drop j xs ≡ x ∷ ys → drop (j + 1) xs ≡ ys
-left_next xs j x ys e = ap (λ i. drop i xs) (let q : j + 1 ≡ suc j = omega arith in q) ∙ drop_suc xs j x ys e
-
--- the next statement of a world, and what is left behind it
-pub next_place : (p : Program) (world : World) (s : Statement) (rest : List Statement) → rest_of p world ≡ s ∷ rest → (world.at < length (script_of p 0)) × (drop (world.at + 1) (script_of p 0) ≡ rest)
-next_place p world s rest e = (below (script_of p 0) world.at (let q = ap length e in omega arith), left_next (script_of p 0) world.at s rest e)
-
--- no statement is left
-pub at_end : (p : Program) (world : World) → world.at ≤ length (script_of p 0) → rest_of p world ≡ [] → world.at ≡ length (script_of p 0)
-at_end p world l e = let q = ap length e in let h = length_left (script_of p 0) world.at l in omega arith
-
--- a statement that asks for a stop can be answered there
-pub can_serve : (p : Program) (s : Contents) (m : Mutator) (statement : Statement) (request : Request) → IsRequestOf p statement request → CanDo p s m statement → CanServe p statement
-can_serve p s m (New r class) request fits can = can.0
-can_serve p s m (NewV r class count) request fits can = can.0
-can_serve p s m (Collect false) request fits can = tt
-can_serve p s m (Collect true) request fits can = absurd can
-can_serve p s m (Mature r class) request fits can = absurd fits
-can_serve p s m (Put r i x) request fits can = absurd fits
-can_serve p s m (Get d r i) request fits can = absurd fits
-can_serve p s m (PutD r i x) request fits can = absurd fits
-can_serve p s m (GetD d r i) request fits can = absurd fits
-can_serve p s m (Num d n) request fits can = absurd fits
-can_serve p s m (Move d x) request fits can = absurd fits
-can_serve p s m (Hide d x offset) request fits can = absurd fits
-can_serve p s m (Unhide d x) request fits can = absurd fits
-can_serve p s m (Drop r) request fits can = absurd fits
-can_serve p s m (Push r) request fits can = absurd fits
-can_serve p s m (Pop r) request fits can = absurd fits
-can_serve p s m (GPut x r) request fits can = absurd fits
-can_serve p s m (GGet r x) request fits can = absurd fits
-can_serve p s m (WSet x r long) request fits can = absurd fits
-can_serve p s m (WGet r x) request fits can = absurd fits
-can_serve p s m (Final r) request fits can = absurd fits
-can_serve p s m (NextFin r) request fits can = absurd fits
-can_serve p s m (Same r x) request fits can = absurd fits
-can_serve p s m Sections request fits can = absurd fits
+use Rattle.sg_run.specs.Worlds.{actors_in, IsWorldOf, IsBetween, IsAtStop, ComesTo, IsInEpoch, HasReason, HasGone, at_work, is_end}
+use Rattle.sg_run.proofs.Classes.{one_mutator}
+use Rattle.sg_run.proofs.Epochs.{IsLeaveOf, TellsOf, is_over, is_part, ready_left}
+use Rattle.sg_run.proofs.Serving.{held_of_heap, heap_of_held}
+use Rattle.sg_run.proofs.Stops.{first_runs}
 
 pub keeps_then : (s t u : Contents) → KeepsSpace s t → KeepsSpace t u → KeepsSpace s u
 keeps_then s t u f g = record {
@@ -113,228 +56,355 @@ keeps_then s t u f g = record {
   words = g.words ∙ f.words;
 }
 
--- the mutators of an epoch of the program's one mutator
-abbrev pub actors_of : Actor → ℕ → Actor
-actors_of a = put (λ _. fresh []) 0 a
+pub contents_stay : (s t : Contents) → KeepsSpace s t → IsContents s → IsContents t
+contents_stay s t keeps c = record {
+  layout = subst IsLayout (sym keeps.layout) c.layout;
+  shapes = subst AreShapes (sym keeps.shapes) c.shapes;
+  words = keeps.words ∙ c.words ∙ ap words_end (sym keeps.layout);
+  fragments = keeps.next ∙ c.fragments ∙ ap length (sym keeps.ends);
+  few = omega (arith, c.few, ap length keeps.ends);
+}
 
-module _ (p : Program) (accepted : IsAcceptedProgram p) (phases : List Phase) (old : World) (between : IsBetween p phases old) where
-  abbrev lay : Layout
-  lay = layout_of old.space
+constants_stay : (s t : Contents) → KeepsSpace s t → constants_of t ≡ constants_of s
+constants_stay s t keeps = ap (λ (e : List ℕ). record { fragments = length e; limit = λ f. word_at (get_or e f 0) }) keeps.ends
 
-  abbrev first : Actor
-  first = actor_of old.mutator (rest_of p old)
+-- the opening of an epoch
+opening : (p : Program) (phases : List Phase) (old : World) (between : IsBetween p phases old) →
+    IsEpochOpening p (constants_of old.space) (words_of old.space) between.graph between.book (actors_in old)
+opening p phases old between = record {
+  held = held_of_heap p old.space between.graph between.book between.plain between.held;
+  ready = between.ready;
+  idle = put-all (λ k (a : Actor). a.mid ≡ Idle) (λ _. fresh []) 0 (actor_of old.mutator) mid_is (λ k n. refl);
+  untold = put-all (λ k (a : Actor). a.told ≡ []) (λ _. fresh []) 0 (actor_of old.mutator) between.untold (λ k n. refl);
+}
+  where
+    mid_is : (actor_of old.mutator).mid ≡ Idle
+    mid_is = ap mid_of between.stage
 
-  opening : IsEpochOpening p lay (words_of old.space) between.graph between.book (actors_of first)
-  opening = record {
-    held = held_of_heap p old.space between.graph between.book between.plain between.held;
-    ready = put-all (λ k (a : Actor). IsReady p between.graph between.book k a a.script) (λ _. fresh []) 0 first between.ready.first (λ k n. between.ready.others k (omega (arith, n)));
-    idle = put-all (λ k (a : Actor). a.mid ≡ Idle) (λ _. fresh []) 0 first refl (λ k n. refl);
-    untold = put-all (λ k (a : Actor). a.told ≡ []) (λ _. fresh []) 0 first between.none (λ k n. refl);
+-- before any step
+pub opens : OpensSoFar → (p : Program) (phases : List Phase) (old : World) (between : IsBetween p phases old) → IsInEpoch p between.graph between.book old old
+opens law p phases old between = record {
+  actors = actors_in old;
+  so = law p (constants_of old.space) (words_of old.space) between.graph between.book (actors_in old) (opening p phases old between);
+  own = put-same (λ _. fresh []) 0 (actor_of old.mutator);
+  others = λ k l. put-other (λ _. fresh []) 0 (actor_of old.mutator) k (λ e. absurd (omega arith));
+}
+
+-- the next statement may be done
+pub may_step : OrdersSoFar → (p : Program) (phases : List Phase) (old now : World) (between : IsBetween p phases old) → KeepsSpace old.space now.space → now.mutator.program ≡ p →
+    now.mutator.stage ≡ Between → IsInEpoch p between.graph between.book old now → MayStep now.space now.mutator
+may_step law p phases old now between keeps owner stage midst statement rest is =
+    let lay = constants_of old.space in
+    let one = law p lay between.graph between.book (words_of now.space) midst.actors midst.so in
+    let mid : (midst.actors 0).mid ≡ Idle = ap (λ (a : Actor). a.mid) midst.own ∙ ap mid_of stage in
+    let script : (midst.actors 0).script ≡ statement ∷ rest = ap (λ (a : Actor). a.script) midst.own ∙ is in
+    let may = subst (λ a. MayDo p lay (words_of now.space) a statement) midst.own (one.may 0 statement rest mid script) in
+    subst (λ q. MayDo q (constants_of now.space) (words_of now.space) (actor_of now.mutator) statement) (sym owner)
+    (subst (λ l. MayDo p l (words_of now.space) (actor_of now.mutator) statement) (sym (constants_stay old.space now.space keeps)) may)
+
+-- the space is the program's
+pub space_for : (p : Program) (phases : List Phase) (old now : World) → IsBetween p phases old → KeepsSpace old.space now.space → now.mutator.program ≡ p → IsSpaceFor now.mutator.program now.space
+space_for p phases old now between keeps owner = subst (λ q. IsSpaceFor q now.space) (sym owner) (record {
+  contents = contents_stay old.space now.space keeps between.of.contents;
+  layout = keeps.layout ∙ between.held.0.layout;
+})
+
+-- behind one more step
+pub steps : GoesSoFar → (p : Program) (phases : List Phase) (old now after : World) (between : IsBetween p phases old) → KeepsSpace old.space now.space → now.mutator.program ≡ p →
+    HasStepped now.space now.mutator after.space after.mutator → IsInEpoch p between.graph between.book old now → IsInEpoch p between.graph between.book old after
+steps law p phases old now after between keeps owner step midst = record {
+  actors = put midst.actors 0 (actor_of after.mutator);
+  so = law p lay between.graph between.book (words_of now.space) midst.actors 0 (actor_of after.mutator) (words_of after.space) midst.so went;
+  own = put-same midst.actors 0 (actor_of after.mutator);
+  others = λ k l. put-other midst.actors 0 (actor_of after.mutator) k (λ e. absurd (omega arith)) ∙ midst.others k l;
+}
+  where
+    lay : Constants
+    lay = constants_of old.space
+
+    went : Went p (constants_of old.space) (midst.actors 0) (words_of now.space) (actor_of after.mutator) (words_of after.space)
+    went = subst (λ a. Went p (constants_of old.space) a (words_of now.space) (actor_of after.mutator) (words_of after.space)) (sym midst.own)
+        (subst (λ l. Went p l (actor_of now.mutator) (words_of now.space) (actor_of after.mutator) (words_of after.space)) (constants_stay old.space now.space keeps)
+        (subst (λ q. Went q (constants_of now.space) (actor_of now.mutator) (words_of now.space) (actor_of after.mutator) (words_of after.space)) owner step.went))
+
+step_shorter : (p : Program) (s t : Contents) (script rest : List Statement) (stage : Stage) → StepsTo p s script t rest stage → waiting stage + length rest ≤ length script
+step_shorter p s t script rest Between h = let e = ap length h.1 in omega arith
+step_shorter p s t script rest HasEnded h = let e = ap length h.1 in omega arith
+step_shorter p s t script rest (Asking statement request) h = let e = ap length h.0 in omega arith
+
+pub step_smaller : (p : Program) (s t : Contents) (script rest : List Statement) (stage : Stage) → StepsTo p s script t rest stage → at_work stage + length rest < 1 + length script
+step_smaller p s t script rest Between h = let e = ap length h.1 in omega arith
+step_smaller p s t script rest HasEnded h = let e = ap length h.1 in omega arith
+step_smaller p s t script rest (Asking statement request) h = let e = ap length h.0 in omega arith
+
+step_reason : (p : Program) (s t : Contents) (script rest : List Statement) (stage : Stage) → StepsTo p s script t rest stage → HasReason p stage rest
+step_reason p s t script rest Between h = tt
+step_reason p s t script rest HasEnded h = h.1
+step_reason p s t script rest (Asking statement request) h = h.1
+
+pub step_stop : (p : Program) (s t : Contents) (script rest : List Statement) (stage : Stage) → StepsTo p s script t rest stage → stage ≡ Between → t.stop ≡ s.stop
+step_stop p s t script rest Between h e = h.2
+step_stop p s t script rest HasEnded h e = absurd (cc e)
+step_stop p s t script rest (Asking statement request) h e = absurd (cc e)
+
+pub goes_further : (p : Program) (phases : List Phase) (old now after : World) → IsBetween p phases old → after.program ≡ now.program → after.number ≡ now.number →
+    now.mutator.stage ≡ Between → HasStepped now.space now.mutator after.space after.mutator → HasGone p old now → HasGone p old after
+goes_further p phases old now after between program number stage step gone = record {
+  keeps = keeps_then old.space now.space after.space gone.keeps step.keeps;
+  program = program ∙ gone.program;
+  number = number ∙ gone.number;
+  same = record { program = step.same.program ∙ gone.same.program; number = step.same.number ∙ gone.same.number };
+  first = step.first ∙ gone.first;
+  reason = step_reason p now.space after.space now.mutator.script after.mutator.script after.mutator.stage comes;
+  shorter =
+      let l = step_shorter p now.space after.space now.mutator.script after.mutator.script after.mutator.stage comes in
+      let z : waiting now.mutator.stage ≡ 0 = ap waiting stage in
+      let g = gone.shorter in omega arith;
+}
+  where
+    owner : now.mutator.program ≡ p
+    owner = gone.same.program ∙ between.of.owner
+
+    comes : StepsTo p now.space now.mutator.script after.space after.mutator.script after.mutator.stage
+    comes = subst (λ q. StepsTo q now.space now.mutator.script after.space after.mutator.script after.mutator.stage) owner step.comes
+
+pub gone_nowhere : (p : Program) (phases : List Phase) (old : World) → IsBetween p phases old → HasGone p old old
+gone_nowhere p phases old between = record {
+  keeps = record { layout = refl; shapes = refl; next = refl; ends = refl; words = refl };
+  program = refl;
+  number = refl;
+  same = record { program = refl; number = refl };
+  first = refl;
+  reason = subst (λ stage. HasReason p stage old.mutator.script) (sym between.stage) tt;
+  shorter = let z : waiting old.mutator.stage ≡ 0 = ap waiting between.stage in omega arith;
+}
+
+-- who hasn't left is between two statements
+pub is_between : (stage : Stage) → leave_of stage ≡ None → stage ≡ Between
+is_between Between e = refl
+is_between HasEnded e = absurd (cc e)
+is_between (Asking statement request) e = absurd (cc e)
+
+leave_is : (p : Program) (a : Actor) (stage : Stage) (script : List Statement) (leave : Leave) → a.mid ≡ mid_of stage → a.script ≡ script → leave_of stage ≡ Some leave →
+    HasReason p stage script → IsLeaveOf p a leave
+leave_is p a Between script leave mid is e reason = absurd (cc e)
+leave_is p a HasEnded script leave mid is e reason = subst (IsLeaveOf p a) (same_Some Ended leave e) (mid, is ∙ reason)
+leave_is p a (Asking statement request) script leave mid is e reason = subst (IsLeaveOf p a) (same_Some (Wants request) leave e) (statement, mid, reason)
+
+-- what the report of an epoch of the program's one mutator tells
+abbrev pub part_of : World → Leave → Part
+part_of world leave = record { mutator = world.mutator.number; first = world.mutator.first; answers = world.mutator.told; leave = leave }
+
+module _ (orders : OrdersSoFar) (stays : StaysReady) (is_sound : HeldIsSound) (whoever : HeldWhoever) (p : Program) (phases : List Phase) (old after : World) (between : IsBetween p phases old)
+    (gone : HasGone p old after) (midst : IsInEpoch p between.graph between.book old after) (counted : IsCounted after.mutator) where
+  abbrev lay : Constants
+  lay = constants_of old.space
+
+  pub one : IsOneOrder p lay between.graph between.book midst.so.events (words_of after.space) midst.actors
+  one = orders p lay between.graph between.book (words_of after.space) midst.actors midst.so
+
+  number_is : after.mutator.number ≡ 0
+  number_is = gone.same.number ∙ between.of.mutator
+
+  alone : length p.mutators ≡ 1
+  alone = one_mutator p between.of.accepted
+
+  same_actors : (k : ℕ) → midst.actors k ≡ actors_in after k
+  same_actors zero = midst.own ∙ sym (put-same (λ _. fresh []) 0 (actor_of after.mutator))
+  same_actors (suc k) = midst.others (suc k) (omega arith) ∙ sym (put-other (λ _. fresh []) 0 (actor_of after.mutator) (suc k) (λ e. absurd (omega arith)))
+
+  script_was : (between.graph.mutator 0).script ≡ old.mutator.script
+  script_was = (between.ready 0).script_is ∙ ap (λ (a : Actor). a.script) (put-same (λ _. fresh []) 0 (actor_of old.mutator))
+
+  place : after.mutator.first + length (between.graph.mutator 0).script ≡ length (script_of p 0)
+  place =
+      let e = between.of.counted in
+      let z : waiting old.mutator.stage ≡ 0 = ap waiting between.stage in
+      let n : length old.mutator.told ≡ 0 = ap length between.untold in
+      let s = ap length script_was in
+      let f = gone.first in
+      let same : length (script_of old.mutator.program old.mutator.number) ≡ length (script_of p 0) =
+      ap (λ q. length (script_of q old.mutator.number)) between.of.owner ∙ ap (λ k. length (script_of p k)) between.of.mutator in
+      omega arith
+
+  of_after : IsWorldOf p after
+  of_after = record {
+    accepted = between.of.accepted;
+    program = ap (λ q. q.now) gone.program ∙ between.of.program;
+    owner = gone.same.program ∙ between.of.owner;
+    mutator = number_is;
+    contents = contents_stay old.space after.space gone.keeps between.of.contents;
+    counted = counted;
+    numbered = let a = between.of.numbered in let n = gone.number in let f = gone.first in omega arith;
   }
 
-  from_first : (a : Actor) (v : Words) → Went p lay first (words_of old.space) a v → Went p lay (actors_of first 0) (words_of old.space) a v
-  from_first a v went = subst (λ x. Went p lay x (words_of old.space) a v) (sym (put-same (λ _. fresh []) 0 first)) went
+  module _ (leave : Leave) (left_so : leave_of after.mutator.stage ≡ Some leave) where
+    left_as : IsLeaveOf p (midst.actors 0) leave
+    left_as = leave_is p (midst.actors 0) after.mutator.stage after.mutator.script leave (ap (λ (a : Actor). a.mid) midst.own) (ap (λ (a : Actor). a.script) midst.own) left_so gone.reason
 
-  -- the space of the program's sections and classes
-  of_old : IsOf p old.space
-  of_old = of_heap p old.space between.graph between.book between.contents between.held
+    over : (k : ℕ) → IsOver (midst.actors k).mid
+    over zero = is_over p (midst.actors 0) leave left_as
+    over (suc k) = inl (ap (λ (a : Actor). a.mid) (midst.others (suc k) (omega arith)))
 
-  pub space_is : IsSpace old.space
-  space_is = space_of_heap p old.space between.graph between.book between.contents between.plain between.held
+    abbrev h : Graph
+    h = left one.graph
 
-  module _ (now : World) (keeps : KeepsSpace old.space now.space) where
-    of_now : IsOf p now.space
-    of_now = of_stays p old.space now.space keeps of_old
+    script_left : (one.graph.mutator 0).script ≡ before_it (midst.actors 0).mid (midst.actors 0).script
+    script_left = (one.ready 0 (over 0)).script_is
 
-    pub space_now : IsSpace now.space
-    space_now = space_stays p old.space now.space keeps of_now space_is
+    held : IsHeld p lay (words_of after.space) h one.book
+    held = whoever p lay (words_of after.space) one.graph one.book h.mutator (one.held over)
 
-    pub contents_now : IsContents now.space
-    contents_now = of_now.contents
+    part : Part
+    part = part_of after leave
 
-    -- what the next statement does comes behind what was done
-    pub then_goes : (statement : Statement) (rest : List Statement) (b : Actor) (v : Words) → rest_of p now ≡ statement ∷ rest → Went p lay first (words_of old.space) (actor_of now.mutator (rest_of p now)) (words_of now.space) →
-        Went p (layout_of now.space) (actor_of now.mutator (statement ∷ rest)) (words_of now.space) b v → Went p lay first (words_of old.space) b v
-    then_goes statement rest b v is went step =
-        went_then p lay first (actor_of now.mutator (statement ∷ rest)) b (words_of old.space) (words_of now.space) v
-        (subst (λ script. Went p lay first (words_of old.space) (actor_of now.mutator script) (words_of now.space)) is went)
-        (went_in p (layout_of now.space) lay (actor_of now.mutator (statement ∷ rest)) b (words_of now.space) v (sym (layout_stays old.space now.space keeps)) step)
+    is_the_part : IsPart p between.graph one.order one.graph one.book 0 (part_of after leave)
+    is_the_part = is_part p lay between.graph between.book midst.so.events (words_of after.space) midst.actors one 0 (over 0) (part_of after leave)
+        (record { number = number_is; first = place; answers = sym (ap (λ (a : Actor). a.told) midst.own); leave = left_as })
 
-    -- the next statement may begin
-    pub can_step : (statement : Statement) (rest : List Statement) → rest_of p now ≡ statement ∷ rest → Went p lay first (words_of old.space) (actor_of now.mutator (rest_of p now)) (words_of now.space) →
-        now.space.stop ≡ 0 → CanGo p now.space now.mutator statement
-    can_step statement rest is went stop =
-        let a = actor_of now.mutator (statement ∷ rest) in
-        let here = subst (λ script. Went p lay first (words_of old.space) (actor_of now.mutator script) (words_of now.space)) is went in
-        let so = so_far p lay (words_of old.space) between.graph between.book (actors_of first) 0 a (words_of now.space) opening (from_first a (words_of now.space) here) in
-        let ground = ground_so_far p lay between.graph between.book (words_of now.space) (put (actors_of first) 0 a) so in
-        let stands = stands_so_far p lay between.graph between.book (words_of now.space) (actors_of first) 0 a so in
-        let same = sym (layout_stays old.space now.space keeps) in
-        can_go p now.space of_now so.graph so.book so.world.owner (subst (λ l. Ground p l (words_of now.space) so.graph so.book so.world.owner) same ground)
-        (λ j. answers_of j so.order) 0 now.mutator statement rest
-        (subst (λ l. Stands p l (words_of now.space) so.graph so.book (λ j. answers_of j so.order) 0 a) same stands) stop
+    pub is_epoch : (last : Bool) → IsTrue last ↔ AllEnded p h → IsEpoch p old.number between.graph between.book one.order [] (record { number = after.number; last = last; parts = part_of after leave ∷ [] }) h one.book
+    is_epoch last ends = record {
+      going = between.going;
+      last = one.graph;
+      explains = one.explains;
+      after = refl;
+      number = gone.number;
+      parts = subst (λ ks. Pairwise (IsPart p between.graph one.order one.graph one.book) ks (part_of after leave ∷ [])) (sym (first_runs p between.graph alone between.going)) (is_the_part, tt);
+      ends = ends;
+      none = refl;
+      sound = is_sound p lay (words_of after.space) h one.book held;
+    }
 
-  place : old.at + length ((between.graph.mutator 0).script) ≡ length (script_of p 0)
-  place = ap (λ script. old.at + length script) between.ready.first.script_is ∙ length_left (script_of p 0) old.at between.within_it
+    pub holds : HoldsHeap p after.space h one.book
+    holds = heap_of_held p old.space after.space between.graph h between.book one.book gone.keeps between.held
+        (subst (λ l. IsHeld p l (words_of after.space) h one.book) (sym (constants_stay old.space after.space gone.keeps)) held)
+
+    pub ready : (k : ℕ) → IsReady p h one.book k (actors_in after k) (before_it (actors_in after k).mid (actors_in after k).script)
+    ready k = subst (λ (a : Actor). IsReady p h one.book k a (before_it a.mid a.script)) (same_actors k)
+        (ready_left stays p one.graph one.book k (midst.actors k) _ (one.ready k (over k)))
 
   -- no statement is left
-  pub ends : (after : World) (report : EpochReport) → HasGone p old after → Leaves p old Ended after →
-      report ≡ report_of old.number true old.at after.mutator.answers.items Ended → IsWholeRun p (phases ++ Epoch report ∷ [])
-  ends after report gone leaves is = record {
+  pub ends_whole : leave_of after.mutator.stage ≡ Some Ended → IsWholeRun p (phases ++ Epoch (record { number = after.number; last = true; parts = part_of after Ended ∷ [] }) one.order [] ∷ [])
+  ends_whole left_so = record {
     number = old.number;
     before = phases;
     graph = between.graph;
     book = between.book;
     goes = between.goes;
-    report = report;
-    last_graph = e.h;
-    last_book = e.c;
-    epoch = subst (λ r. IsEpoch p old.number between.graph between.book r e.h e.c) (sym is) e.epoch;
+    order = one.order;
+    swept = [];
+    report = record { number = after.number; last = true; parts = part_of after Ended ∷ [] };
+    last_graph = left one.graph;
+    last_book = one.book;
+    epoch = is_epoch Ended left_so true (λ _. all, λ _. refl);
     phases_are = refl;
-    whole = e.all;
+    whole = all;
   }
     where
-      a : Actor
-      a = actor_of after.mutator []
+      none : (one.graph.mutator 0).script ≡ []
+      none = let l = left_as Ended left_so in script_left Ended left_so ∙ ap (λ mid. before_it mid (midst.actors 0).script) l.0 ∙ l.1
 
-      e : HasEnded p lay old.number between.graph between.book (report_of old.number true old.at after.mutator.answers.items Ended) (words_of after.space)
-      e = epoch_ends p lay (words_of old.space) between.graph between.book (actors_of first) a (words_of after.space) old.number old.at opening (one_mutator p accepted) (from_first a (words_of after.space) leaves.1) place refl refl
+      all : AllEnded p (left one.graph)
+      all k l = let e : k ≡ 0 = let o = alone in omega arith in ap (λ i. is_done (one.graph.mutator i).script) e ∙ ap is_done none
 
   -- the mutator has left with its next statement
-  pub asks : (gone_to after : World) (report : EpochReport) (request : Request) → HasGone p old gone_to → (asked : HasAsked p old request gone_to) →
-      IsEmptied gone_to.mutator after.mutator → after.space ≡ gone_to.space → after.at ≡ gone_to.at → after.number ≡ gone_to.number → after.cursor ≡ gone_to.cursor →
-      report ≡ report_of old.number false old.at gone_to.mutator.answers.items (Wants request) → IsAtStop p phases report after
-  asks gone_to after report request gone asked emptied same_space same_at same_number same_cursor is = record {
+  pub asks : (statement : Statement) (request : Request) → after.mutator.stage ≡ Asking statement request → HasReason p (Asking statement request) after.mutator.script →
+      IsAtStop p phases (record { number = after.number; last = false; parts = part_of after (Wants request) ∷ [] }) one.order [] after
+  asks statement request stage fits = record {
+    of = of_after;
     before_graph = between.graph;
     before_book = between.book;
-    goes = subst (λ n. Goes p n phases between.graph between.book) (sym number) between.goes;
-    graph = e.h;
-    book = e.c;
-    epoch = subst (λ n. IsEpoch p n between.graph between.book report e.h e.c) (sym number) (subst (λ r. IsEpoch p old.number between.graph between.book r e.h e.c) (sym is) e.epoch);
-    statement = asked.statement;
-    rest = asked.rest;
-    is = ap (λ at. drop at (script_of p 0)) same_at ∙ asked.is;
+    goes = subst (λ n. Goes p n phases between.graph between.book) (sym gone.number) between.goes;
+    graph = left one.graph;
+    book = one.book;
+    epoch = subst (λ n. IsEpoch p n between.graph between.book one.order [] (record { number = after.number; last = false; parts = part_of after (Wants request) ∷ [] }) (left one.graph) one.book)
+        (sym gone.number) (is_epoch (Wants request) left_so false (λ e. absurd (cc e), λ all. absurd (some all)));
+    going = some;
+    held = holds (Wants request) left_so;
+    plain = (held (Wants request) left_so).plain;
+    ready = ready (Wants request) left_so;
+    statement = statement;
     request = request;
-    fits = asked.fits;
-    asked = ap (λ (r : EpochReport). requests_in r.parts) is ∙ ap (λ n. record { by = 0; statement = n; request = request } ∷ []) (gone.count ∙ sym same_at);
-    can = record {
-      held = subst (λ s. HoldsHeap p s e.h e.c) (sym same_space)
-          (heap_of_held p old.space gone_to.space between.graph e.h between.book e.c gone.keeps between.held
-          (subst (λ l. IsHeld p l (words_of gone_to.space) e.h e.c) (sym (layout_stays old.space gone_to.space gone.keeps)) e.held));
-      plain = e.held.plain;
-      ready = record { first = ready_first; others = ready_others };
-      apart = e.epoch.apart;
-      one = one_mutator p accepted;
-      can = asked.can;
-    };
-    contents = subst IsContents (sym same_space) gone.contents;
-    untold = emptied.none;
-    none = ap (λ (x : Actor). x.told) (emptied.is []);
-    counted = let c = between.counted in let h = gone.ahead in let n = number in let q = same_at in omega arith;
-    at_place = same_cursor ∙ gone.at_place ∙ ap (λ at. drop at (script_of p 0)) (sym same_at);
-    room = let r = gone.room in let q = emptied.room in omega arith;
-    stack_room = let r = gone.stack_room in let q = ap vec_capacity emptied.stack in omega arith;
+    stage = stage;
+    fits = fits;
+    asked = ap (λ k. record { by = k; statement = after.mutator.first + length after.mutator.told; request = request } ∷ []) number_is;
   }
     where
-      a : Actor
-      a = within (actor_of gone_to.mutator asked.rest) asked.rest (Left asked.statement)
+      left_so : leave_of after.mutator.stage ≡ Some (Wants request)
+      left_so = ap leave_of stage
 
-      number : after.number ≡ old.number
-      number = same_number ∙ gone.number
+      script_so : (one.graph.mutator 0).script ≡ statement ∷ (midst.actors 0).script
+      script_so = script_left (Wants request) left_so ∙ ap (λ mid. before_it mid (midst.actors 0).script) (ap (λ (a : Actor). a.mid) midst.own ∙ ap mid_of stage)
 
-      e : EpochAsked p lay old.number between.graph between.book (report_of old.number false old.at gone_to.mutator.answers.items (Wants request)) (words_of gone_to.space) (put (actors_of first) 0 a)
-      e = epoch_asks p lay (words_of old.space) between.graph between.book (actors_of first) a (words_of gone_to.space) old.number old.at opening (one_mutator p accepted) (from_first a (words_of gone_to.space) asked.went) place asked.statement request refl asked.fits
+      some : ¬ AllEnded p (left one.graph)
+      some all = let e : is_done (one.graph.mutator 0).script ≡ true = all 0 (let o = alone in omega arith) in
+          let f : false ≡ true = sym (ap is_done script_so) ∙ e in cc f
 
-      at_zero : IsReady p e.h e.c 0 a (asked.statement ∷ asked.rest)
-      at_zero = subst (λ (x : Actor). IsReady p e.h e.c 0 x (before_it x.mid x.script)) (put-same (actors_of first) 0 a) (e.ready 0)
+  -- however it left
+  pub comes_by : (stage : Stage) (leave : Leave) → after.mutator.stage ≡ stage → leave_of stage ≡ Some leave → HasReason p stage after.mutator.script →
+      ComesTo p phases (record { number = after.number; last = is_end leave; parts = part_of after leave ∷ [] }) after
+  comes_by Between leave is e reason = absurd (cc e)
+  comes_by HasEnded leave is e reason =
+      let ended : Ended ≡ leave = same_Some Ended leave e in
+      subst (λ l. ComesTo p phases (record { number = after.number; last = is_end l; parts = part_of after l ∷ [] }) after) ended
+      (one.order, [], inl (refl, ends_whole (ap leave_of is)))
+  comes_by (Asking statement request) leave is e reason =
+      let wants : Wants request ≡ leave = same_Some (Wants request) leave e in
+      subst (λ l. ComesTo p phases (record { number = after.number; last = is_end l; parts = part_of after l ∷ [] }) after) wants
+      (one.order, [], inr (refl, asks statement request is reason))
 
-      ready_first : IsReady p e.h e.c 0 (actor_of after.mutator (asked.statement ∷ asked.rest)) (asked.statement ∷ asked.rest)
-      ready_first = record {
-        regs = λ r. subst (λ (x : Actor). Holds e.h e.c (x.reg r) (x.offset r) ((e.h.mutator 0).register r)) (sym (emptied.is [])) (at_zero.regs r);
-        stack = subst (λ (x : Actor). Pairwise (λ (slot : Slot) (entry : Entry). Holds e.h e.c slot.word slot.offset entry) x.stack (e.h.mutator 0).stack) (sym (emptied.is [])) at_zero.stack;
-        script_is = at_zero.script_is;
-        awake = at_zero.awake;
-        from_is = ap (λ (x : Actor). x.from) (emptied.is []) ∙ at_zero.from_is;
-        to_is = ap (λ (x : Actor). x.to) (emptied.is []) ∙ at_zero.to_is;
-        kinds = at_zero.kinds;
-        runnable = at_zero.runnable;
-      }
+-- which of the two an epoch comes to, by its report
+pub whole_of : (p : Program) (phases : List Phase) (report : EpochReport) (world : World) (comes : ComesTo p phases report world) → report.last ≡ true →
+    IsWholeRun p (phases ++ Epoch report comes.0 comes.1 ∷ [])
+whole_of p phases report world (order, swept, inl a) e = a.1
+whole_of p phases report world (order, swept, inr a) e = absurd (let q : true ≡ false = sym e ∙ a.0 in cc q)
 
-      ready_others : (k : ℕ) → 1 ≤ k → IsReady p e.h e.c k (fresh []) []
-      ready_others k l =
-          let same : put (actors_of first) 0 a k ≡ fresh [] = put-other (actors_of first) 0 a k (λ z. absurd (omega arith)) ∙ put-other (λ _. fresh []) 0 first k (λ z. absurd (omega arith)) in
-          subst (λ (x : Actor). IsReady p e.h e.c k x (before_it x.mid x.script)) same (e.ready k)
+pub at_stop_of : (p : Program) (phases : List Phase) (report : EpochReport) (world : World) (comes : ComesTo p phases report world) → report.last ≡ false →
+    IsAtStop p phases report comes.0 comes.1 world
+at_stop_of p phases report world (order, swept, inl a) e = absurd (let q : true ≡ false = sym a.0 ∙ e in cc q)
+at_stop_of p phases report world (order, swept, inr a) e = a.1
 
--- however the mutator left
-pub comes : (p : Program) (accepted : IsAcceptedProgram p) (phases : List Phase) (old : World) (between : IsBetween p phases old) (gone after : World) (leave : Leave) (report : EpochReport) →
-    HasGone p old gone → Leaves p old leave gone → IsEmptied gone.mutator after.mutator → after.space ≡ gone.space → after.at ≡ gone.at → after.number ≡ gone.number → after.cursor ≡ gone.cursor →
-    report ≡ report_of old.number (is_end leave) old.at gone.mutator.answers.items leave → ComesTo p phases report after
-comes p accepted phases old between gone after Ended report done leaves emptied space at number cursor is = inl (ap (λ (r : EpochReport). r.last) is, ends p accepted phases old between gone report done leaves is)
-comes p accepted phases old between gone after (Wants request) report done leaves emptied space at number cursor is =
-    inr (ap (λ (r : EpochReport). r.last) is, asks p accepted phases old between gone after report request done leaves emptied space at number cursor is)
+-- a space before its first object is as a program begins
+clear_word : (n x : ℕ) → let none : ℕ = 0 in get_or (replicate n none) x none ≡ none
+clear_word zero x = refl
+clear_word (suc n) zero = refl
+clear_word (suc n) (suc x) = clear_word n x
 
--- the items of the program's one script
-pub script_is : (p : Program) → IsAcceptedProgram p → (scripts : List Script) → scripts ≡ p.mutators → (script : Script) → script ≡ get_or scripts 0 script → (items : List Item) → items ≡ script.items → written_out items ≡ script_of p 0
-script_is p accepted scripts are script is items items_are =
-    ap written_out items_are ∙ first_one scripts (let o = one_mutator p accepted in let q = ap length are in omega arith) is ∙ ap (λ xs. statements_at (slice_get xs 0)) are
-  where
-    first_one : (xs : List Script) → 1 ≤ length xs → script ≡ get_or xs 0 script → written_out script.items ≡ statements_at (slice_get xs 0)
-    first_one [] l e = absurd (omega arith)
-    first_one (x ∷ xs) l e = ap (λ (y : Script). written_out y.items) e
+first_words : (s : Contents) (shapes : List Shape) (sections : Layout) → s ≡ clear_space sections shapes → AreFirstWords (words_of s)
+first_words s shapes sections e = subst (λ t. AreFirstWords (words_of t)) (sym e) (record { stop = refl; next = refl; word = clear_word (words_end sections) })
 
-same_head : (x y : Statement) (xs ys : List Statement) → x ∷ xs ≡ y ∷ ys → x ≡ y
-same_head x y xs ys e = ap (λ (zs : List Statement). first_or zs) e
-  where
-    first_or : List Statement → Statement
-    first_or [] = x
-    first_or (z ∷ zs) = z
+first_constants : (p : Program) (s : Contents) (shapes : List Shape) → s ≡ clear_space (sections_in p) shapes → AreFirstConstants p (constants_of s)
+first_constants p s shapes e = subst (λ t. AreFirstConstants p (constants_of t)) (sym e) (record { fragments = refl; limit = omega arith })
 
--- the statement that asks is the next one
-pub asking_is : (p : Program) (phases : List Phase) (report : EpochReport) (world : World) (t : IsAtStop p phases report world) (s : Statement) (rest : List Statement) → world.cursor ≡ s ∷ rest → t.statement ≡ s
-asking_is p phases report world t s rest e = same_head t.statement s t.rest rest (sym t.is ∙ sym t.at_place ∙ e)
-
--- there is such a statement, and it has a number
-pub asking_there : (p : Program) (phases : List Phase) (report : EpochReport) (world : World) → IsAtStop p phases report world → world.at < length (script_of p 0)
-asking_there p phases report world t = below (script_of p 0) world.at (let q = ap length t.is in omega arith)
-
--- behind the stop
-pub goes_on : (p : Program) (phases : List Phase) (report : EpochReport) (world after : World) (stop : StopReport) (at_stop : IsAtStop p phases report world) →
-    HasStopped p world.number world.at at_stop.graph at_stop.book at_stop.request at_stop.rest after.space after.mutator stop →
-    IsContents after.space → after.space.stop ≡ 0 → after.mutator.answers ≡ world.mutator.answers → after.mutator.stack ≡ world.mutator.stack → after.at ≡ world.at + 1 → after.number ≡ world.number + 1 → after.cursor ≡ at_stop.rest →
-    IsBetween p (phases ++ Epoch report ∷ Stop stop ∷ []) after
-goes_on p phases report world after stop t s contents going answers stack at number cursor = record {
-  graph = s.graph;
-  book = s.book;
-  goes = subst (λ n. Goes p n (phases ++ Epoch report ∷ Stop stop ∷ []) s.graph s.book) (let e = number in let q : suc world.number ≡ after.number = omega arith in q)
-      (GoesOn world.number phases t.before_graph t.before_book report t.graph t.book stop s.graph s.book t.goes t.epoch
-      (subst (λ requests. IsStop p world.number t.graph t.book requests stop s.graph s.book) (sym t.asked) s.stop));
-  held = s.held;
-  plain = s.plain;
-  ready = subst (λ script. AreReady p s.graph s.book after.mutator script) (sym rest) s.ready;
-  contents = contents;
-  going = going;
-  untold = ap vec_len answers ∙ t.untold;
-  none = ap (λ v. v.items) answers ∙ t.none;
-  within_it = left_of;
-  counted = let c = t.counted in let a = at in let n = number in omega arith;
-  at_place = cursor ∙ sym rest;
-  room = let r = t.room in let q = ap vec_capacity answers in omega arith;
-  stack_room = let r = t.stack_room in let q = ap vec_capacity stack in omega arith;
-}
-  where
-    rest : rest_of p after ≡ t.rest
-    rest = ap (λ j. drop j (script_of p 0)) at ∙ left_next (script_of p 0) world.at t.statement t.rest t.is
-
-    left_of : after.at ≤ length (script_of p 0)
-    left_of = let l = below (script_of p 0) world.at (let q = ap length t.is in omega arith) in let a = at in omega arith
+beyond_none : (xs : List Script) (k : ℕ) → length xs ≤ k → slice_get xs k ≡ None
+beyond_none [] k l = refl
+beyond_none (x ∷ xs) zero l = absurd (omega arith)
+beyond_none (x ∷ xs) (suc k) l = beyond_none xs k (omega arith)
 
 -- before the program's first epoch
-pub begins : (p : Program) (accepted : IsAcceptedProgram p) (world : World) (shapes : List Shape) → shapes ≡ map (λ (class : Class). class.shape) p.classes → world.space ≡ clear_space (sections_of p) shapes →
-    IsContents world.space → IsFresh world.mutator (length (script_of p 0)) → world.cursor ≡ script_of p 0 → world.at ≡ 0 → world.number ≡ 0 → IsBetween p [] world
-begins p accepted world shapes named space contents fresh_one cursor at number = record {
+pub begins : FirstOpening → (p : Program) (accepted : IsAcceptedProgram p) (scripts : AreFirstScripts p) (world : World) (shapes : List Shape) → shapes ≡ map (λ (class : Class). class.shape) p.classes →
+    world.space ≡ clear_space (sections_in p) shapes → IsContents world.space → world.program.now ≡ p → world.mutator.program ≡ p → world.mutator.number ≡ 0 → world.mutator.first ≡ 0 →
+    world.mutator.stage ≡ Between → actor_of world.mutator ≡ fresh (script_of p 0) → world.number ≡ 0 → IsBetween p [] world
+begins law p accepted scripts world shapes named space contents program owner own first stage actor number = record {
+  of = record {
+    accepted = accepted;
+    program = program;
+    owner = owner;
+    mutator = own;
+    contents = contents;
+    counted =
+        let told = ap (λ (a : Actor). length a.told) actor in
+        let script = ap (λ (a : Actor). length a.script) actor in
+        let wait : waiting world.mutator.stage ≡ 0 = ap waiting stage in
+        let same : length (script_of world.mutator.program world.mutator.number) ≡ length (script_of p 0) =
+        ap (λ q. length (script_of q world.mutator.number)) owner ∙ ap (λ k. length (script_of p k)) own in
+        omega arith;
+    numbered = let n = number in omega arith;
+  };
   graph = no_objects p;
   book = empty_book p;
   goes = subst (λ n. Goes p n [] (no_objects p) (empty_book p)) (sym number) Begins;
+  going = λ all. (let e : false ≡ true = all 0 (let o = one_mutator p accepted in omega arith) in cc e);
   held = (
     record {
       layout = ap (λ (s : Contents). s.layout) space;
@@ -342,48 +412,28 @@ begins p accepted world shapes named space contents fresh_one cursor at number =
       fragments = sym (ap (λ (s : Contents). length s.ends) space);
       same = ap (λ (s : Contents). length s.next) space ∙ sym (ap (λ (s : Contents). length s.ends) space);
       next = λ f l. let z : f ≡ 0 = omega arith in ap (λ (s : Contents). get_or s.next f 0) space ∙ ap (λ i. get_or (byte_at nursery_base ∷ []) i 0) z;
-      limit = λ f l. let z : f ≡ 0 = omega arith in ap (λ (s : Contents). get_or s.ends f 0) space ∙ ap (λ i. get_or (byte_at (old_base (sections_of p)) ∷ []) i 0) z;
+      limit = λ f l. let z : f ≡ 0 = omega arith in ap (λ (s : Contents). get_or s.ends f 0) space ∙ ap (λ i. get_or (byte_at (old_base (sections_in p)) ∷ []) i 0) z;
     },
-    (opens.held.owner, opens.held.heap),
+    (begun.held.owner, begun.held.heap),
   );
-  plain = opens.held.plain;
-  ready = record { first = first_ready; others = others };
-  contents = contents;
-  going = ap (λ (s : Contents). s.stop) space;
-  untold = fresh_one.none;
-  none = ap (λ (a : Actor). a.told) (fresh_one.begins []);
-  within_it = let z = at in omega arith;
-  counted = let z = at in let n = number in omega arith;
-  at_place = cursor ∙ sym whole;
-  room = let r = fresh_one.room in omega arith;
-  stack_room = fresh_one.stack;
+  plain = begun.held.plain;
+  ready = λ k. subst (λ (a : Actor). IsReady p (no_objects p) (empty_book p) k a a.script) (sym (same_actors k)) (begun.ready k);
+  stage = stage;
+  untold = ap (λ (a : Actor). a.told) actor;
+  stop = ap (λ (s : Contents). s.stop) space;
 }
   where
-    opens : IsEpochOpening p (layout_of world.space) (words_of world.space) (no_objects p) (empty_book p) (λ k. fresh (script_of p k))
-    opens = first_opening p (layout_of world.space) (words_of world.space) (accepted_kinds p accepted) (accepted_statements p accepted) (is_first_layout p world.space shapes space) (is_opening world.space shapes (sections_of p) space)
+    begun : IsEpochOpening p (constants_of world.space) (words_of world.space) (no_objects p) (empty_book p) (λ k. fresh (script_of p k))
+    begun = law p (constants_of world.space) (words_of world.space) scripts (first_constants p world.space shapes space) (first_words world.space shapes (sections_in p) space)
 
-    whole : rest_of p world ≡ script_of p 0
-    whole = ap (λ j. drop j (script_of p 0)) at
+    same_actors : (k : ℕ) → actors_in world k ≡ fresh (script_of p k)
+    same_actors zero = put-same (λ _. fresh []) 0 (actor_of world.mutator) ∙ actor
+    same_actors (suc k) =
+        let none : script_of p (suc k) ≡ [] = ap statements_at (beyond_none p.mutators (suc k) (let o = one_mutator p accepted in omega arith)) in
+        put-other (λ _. fresh []) 0 (actor_of world.mutator) (suc k) (λ e. absurd (omega arith)) ∙ ap fresh (sym none)
 
-    first_ready : IsReady p (no_objects p) (empty_book p) 0 (actor_of world.mutator (rest_of p world)) (rest_of p world)
-    first_ready = subst (λ script. IsReady p (no_objects p) (empty_book p) 0 (actor_of world.mutator script) script) (sym whole)
-        (subst (λ (a : Actor). IsReady p (no_objects p) (empty_book p) 0 a (script_of p 0)) (sym (fresh_one.begins (script_of p 0))) (opens.ready 0))
-
-    beyond : (xs : List Script) (k : ℕ) → length xs ≤ k → slice_get xs k ≡ None
-    beyond [] k l = refl
-    beyond (x ∷ xs) zero l = absurd (omega arith)
-    beyond (x ∷ xs) (suc k) l = beyond xs k (omega arith)
-
-    others : (k : ℕ) → 1 ≤ k → IsReady p (no_objects p) (empty_book p) k (fresh []) []
-    others k l =
-        let none : script_of p k ≡ [] = ap statements_at (beyond p.mutators k (let o = one_mutator p accepted in omega arith)) in
-        subst (λ script. IsReady p (no_objects p) (empty_book p) k (fresh script) script) none (opens.ready k)
-
--- which of the two an epoch comes to, by its report
-pub whole_of : (p : Program) (phases : List Phase) (report : EpochReport) (world : World) → ComesTo p phases report world → report.last ≡ true → IsWholeRun p (phases ++ Epoch report ∷ [])
-whole_of p phases report world (inl a) e = a.1
-whole_of p phases report world (inr a) e = absurd (let q : true ≡ false = sym e ∙ a.0 in cc)
-
-pub at_stop_of : (p : Program) (phases : List Phase) (report : EpochReport) (world : World) → ComesTo p phases report world → report.last ≡ false → IsAtStop p phases report world
-at_stop_of p phases report world (inl a) e = absurd (let q : true ≡ false = sym a.0 ∙ e in cc)
-at_stop_of p phases report world (inr a) e = a.1
+-- who has left and hasn't ended waits for an answer
+pub wants_waiting : (stage : Stage) (leave : Leave) → leave_of stage ≡ Some leave → is_end leave ≡ false → waiting stage ≡ 1
+wants_waiting Between leave e f = absurd (cc e)
+wants_waiting HasEnded leave e f = absurd (let q : true ≡ false = ap is_end (same_Some Ended leave e) ∙ f in cc q)
+wants_waiting (Asking statement request) leave e f = refl

@@ -3,10 +3,9 @@ use Rattle.std.proofs.Common.{◌≡◌, ℕ, suc, ◌+◌, ◌<◌, ◌≤◌, 
 use Rattle.sg_words.specs.Address.{byte_at, word_at}
 use Rattle.sg_words.specs.Tags.{plain_word}
 use Rattle.sg_words.specs.Words.{put}
-use Rattle.sg_program.specs.declared.program.Statement.{Statement}
 use Rattle.sg_program.specs.declared.program.Program.{Program}
 use Rattle.sg_program.specs.Scripts.{IsSizeOf, words_for}
-use Rattle.sg_graph.specs.Graph.{Entry, Graph, grown, goes_on}
+use Rattle.sg_graph.specs.Graph.{Mutator, Graph, grown}
 use Rattle.sg_graph.specs.Book.{Book, placed}
 use Rattle.sg_graph.specs.Invariants.{IsPlain}
 use Rattle.sg_graph.specs.Stop.{Takes, HasNoFragment}
@@ -15,17 +14,11 @@ use Rattle.sg_minor.specs.Holding.{HoldsHeap}
 use Rattle.sg_space.specs.Space.{Contents, words_of, IsContents}
 use Rattle.sg_run.proofs.Placing.{HasPlaced, holds_placed}
 use Rattle.sg_order.specs.Rest.{IsHeld}
-use Rattle.sg_actor.specs.Views.{layout_of, IsSpace, KeepsSpace, HasByteAddresses, IsPlaced, HasNowhere}
+use Rattle.sg_actor.specs.Views.{constants_of, EndsInside, KeepsSpace, HasByteAddresses, HoldsNew, HasNowhere}
 use Rattle.sg_words.proofs.Puts.{put-same}
-use Rattle.sg_order.proofs.Relation.{Ground}
-use Rattle.sg_run.proofs.Begins.{IsOf, is_space, has_byte_addresses}
-
--- a space that holds the graph is the program's
-pub of_heap : (p : Program) (s : Contents) (g : Graph) (b : Book) → IsContents s → HoldsHeap p s g b → IsOf p s
-of_heap p s g b contents holds = record { contents = contents; layout = holds.0.layout; shapes = holds.0.shapes }
 
 -- its words hold the graph as an epoch opens
-pub held_of_heap : (p : Program) (s : Contents) (g : Graph) (b : Book) → IsPlain p g → HoldsHeap p s g b → IsHeld p (layout_of s) (words_of s) g b
+pub held_of_heap : (p : Program) (s : Contents) (g : Graph) (b : Book) → IsPlain p g → HoldsHeap p s g b → IsHeld p (constants_of s) (words_of s) g b
 held_of_heap p s g b plain holds = record {
   owner = holds.1.0;
   heap = holds.1.1;
@@ -36,7 +29,7 @@ held_of_heap p s g b plain holds = record {
 }
 
 -- and as it ends, the space holds the graph that the words then hold
-pub heap_of_held : (p : Program) (s t : Contents) (g h : Graph) (b c : Book) → KeepsSpace s t → HoldsHeap p s g b → IsHeld p (layout_of t) (words_of t) h c → HoldsHeap p t h c
+pub heap_of_held : (p : Program) (s t : Contents) (g h : Graph) (b c : Book) → KeepsSpace s t → HoldsHeap p s g b → IsHeld p (constants_of t) (words_of t) h c → HoldsHeap p t h c
 heap_of_held p s t g h b c keeps holds held = (
   record {
     layout = keeps.layout ∙ holds.0.layout;
@@ -52,18 +45,19 @@ heap_of_held p s t g h b c keeps holds held = (
 )
 
 module _ (p : Program) (s : Contents) (g : Graph) (b : Book) (contents : IsContents s) (plain : IsPlain p g) (holds : HoldsHeap p s g b) where
-  of : IsOf p s
-  of = of_heap p s g b contents holds
-
-  ground : Ground p (layout_of s) (words_of s) g b holds.1.0
-  ground = let held = held_of_heap p s g b plain holds in record { laid = holds.1.1.laid; plain = plain; number = held.number; limits = held.limits; words = held.nexts }
-
-  -- such a space is one to work on
-  pub space_of_heap : IsSpace s
-  space_of_heap = is_space p s of g b holds.1.0 ground
+  -- its fragments end in the nursery, and begin at words of it
+  pub ends_of_heap : EndsInside s
+  ends_of_heap f l =
+      let there : f < b.fragments = omega (arith, holds.0.fragments) in
+      let nursery : s.layout.nursery ≡ p.config.nursery = ap (λ (l : Sections). l.nursery) holds.0.layout in
+      let inside = (holds.1.1.laid.fragments.inside f there).2 in
+      omega (arith, holds.0.limit f there)
 
   pub addresses_of_heap : HasByteAddresses s
-  addresses_of_heap = has_byte_addresses p s of g b holds.1.0 ground
+  addresses_of_heap f l =
+      let there : f < b.fragments = omega (arith, holds.0.fragments) in
+      let inside = (holds.1.1.laid.fragments.inside f there).0 in
+      (omega (arith, holds.0.next f there), omega (arith, holds.0.next f there))
 
   -- no fragment of it has room
   pub has_no_fragment : (n : ℕ) (t : Contents) → HasNowhere s n t → HasNoFragment b n
@@ -75,7 +69,7 @@ module _ (p : Program) (s : Contents) (g : Graph) (b : Book) (contents : IsConte
 
   -- A fragment of it gave a new object its place: by the book the lowest one with room, and the space holds the graph with the
   -- new object, in whichever register that stands.
-  module _ (k class fields : ℕ) (rest : List Statement) (register : ℕ → Entry) (t : Contents) (a : ℕ) (known : class < length p.classes) (sized : IsSizeOf p class fields) (is : IsPlaced s class fields t a) where
+  module _ (k class fields : ℕ) (mutator : ℕ → Mutator) (t : Contents) (a : ℕ) (known : class < length p.classes) (sized : IsSizeOf p class fields) (is : HoldsNew s class fields t a) where
     abbrev fragment : ℕ
     fragment = is.fragment
 
@@ -129,8 +123,8 @@ module _ (p : Program) (s : Contents) (g : Graph) (b : Book) (contents : IsConte
         written : ℕ → List ℕ
         written y = set s.words (y + 1) fields
 
-    pub holds_served : HoldsHeap p t (goes_on (grown p g k class fields) k rest register) c
-    holds_served = holds_placed p s g b holds.1.0 holds.0 holds.1.1 k class fields fragment k rest register t known sized there takes.room has_placed
+    pub holds_served : HoldsHeap p t (record (grown p g k class fields) { mutator = mutator }) c
+    holds_served = holds_placed p s g b holds.1.0 holds.0 holds.1.1 k class fields fragment mutator t known sized there takes.room has_placed
 
     pub served_at : a ≡ byte_at (c.address (suc g.count))
     served_at = at ∙ ap byte_at (sym (put-same b.address (suc g.count) x))

@@ -8,7 +8,7 @@ use Rattle.sg_parse.specs.declared.refusal.Refusal.{Refusal}
 use Rattle.sg_parse.specs.declared.refusal.Refusal.TheVariants.{TooLong, Syntax, Class, Limit, Later, Memory}
 use Rattle.sg_limits.specs.declared.which.Which.{Which}
 use Rattle.sg_limits.specs.declared.which.Which.TheVariants.{Nursery, Blocks, Pages, Buffer, Workers, Cement, Classes, Fields, Vector, Global, Weak, Times, Nesting, Statements, Finals, Mutators}
-use Rattle.sg_parse.specs.Accepted.{IsReadAs, IsRefusedBy}
+use Rattle.sg_parse.specs.Accepted.{IsReadAs, IsRefusedBy, IsAccepted}
 use Rattle.sg_run.specs.declared.refusal.Cause.{Cause}
 use Rattle.sg_run.specs.declared.refusal.Cause.TheVariants.{Refused, Misused}
 
@@ -19,9 +19,10 @@ IsCause input (Refused Memory) = ⊥
 IsCause input (Refused refusal) = IsRefusedBy input refusal
 IsCause input (Misused fault) = (p : Program) × IsReadAs input p × IsFirstMisuse p fault.mutator fault.statement
 
--- no input has two causes, nor one cause at two places
+-- no input has two causes, nor one cause at two places, and no accepted one has any
 pub record HasOneCause : Type 0 where
   pub one : (input : List ℕ) (c d : Cause) → IsCause input c → IsCause input d → c ≡ d
+  pub none : (input : List ℕ) (c : Cause) → IsCause input c → ¬ IsAccepted input
 
 -- the name of a limit
 abbrev pub which_text : Which → List ℕ

@@ -1,4 +1,5 @@
 pub mod Command
+pub mod Jobs
 pub mod Causes
 pub mod Ends
 pub mod Input
@@ -6,5 +7,6 @@ pub mod Running
 pub mod Status
 pub mod Refusing
 pub mod Top
+pub mod Performing
 pub mod Worlds
-pub mod Made
+pub mod Stopping

@@ -1,51 +1,55 @@
 -- What the top call promises, by its status: 0 done, 1 no command, 2 not accepted, 3 the source failed, 4 the sink
 -- failed, 5 no memory. Clauses on bytes hold where the source and the sink tell their bytes.
-use Rattle.std.specs.Prelude.{◌≡◌, ℕ, ◌≤◌, ◌⊎◌, Option, List, [], IfSome}
+use Rattle.std.specs.Prelude.{◌≡◌, ◌≢◌, ℕ, ◌≤◌, ◌⊎◌, Option, List, [], IfSome}
 use Rattle.std.specs.Io.KnownBytes.{Appends, Keeps, IsAtEnd}
 use Rattle.sg_io.specs.Progress.{TakesSome}
-use Rattle.sg_program.specs.declared.program.Program.{Program}
-use Rattle.sg_graph.specs.Run.{Phase, IsRun, IsWholeRun}
-use Rattle.sg_trace.specs.Trace.{text}
-use Rattle.sg_parse.specs.Accepted.{IsAcceptedAs, IsAccepted}
+use Rattle.sg_parse.specs.declared.refusal.Refusal.TheVariants.{Memory}
+use Rattle.sg_run.specs.declared.command.Job.{Job}
 use Rattle.sg_run.specs.declared.refusal.Cause.{Cause}
-use Rattle.sg_run.specs.Command.{IsRunCommand, usage_line}
+use Rattle.sg_run.specs.declared.refusal.Cause.TheVariants.{Refused}
+use Rattle.sg_run.specs.Command.{IsCommand, IsAnyCommand, usage_line}
+use Rattle.sg_run.specs.Jobs.{ReadsInput, input_of, IsTakenBy, Writes, MayWrite}
 use Rattle.sg_run.specs.Causes.{IsCause, refusal_line}
 use Rattle.sg_run.specs.Ends.{Ends, ReadFails, WriteFails, Gives}
 
--- the input is accepted as some program, of which there is a whole run, and the sink took exactly that run's text
-abbrev pub WritesRun : List ℕ → Ends → Ends → Type 0
-WritesRun input old new =
-    (p : Program) × (phases : List Phase) × IsAcceptedAs input p × IsWholeRun p phases × Appends old.taken new.taken (text phases)
+-- the sink took exactly what the job writes for this input
+abbrev pub WritesWhole : Job → List ℕ → Ends → Ends → Type 0
+WritesWhole job input old new = (bytes : List ℕ) × Writes job input bytes × Appends old.taken new.taken bytes
 
--- the input is accepted as some program, and the sink took a front of the text of a run of it, as far as the run went
-abbrev pub WritesFront : List ℕ → Ends → Ends → Type 0
-WritesFront input old new =
-    (p : Program) × (phases : List Phase) × IsAcceptedAs input p × IsRun p phases × TakesSome old.taken new.taken (text phases)
+-- the sink took a front of what the job writes for this input as far as it goes
+abbrev pub WritesFront : Job → List ℕ → Ends → Ends → Type 0
+WritesFront job input old new = (bytes : List ℕ) × MayWrite job input bytes × TakesSome old.taken new.taken bytes
 
--- status 0: the words are the command, the input was read to its end, and what was written is the text of a whole run
+-- status 0: the words are a command, the input was read to its end, and what was written is what the job writes, whole
 pub record Headline (words : List (List ℕ)) (old new : Ends) (status : ℕ) : Type 0 where
-  pub command : status ≡ 0 → IsRunCommand words
-  pub trace : status ≡ 0 → IfSome old.left (λ input. WritesRun input old new)
-  pub whole_input : status ≡ 0 → IsAtEnd new.left
+  pub command : status ≡ 0 → IsAnyCommand words
+  pub written : (job : Job) → IsCommand words job → status ≡ 0 → IfSome (input_of job old.left) (λ input. WritesWhole job input old new)
+  pub whole_input : (job : Job) → IsCommand words job → ReadsInput job → status ≡ 0 → IsAtEnd new.left
 
 -- status 1: exactly where the words are no command, with the usage line; nothing is read then
 pub record Usage (words : List (List ℕ)) (old new : Ends) (status : ℕ) : Type 0 where
-  pub only : status ≡ 1 → ¬ IsRunCommand words
-  pub always : ¬ IsRunCommand words → Gives 1 old new status
+  pub only : status ≡ 1 → ¬ IsAnyCommand words
+  pub always : ¬ IsAnyCommand words → Gives 1 old new status
   pub line : status ≡ 1 → Appends old.taken new.taken usage_line
-  pub unread : ¬ IsRunCommand words → Keeps old.left new.left
+  pub unread : ¬ IsAnyCommand words → Keeps old.left new.left
 
--- status 2: exactly where the words are the command and the input isn't accepted, with the line that tells why
+-- the sink took exactly the line that tells why the input isn't accepted, and so it is where the input is told
+abbrev pub TellsCause : Ends → Ends → Type 0
+TellsCause old new =
+    (cause : Cause) × (cause ≢ Refused Memory) × Appends old.taken new.taken (refusal_line cause) × IfSome old.left (λ input. IsCause input cause)
+
+-- status 2: exactly where the words are a command whose job doesn't take the input, with the line that tells why
 pub record Refusal (words : List (List ℕ)) (old new : Ends) (status : ℕ) : Type 0 where
-  pub command : status ≡ 2 → IsRunCommand words
-  pub only : status ≡ 2 → IfSome old.left (λ input. ¬ IsAccepted input)
-  pub always : IsRunCommand words
-      → IfSome old.left (λ input. ¬ IsAccepted input → Gives 2 old new status ⊎ ((status ≡ 3) × ReadFails old new))
-  pub line : status ≡ 2 → (cause : Cause) × Appends old.taken new.taken (refusal_line cause) × IfSome old.left (λ input. IsCause input cause)
+  pub command : status ≡ 2 → IsAnyCommand words
+  pub only : (job : Job) → IsCommand words job → status ≡ 2 → IfSome (input_of job old.left) (λ input. ¬ IsTakenBy job input)
+  pub always : (job : Job) → IsCommand words job
+      → IfSome (input_of job old.left) (λ input. ¬ IsTakenBy job input → Gives 2 old new status ⊎ ((status ≡ 3) × ReadFails old new))
+  pub line : status ≡ 2 → TellsCause old new
 
--- status 3: only where the words are the command and a read failed; nothing is written then
+-- status 3: only where the words are a command whose job reads, and a read failed; nothing is written then
 pub record ReadFault (words : List (List ℕ)) (old new : Ends) (status : ℕ) : Type 0 where
-  pub command : status ≡ 3 → IsRunCommand words
+  pub command : status ≡ 3 → IsAnyCommand words
+  pub reads : (job : Job) → IsCommand words job → status ≡ 3 → ReadsInput job
   pub rose : status ≡ 3 → ReadFails old new
   pub untouched : status ≡ 3 → Keeps old.taken new.taken
 
@@ -58,20 +62,22 @@ abbrev pub IsCutShort : ℕ → Type 0
 IsCutShort status = (status ≡ 4) ⊎ (status ≡ 5)
 
 -- the sink took nothing, or a front of the line that tells why the input isn't accepted
-abbrev pub TakesFront : List ℕ → Option (List ℕ) → Option (List ℕ) → Type 0
-TakesFront input old new = TakesSome old new [] ⊎ ((cause : Cause) × IsCause input cause × TakesSome old new (refusal_line cause))
+abbrev pub TakesFront : List ℕ → Ends → Ends → Type 0
+TakesFront input old new =
+    TakesSome old.taken new.taken [] ⊎ ((cause : Cause) × IsCause input cause × TakesSome old.taken new.taken (refusal_line cause))
 
 -- statuses 4 and 5: the sink took a front of what would have been written
 pub record Front (words : List (List ℕ)) (old new : Ends) (status : ℕ) : Type 0 where
-  pub usage : IsCutShort status → ¬ IsRunCommand words → TakesSome old.taken new.taken usage_line
-  pub refusal : IsCutShort status → IsRunCommand words
-      → IfSome old.left (λ input. ¬ IsAccepted input → TakesFront input old.taken new.taken)
-  pub trace : IsCutShort status → IsRunCommand words → IfSome old.left (λ input. IsAccepted input → WritesFront input old new)
+  pub usage : IsCutShort status → ¬ IsAnyCommand words → TakesSome old.taken new.taken usage_line
+  pub refusal : (job : Job) → IsCommand words job → IsCutShort status
+      → IfSome (input_of job old.left) (λ input. ¬ IsTakenBy job input → TakesFront input old new)
+  pub written : (job : Job) → IsCommand words job → IsCutShort status
+      → IfSome (input_of job old.left) (λ input. IsTakenBy job input → WritesFront job input old new)
 
--- an accepted input is run to its end, where no read and no write failed and memory didn't run out
+-- a job that takes its input is done to its end, where no read and no write failed and memory didn't run out
 abbrev pub Complete : List (List ℕ) → Ends → Ends → ℕ → Type 0
-Complete words old new status =
-    IsRunCommand words → IfSome old.left (λ input. IsAccepted input → ¬ ReadFails old new → ¬ WriteFails old new → (status ≡ 0) ⊎ (status ≡ 5))
+Complete words old new status = (job : Job) → IsCommand words job
+    → IfSome (input_of job old.left) (λ input. IsTakenBy job input → ¬ ReadFails old new → ¬ WriteFails old new → (status ≡ 0) ⊎ (status ≡ 5))
 
 -- all that is promised of a call
 pub record Promises (words : List (List ℕ)) (old new : Ends) (status : ℕ) : Type 0 where

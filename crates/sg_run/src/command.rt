@@ -1,13 +1,20 @@
 // The words of the command line.
-ghost use Rattle.std.specs.Prelude.{◌↔◌, IsTrue, map, string_bytes};
-ghost use Rattle.sg_run.specs.Command.{IsRunCommand};
+ghost use Rattle.std.specs.Prelude.{map, string_bytes, MatchOption};
+ghost use Rattle.sg_run.specs.Command.{IsCommand, IsAnyCommand};
 
-/// Whether the words are the command `run`.
-pub(crate) fn is_run(words: &[String]) -> bool
-    ensures { IsTrue result ↔ IsRunCommand (map string_bytes words.now) }
+/// What a command asks for.
+#[derive(Clone, Copy, Debug, PartialEq, Eq)]
+pub(crate) enum Job {
+    /// To read a program from the source, to run it, and to write its trace to the sink.
+    Run,
+}
+
+/// The job that the words ask for, or none where they are no command.
+pub(crate) fn command(words: &[String]) -> Option<Job>
+    ensures { MatchOption result (¬ IsAnyCommand (map string_bytes words.now)) (IsCommand (map string_bytes words.now)) }
 {
     match words {
-        [word] => word.as_str() == "run",
-        _ => false,
+        [word] if word.as_str() == "run" => Some(Job::Run),
+        _ => None,
     }
 }

@@ -1,12 +1,14 @@
 // A whole run, and its trace, piece by piece.
-ghost use Rattle.std.specs.Prelude.{◌≡◌, ◌+◌, ◌≤◌, ◌++◌, List, [], ◌∷◌, IfOk, IfErr};
+ghost use Rattle.std.specs.Prelude.{◌≡◌, false, ℕ, ◌<◌, ◌≤◌, ◌++◌, List, [], ◌∷◌, length, IfOk, IfErr};
 ghost use Rattle.std.specs.Io.KnownBytes.{Appends};
 ghost use Rattle.sg_io.specs.Progress.{TakesSome};
 ghost use Rattle.sg_graph.specs.declared.reports.EpochReport.{EpochReport as AnyEpoch};
 ghost use Rattle.sg_graph.specs.declared.reports.StopReport.{StopReport as AnyStop};
 ghost use Rattle.sg_graph.specs.Run.{Phase, Epoch, Stop, IsRun, IsWholeRun};
 ghost use Rattle.sg_trace.specs.Trace.{text, epoch_text, stop_text};
-ghost use Rattle.sg_parse.specs.Accepted.{IsAcceptedProgram};
+ghost use Rattle.sg_graph.specs.Epoch.{Said};
+ghost use Rattle.sg_program.specs.declared.program.Program.{Program as AnyProgram};
+ghost use Rattle.sg_parse.specs.Invariants.{IsAcceptedProgram};
 ghost use Rattle.sg_run.specs.Worlds.{IsBetween, IsAtStop, ComesTo};
 ghost use Rattle.sg_run.specs.Running.{StopsRunning, BreaksOff};
 
@@ -44,32 +46,30 @@ pub(crate) fn execute<O: Sink>(
         return Err(RunError::Memory);
     };
     loop {
-        let last = write_epoch(alloc, program, &mut world, sink)?;
+        let last = write_epoch(alloc, &mut world, sink)?;
         if last {
             return Ok(());
         }
-        world = write_stop(alloc, program, world, sink)?;
+        world = write_stop(alloc, world, sink)?;
     }
 }
 
 /// Lets the world go on to the end of its next epoch, and writes the epoch's text. The answer is whether it was the last.
 fn write_epoch<O: Sink>(
     alloc: Global,
-    program: &Program,
     world: &mut World<'_>,
     sink: &mut O,
 ) -> Result<bool, RunError>
-    requires accepted { IsAcceptedProgram program.now }
-    requires between { (phases : List Phase) × IsBetween program.now phases world.old }
+    requires { (p : AnyProgram) × (phases : List Phase) × IsBetween p phases world.old }
     ensures written { IfOk result (λ last. (report : AnyEpoch) × (last ≡ report.last)
-        × ((phases : List Phase) → IsBetween program.now phases world.old → ComesTo program.now phases report world.new)
+        × ((p : AnyProgram) (phases : List Phase) → IsBetween p phases world.old → ComesTo p phases report world.new)
         × Appends (O.taken sink.old) (O.taken sink.new) (epoch_text report)) }
-    ensures ahead { IfOk result (λ _. world.old.at ≤ world.new.at) }
-    ensures front { IfErr result (λ _. (phases : List Phase) → IsBetween program.now phases world.old → BreaksOff program.now phases (O.taken sink.old) (O.taken sink.new)) }
+    ensures ahead { IfOk result (λ last. last ≡ false → length world.new.mutator.script < length world.old.mutator.script) }
+    ensures front { IfErr result (λ _. (p : AnyProgram) (phases : List Phase) → IsBetween p phases world.old → BreaksOff p phases (O.taken sink.old) (O.taken sink.new)) }
     ensures cause { IfErr result (λ error. StopsRunning error (O.faults sink.old) (O.faults sink.new)) }
     ensures never_falls { O.faults sink.old ≤ O.faults sink.new }
 {
-    let Ok(report) = world.epoch(alloc, program) else {
+    let Ok(report) = world.epoch(alloc) else {
         return Err(RunError::Memory);
     };
     let mut piece = Vec::new(alloc);
@@ -85,21 +85,21 @@ fn write_epoch<O: Sink>(
 /// Makes the stop that comes next, and writes its text. The answer is the world behind it.
 fn write_stop<'a, O: Sink>(
     alloc: Global,
-    program: &Program,
     world: World<'a>,
     sink: &mut O,
 ) -> Result<World<'a>, RunError>
-    requires accepted { IsAcceptedProgram program.now }
-    requires at_stop { (phases : List Phase) × (report : AnyEpoch) × IsAtStop program.now phases report world }
+    requires { (p : AnyProgram) × (phases : List Phase) × (report : AnyEpoch) × (order : List Said) × (swept : List ℕ) × IsAtStop p phases report order swept world }
     ensures written { IfOk result (λ next. (stop : AnyStop)
-        × ((phases : List Phase) (report : AnyEpoch) → IsAtStop program.now phases report world.entry → IsBetween program.now (phases ++ Epoch report ∷ Stop stop ∷ []) next)
+        × ((p : AnyProgram) (phases : List Phase) (report : AnyEpoch) (order : List Said) (swept : List ℕ) → IsAtStop p phases report order swept world.entry →
+        IsBetween p (phases ++ Epoch report order swept ∷ Stop stop ∷ []) next)
         × Appends (O.taken sink.old) (O.taken sink.new) (stop_text stop)) }
-    ensures ahead { IfOk result (λ next. next.at ≡ world.entry.at + 1) }
-    ensures front { IfErr result (λ _. (phases : List Phase) (report : AnyEpoch) → IsAtStop program.now phases report world.entry → BreaksOff program.now (phases ++ Epoch report ∷ []) (O.taken sink.old) (O.taken sink.new)) }
+    ensures ahead { IfOk result (λ next. length next.mutator.script ≤ length world.entry.mutator.script) }
+    ensures front { IfErr result (λ _. (p : AnyProgram) (phases : List Phase) (report : AnyEpoch) (order : List Said) (swept : List ℕ) → IsAtStop p phases report order swept world.entry →
+        BreaksOff p (phases ++ Epoch report order swept ∷ []) (O.taken sink.old) (O.taken sink.new)) }
     ensures cause { IfErr result (λ error. StopsRunning error (O.faults sink.old) (O.faults sink.new)) }
     ensures never_falls { O.faults sink.old ≤ O.faults sink.new }
 {
-    let Ok((next, stop)) = world.stop(alloc, program) else {
+    let Ok((next, stop)) = world.stop(alloc) else {
         return Err(RunError::Memory);
     };
     let mut piece = Vec::new(alloc);

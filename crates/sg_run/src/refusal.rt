@@ -18,7 +18,8 @@ pub(crate) enum Cause {
     Misused(KindFault),
 }
 
-/// The law of one cause: no input has two causes, nor one cause at two places. It does nothing; its contract is the law.
+/// The law of one cause: no input has two causes, nor one cause at two places, and no accepted one has any. It does
+/// nothing; its contract is the law.
 pub fn one_cause()
     ensures { HasOneCause }
 {

@@ -2,15 +2,19 @@
 ghost use Rattle.std.specs.Prelude.{◌≡◌, ◌≢◌, ◌≤◌, List, map, string_bytes, IsFalse, IfOk, IfErr, IfSome};
 ghost use Rattle.std.specs.Io.KnownBytes.{IsAtEnd};
 ghost use Rattle.sg_parse.specs.declared.refusal.Refusal.{Refusal as AnyRefusal};
-ghost use Rattle.sg_parse.specs.Accepted.{IsAccepted, IsAcceptedAs, IsAcceptedProgram};
+ghost use Rattle.sg_parse.specs.Accepted.{IsAccepted, IsAcceptedAs};
+ghost use Rattle.sg_parse.specs.Invariants.{IsAcceptedProgram};
 ghost use Rattle.sg_run.specs.Ends.{ends_of};
 ghost use Rattle.sg_run.specs.Input.{StopsReading};
+ghost use Rattle.sg_run.specs.declared.command.Job.TheVariants.{Run};
+ghost use Rattle.sg_run.specs.declared.refusal.Cause.TheVariants.{Refused};
 ghost use Rattle.sg_run.specs.Causes.{IsCause, refusal_line as line_of};
 ghost use Rattle.sg_run.specs.Refusing.{Refuses};
 ghost use Rattle.sg_run.specs.Status.{status_of};
 ghost use Rattle.sg_run.specs.Top.{Headline, Usage, Refusal as RefusalClause, ReadFault, WriteFault, Front, Complete, Promises};
+ghost use Rattle.sg_run.specs.Performing.{Performs};
 
-use crate::command::is_run;
+use crate::command::{Job, command};
 use crate::execution::{RunError, execute};
 use crate::gate::Gate;
 use crate::input::{ReadError, read_input};
@@ -63,8 +67,9 @@ impl Ending {
 /// - 5: memory ran out. This may come in place of any other status, and a front of what would have been written was
 ///   taken.
 ///
-/// The words decide first, then reading, then acceptance, then the run. Linear in the input and in the words
-/// of the space, beside the pauses.
+/// The words decide first, then reading, then acceptance, then the run. It takes time linear in the bytes of the input, in
+/// the statements that are done (those of a repeat as often as it says) times the fragments of the nursery, and in the words
+/// of the space, beside the time of the pauses.
 pub fn run<R: Threads + Sync, S: Source, O: Sink, G: Gate + Sync>(
     rt: &R,
     alloc: Global,
@@ -103,12 +108,20 @@ fn conclude<S: Source, O: Sink>(
     ensures { Promises (map string_bytes words.now) (ends_of S.left S.faults O.taken O.faults source.old sink.old)
         (ends_of S.left S.faults O.taken O.faults source.new sink.new) (status_of result) }
 {
-    if !is_run(words) {
-        return match write_piece(sink, b"usage: sgenlab run\n") {
+    match command(words) {
+        Some(Job::Run) => run_program(alloc, source, sink),
+        None => match write_piece(sink, b"usage: sgenlab run\n") {
             Ok(()) => Ending::NoCommand,
             Err(Failed) => Ending::SinkFailed,
-        };
+        },
     }
+}
+
+// Reads a program to its end, runs it, and writes its trace; or writes why the input isn't accepted.
+fn run_program<S: Source, O: Sink>(alloc: Global, source: &mut S, sink: &mut O) -> Ending
+    ensures { Performs Run (ends_of S.left S.faults O.taken O.faults source.old sink.old)
+        (ends_of S.left S.faults O.taken O.faults source.new sink.new) (status_of result) }
+{
     let program = match read_program(alloc, source) {
         Ok(Ok(program)) => program,
         Ok(Err(cause)) => return refuse(alloc, sink, cause),
@@ -143,6 +156,7 @@ fn read_program<S: Source>(
 ) -> Result<Result<Program, Cause>, ReadError>
     ensures found { IfOk result (λ read. IfOk read (λ program. IfSome (S.left source.old) (λ input. IsAcceptedAs input program))) }
     ensures cause { IfOk result (λ read. IfErr read (λ cause. IfSome (S.left source.old) (λ input. IsCause input cause))) }
+    ensures told { IfOk result (λ read. IfErr read (λ cause. cause ≢ Refused AnyRefusal.Memory)) }
     ensures none { IfOk result (λ read. IfErr read (λ _. IfSome (S.left source.old) (λ input. ¬ IsAccepted input))) }
     ensures accepted { IfOk result (λ read. IfOk read IsAcceptedProgram) }
     ensures at_end { IfOk result (λ read. IfOk read (λ _. IsAtEnd (S.left source.new))) }
@@ -159,6 +173,7 @@ fn read_program<S: Source>(
 fn accept(alloc: Global, bytes: &[u8]) -> Result<Result<Program, Cause>, AllocError>
     ensures found { IfOk result (λ read. IfOk read (IsAcceptedAs bytes.now)) }
     ensures cause { IfOk result (λ read. IfErr read (IsCause bytes.now)) }
+    ensures told { IfOk result (λ read. IfErr read (λ cause. cause ≢ Refused AnyRefusal.Memory)) }
     ensures none { IfOk result (λ read. IfErr read (λ _. ¬ IsAccepted bytes.now)) }
     ensures accepted { IfOk result (λ read. IfOk read IsAcceptedProgram) }
 {

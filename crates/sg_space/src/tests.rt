@@ -12,6 +12,7 @@ struct Found {
     last_byte: Option<Addr>,
     free_byte: Option<Addr>,
     second: Option<Object>,
+    inside: Option<Object>,
 }
 
 fn look(alloc: Global, space: &Space) -> Result<Found, AllocError>
@@ -22,6 +23,7 @@ fn look(alloc: Global, space: &Space) -> Result<Found, AllocError>
         last_byte: space.containing(4127),
         free_byte: space.containing(4160),
         second: space.object_at(Addr::at_word(516)),
+        inside: space.object_at(Addr::at_word(514)),
     })
 }
 
@@ -47,12 +49,24 @@ fn two_objects(rt: HostRuntime) -> Result<(), Fail> {
     space.write(second, 8);
     let found = look(rt.alloc(), &space)?;
     let told = found.told.into_vec();
+    let one = Object {
+        at: first,
+        class: 0,
+        fields: 2,
+        words: 4,
+    };
+    let two = Object {
+        at: second,
+        class: 0,
+        fields: 2,
+        words: 4,
+    };
     assert_eq!(rt; told.len(), 2);
-    assert_eq!(rt; told[0].at.get(), 4096);
-    assert_eq!(rt; told[1].at.get(), 4128);
-    assert_eq!(rt; told[1].words, 4);
+    assert_eq!(rt; told[0], one);
+    assert_eq!(rt; told[1], two);
     assert_eq!(rt; found.last_byte, Some(first));
     assert_eq!(rt; found.free_byte, None);
-    assert_eq!(rt; found.second.is_some(), true);
+    assert_eq!(rt; found.second, Some(two));
+    assert_eq!(rt; found.inside, None);
     Ok(())
 }

@@ -1,9 +1,9 @@
 -- A line says one sentence at most, and lines say one thing at most.
-use Rattle.std.proofs.Common.{◌≡◌, ◌⊎◌, inl, inr, List, [], ◌∷◌, ◌++◌, length, ℕ, suc, ◌+◌, refl, sym, ap, subst, ◌∙◌, arith}
+use Rattle.std.proofs.Common.{◌≡◌, inl, inr, List, [], ◌∷◌, ◌++◌, length, ℕ, suc, ◌+◌, sym, ap, subst, ◌∙◌, arith}
 use Rattle.std.proofs.lemmas.Option.{none-some, same_Some}
 use Rattle.sg_text.specs.Words.{words_of}
 use Rattle.sg_text.specs.Lines.{Sentence, IsLine}
-use Rattle.sg_text.specs.Numbered.{Numbered, SayBelow, Say}
+use Rattle.sg_text.specs.Numbered.{Numbered, SayBelow}
 use Rattle.sg_text.specs.Sentences.{sentence_in}
 use Rattle.sg_text.specs.Laws.{HaveOneSaying}
 use Rattle.sg_text.proofs.SentenceLemmas.{line_reads}

@@ -1,12 +1,12 @@
 -- The sentences of a text, line by line.
-use Rattle.std.proofs.Common.{Bor, ◌≡◌, ℕ, zero, suc, ◌+◌, ◌<◌, ◌≤◌, ◌⊎◌, true, Option, Some, None, List, [], ◌∷◌, ◌++◌, length, take, refl, sym, ap, subst, ◌∙◌, inl, inr, append_assoc, arith}
-use Rattle.std.specs.Prelude.{slice_get, IsTrue, IfSome, IfNone}
+use Rattle.std.proofs.Common.{Bor, ◌≡◌, ℕ, suc, ◌+◌, ◌<◌, ◌≤◌, true, Option, Some, None, List, [], ◌∷◌, ◌++◌, length, refl, sym, ap, subst, ◌∙◌, inl, inr, append_assoc, arith}
+use Rattle.std.specs.Prelude.{slice_get, IfSome}
 use Rattle.std.proofs.Math.Seq.{take-append_seam}
 use Rattle.std.proofs.lemmas.List.{append-nil}
 use Rattle.sg_text.specs.declared.scanner.Extent.TheVariants.{Whole, Above}
 use Rattle.sg_text.specs.Words.{is_proper, words_of, lines_of}
 use Rattle.sg_text.specs.Lines.{Sentence, IsLine}
-use Rattle.sg_text.specs.Numbered.{Numbered, SayBelow, Say}
+use Rattle.sg_text.specs.Numbered.{Numbered, Say}
 use Rattle.sg_text.specs.Reading.{numbered, AreRead, IsNoLine, IsScan}
 use Rattle.sg_text.specs.Steps.{first_line, lines_below, lines_left}
 use Rattle.sg_text.proofs.OneSentence.{at, say_append}

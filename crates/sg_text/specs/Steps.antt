@@ -1,6 +1,6 @@
 -- What the smaller steps of the reading answer.
 use Rattle.std.proofs.Common.{Bor}
-use Rattle.std.specs.Prelude.{◌≡◌, ◌≢◌, ℕ, Bool, true, ◌==◌, ◌&&◌, not, Option, Some, None, if◌then◌else◌, List, [], ◌∷◌, length}
+use Rattle.std.specs.Prelude.{◌≡◌, ◌≢◌, ℕ, Bool, true, ◌==◌, ◌&&◌, not, Option, Some, None, if◌then◌else◌, List, [], ◌∷◌}
 use Rattle.sg_text.specs.declared.line.Line.{Line}
 use Rattle.sg_text.specs.Words.{is_line_feed, is_printable, is_proper, lines_of, words_of}
 use Rattle.sg_text.specs.Lines.{Sentence, IsLine}

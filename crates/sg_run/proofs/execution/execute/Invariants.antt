@@ -1,6 +1,5 @@
-use Rattle.std.proofs.Common.{List, ◌-◌, ◌≤◌, length}
+use Rattle.std.proofs.Common.{List, ◌≤◌, length}
 use Rattle.std.specs.Io.KnownBytes.{Appends}
-use Rattle.sg_program.specs.Scripts.{script_of}
 use Rattle.sg_graph.specs.Run.{Phase}
 use Rattle.sg_trace.specs.Trace.{text}
 use Rattle.sg_run.specs.Worlds.{IsBetween}
@@ -12,4 +11,4 @@ invariant-loop-world g l = (phases : List Phase) × IsBetween l.program phases l
     × (g.O.Sink.faults l.initial.sink ≤ g.O.Sink.faults l.sink)
 
 abbrev pub decreases-loop-world : goal.decreases-loop-world
-decreases-loop-world g l = length (script_of l.program 0) - l.world.at
+decreases-loop-world g l = length l.world.mutator.script

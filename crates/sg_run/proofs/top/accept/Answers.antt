@@ -1,4 +1,4 @@
-use Rattle.sg_run.proofs.Refused.{is_cause, no_other}
+use Rattle.sg_run.proofs.Refused.{is_cause, is_told, no_other}
 use Rattle.sg_run.proofs.top.accept.Goals as goal
 
 -- src/top.rt:172:25
@@ -6,6 +6,7 @@ pub returns-in-Err : goal.returns-in-Err
 returns-in-Err c = record {
   found = tt;
   cause = is_cause c.args.bytes.now c.in-Err.refusal (c.is_memory.ensures c.if-is_memory.false) c.in-Err.ensures.refused;
+  told = is_told c.in-Err.refusal (c.is_memory.ensures c.if-is_memory.false);
   none = λ a. c.in-Err.ensures.wrong (c.is_memory.ensures c.if-is_memory.false) a.0 a.1.reads;
   accepted = tt;
 }

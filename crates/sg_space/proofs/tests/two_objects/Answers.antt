@@ -14,6 +14,6 @@ look-requires g c =
     (subst (λ (t : Contents). AreShapes t.shapes) clear contents.shapes)
     (record { fields = 2; kind = PtrFree }) (rw c.as_slice.ensures refl) refl
     c.in_ok-space.space c.set_next.new.self c.write.new.self c.write-2.new.self c.write-3.new.self c.write-4.new.self
-    c.address-first.result c.address-second.result c.plus.result c.plus-2.result
-    (omega (arith, c.address-first.ensures)) (omega (arith, c.address-second.ensures)) (omega (arith, c.address-first.ensures, c.plus.ensures)) (omega (arith, c.address-second.ensures, c.plus-2.ensures))
+    c.at_word-first.result c.at_word-second.result c.plus.result c.plus-2.result
+    (omega (arith, c.at_word-first.ensures)) (omega (arith, c.at_word-second.ensures)) (omega (arith, c.at_word-first.ensures, c.plus.ensures)) (omega (arith, c.at_word-second.ensures, c.plus-2.ensures))
     clear c.set_next.ensures c.write.ensures c.write-2.ensures c.write-3.ensures c.write-4.ensures

@@ -1,8 +1,7 @@
-use Rattle.std.proofs.Common.{◌≡◌, ◌≤◌, ◌<◌, ℕ, ◌+◌, ◌-◌, true, false, List, [], ◌∷◌, ◌++◌, length, map, take, drop, get_or, refl, sym, ap, ◌∙◌, append_assoc, inl, inr, arith, Bor}
+use Rattle.std.proofs.Common.{◌≤◌, ◌<◌, ℕ, List, [], ◌∷◌, ◌++◌, length, map, take, refl, sym, ap, ◌∙◌, append_assoc, inl, arith, Bor}
 use Rattle.std.proofs.lemmas.List.{map-append, take_more_set, length-map, length-set, length-take-le}
-use Rattle.std.specs.List.{slice_set}
-use Rattle.sg_text.specs.Words.{is_proper, words_of}
-use Rattle.sg_text.specs.Steps.{first_line, lines_below}
+use Rattle.sg_text.specs.Words.{words_of}
+use Rattle.sg_text.specs.Steps.{first_line}
 use Rattle.sg_text.proofs.LineWords.{past_blank, after_shorter, past_comment, past_word, wrong_byte, wrong_seventh, word_end}
 use Rattle.sg_text.proofs.lines.hear_line.Goals as goal
 use Rattle.sg_text.proofs.lines.hear_line.Goals.{else-is_word_byte-via-then-is_word_byte+else-count-lt-MOST_WORDS, else-is_word_byte-via-else-is_word_byte}

@@ -1,4 +1,4 @@
-use Rattle.std.proofs.Common.{◌≡◌, ℕ, true, false, not, ap, sym, ◌∙◌, arith, length, get_or}
+use Rattle.std.proofs.Common.{ℕ, not, ap, sym, ◌∙◌, arith, length}
 use Rattle.std.proofs.lemmas.List.Sums.{position_or_len_is}
 use Rattle.sg_text.specs.Steps.{is_word_byte}
 use Rattle.sg_text.proofs.lines.word_len.Goals as goal

@@ -1,11 +1,11 @@
-use Rattle.std.proofs.Common.{◌≡◌, ℕ, ◌≤◌, ◌+◌, suc, List, [], ◌∷◌, ◌++◌, Some, None, length, map, subst, sym, ap, ◌∙◌, arith}
+use Rattle.std.proofs.Common.{ℕ, ◌≤◌, ◌+◌, suc, List, [], ◌∷◌, ◌++◌, length, map, subst, sym, ap, ◌∙◌, arith}
 use Rattle.std.proofs.lemmas.List.{map-append}
 use Rattle.sg_text.specs.declared.line.Line.{Line}
 use Rattle.sg_text.specs.Words.{lines_of}
 use Rattle.sg_text.specs.Lines.{Sentence}
 use Rattle.sg_text.specs.Reading.{sentence_of}
 use Rattle.sg_text.specs.Steps.{first_line, lines_left, lines_below, SaysMaybe}
-use Rattle.sg_text.proofs.ScanLemmas.{ScanSoFar, scan_end, scan_blank, scan_line, scan_wrong, left_front, left_smaller}
+use Rattle.sg_text.proofs.ScanLemmas.{ScanSoFar, scan_blank, scan_line, scan_wrong, left_front, left_smaller}
 use Rattle.sg_text.proofs.LineWords.{lines_front}
 use Rattle.sg_text.proofs.scanner.scan.Goals as goal
 use Rattle.sg_text.proofs.scanner.scan.Goals.{in-Some-said+in_ok-push+in_ok-push-2, in_default-said}

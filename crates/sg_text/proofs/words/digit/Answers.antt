@@ -1,4 +1,4 @@
-use Rattle.std.proofs.Common.{◌≡◌, ◌-◌, ◌≤◌, ℕ, Some, [], ◌∷◌, subst, sym, ap, ◌∙◌, arith}
+use Rattle.std.proofs.Common.{ℕ, Some, [], ◌∷◌, subst, sym, ap, arith}
 use Rattle.sg_text.specs.Words.{IsNumber}
 use Rattle.sg_text.proofs.WordLemmas.{digit_found, digit_only, number_unique}
 use Rattle.sg_text.proofs.words.digit.Goals as goal

@@ -1,4 +1,4 @@
-use Rattle.std.proofs.Common.{◌≡◌, ℕ, List, length, Some, subst, sym, arith}
+use Rattle.std.proofs.Common.{◌≡◌, ℕ, List, length, subst, sym, arith}
 use Rattle.std.specs.Prelude.{IfSome}
 use Rattle.sg_text.specs.Words.{IsNumber}
 use Rattle.sg_text.proofs.WordLemmas.{one_alone}

@@ -1,0 +1,36 @@
+-- What a job reads and writes.
+use Rattle.std.specs.Prelude.{◌≡◌, ℕ, Bool, true, false, IsTrue, Option, Some, List, [], if◌then◌else◌}
+use Rattle.sg_program.specs.declared.program.Program.{Program}
+use Rattle.sg_graph.specs.Run.{Phase, IsRun, IsWholeRun}
+use Rattle.sg_trace.specs.Trace.{text}
+use Rattle.sg_parse.specs.Accepted.{IsAcceptedAs, IsAccepted}
+use Rattle.sg_run.specs.declared.command.Job.{Job}
+use Rattle.sg_run.specs.declared.command.Job.TheVariants.{Run}
+
+-- whether the job reads a program from the source
+abbrev pub reads_input : Job → Bool
+reads_input Run = true
+
+abbrev pub ReadsInput : Job → Type 0
+ReadsInput job = IsTrue (reads_input job)
+
+-- the job's input: what is left in the source, where it is told, or nothing where the job reads none
+abbrev pub input_of : Job → Option (List ℕ) → Option (List ℕ)
+input_of job left = if reads_input job then left else Some []
+
+-- the fact holds where it is asked for
+abbrev pub Where : Bool → Type 0 → Type 0
+Where true P = P
+Where false P = Unit {0}
+
+-- the input is one that the job takes: an accepted one, where it reads any
+abbrev pub IsTakenBy : Job → List ℕ → Type 0
+IsTakenBy job input = Where (reads_input job) (IsAccepted input)
+
+-- what the job writes, whole: a run writes the text of a whole run of the program as which the input is accepted
+abbrev pub Writes : Job → List ℕ → List ℕ → Type 0
+Writes Run input bytes = (p : Program) × (phases : List Phase) × IsAcceptedAs input p × IsWholeRun p phases × (bytes ≡ text phases)
+
+-- what it writes as far as it goes: the text of a run as far as that went
+abbrev pub MayWrite : Job → List ℕ → List ℕ → Type 0
+MayWrite Run input bytes = (p : Program) × (phases : List Phase) × IsAcceptedAs input p × IsRun p phases × (bytes ≡ text phases)
