@@ -7,7 +7,7 @@ use Rattle.std.proofs.lemmas.List.Sums.{count_by-le-length}
 use Rattle.std.proofs.lemmas.Grind.{flat_map-append}
 use Rattle.std.proofs.lemmas.List.Concat.{flat_map-cons}
 use Rattle.sg_text.specs.Lines.{Sentence, Declares}
-use Rattle.sg_words.proofs.Taken.{take_next, count-push}
+use Rattle.sg_limits.proofs.Taken.{take_next, count-push}
 use Rattle.sg_limits.specs.Faults.{classes_in, class_in, open_behind, is_opening, is_ending, is_begin}
 use Rattle.sg_limits.specs.LineLimits.{line_fault, fault_behind, HasNoLineFault}
 

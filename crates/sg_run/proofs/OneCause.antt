@@ -7,7 +7,7 @@ use Rattle.sg_program.specs.Kinds.{HasNoMisuse, IsFirstMisuse}
 use Rattle.sg_parse.specs.declared.refusal.Refusal.{Refusal}
 use Rattle.sg_parse.specs.declared.refusal.Refusal.TheVariants.{TooLong, Syntax, Class, Limit, Later, Memory}
 use Rattle.sg_limits.specs.declared.which.Which.{Which}
-use Rattle.sg_grammar.specs.Text.{HasOneReading, Reads}
+use Rattle.sg_grammar.specs.Text.{HasOneReading, ReadsAs}
 use Rattle.sg_parse.specs.Accepted.{IsReadAs, IsRefusedBy, IsAccepted, HasOneRefusal}
 use Rattle.sg_kinds.specs.declared.KindFault.{KindFault}
 use Rattle.sg_kinds.specs.Laws.{HasOneMisuse}
@@ -47,7 +47,7 @@ unfolding fault_at
 same_fault a b e q = ap (λ (m : ℕ). fault_at m a.statement) e ∙ ap (λ (s : ℕ). fault_at b.mutator s) q
 
 -- what is read as a program reads as it
-reads_of : (input : List ℕ) (p : Program) → IsReadAs input p → Reads input p
+reads_of : (input : List ℕ) (p : Program) → IsReadAs input p → ReadsAs input p
 reads_of input p r = (r.found, r.says, r.is)
 
 -- two misuses are of one program

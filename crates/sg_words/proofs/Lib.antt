@@ -7,4 +7,3 @@ pub mod Numbers
 pub mod Objects
 pub mod Fragments
 pub mod Sorted
-pub mod Taken

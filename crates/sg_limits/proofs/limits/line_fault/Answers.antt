@@ -2,7 +2,7 @@ use Rattle.std.proofs.Common.{◌<◌, ◌≤◌, length, map, get_or, sym, ◌�
 use Rattle.std.proofs.lemmas.List.{length-map}
 use Rattle.sg_text.specs.declared.line.Line.TheVariants.{Head}
 use Rattle.sg_text.specs.Reading.{sentence_of}
-use Rattle.sg_words.proofs.Taken.{read_at}
+use Rattle.sg_limits.proofs.Taken.{read_at}
 use Rattle.sg_limits.proofs.LineFaults.{one_more, fault_here, few}
 use Rattle.sg_limits.proofs.limits.line_fault.Goals as goal
 
