@@ -35,7 +35,7 @@ fn write_epoch(out: &mut Vec<u8>, report: &EpochReport) -> Result<(), AllocError
 {
     out.extend_from_slice(b"epoch ")?;
     append_number(out, u64::from(report.number))?;
-    out.extend_from_slice(b"\n")?;
+    out.push(b'\n')?;
     append_parts(out, report.parts.as_slice())?;
     append_end(out, report.last)
 }
@@ -83,11 +83,12 @@ fn append_answer_line(
     ensures appended { IfOk result (λ _. out.new.items ≡ out.old.items ++ answer_line mutator statement answer) }
 {
     append_number(out, u64::from(mutator))?;
-    out.extend_from_slice(b" ")?;
+    out.push(b' ')?;
     append_number(out, statement)?;
-    out.extend_from_slice(b" ")?;
+    out.push(b' ')?;
     append_answer(out, answer)?;
-    out.extend_from_slice(b"\n")
+    out.push(b'\n')?;
+    Ok(())
 }
 
 fn append_answer(out: &mut Vec<u8>, answer: Answer) -> Result<(), AllocError>
@@ -115,9 +116,10 @@ fn append_leave(out: &mut Vec<u8>, mutator: u32, leave: Leave) -> Result<(), All
     match leave {
         Leave::Ended => out.extend_from_slice(b" done\n"),
         Leave::Wants(request) => {
-            out.extend_from_slice(b" ")?;
+            out.push(b' ')?;
             append_request(out, request)?;
-            out.extend_from_slice(b"\n")
+            out.push(b'\n')?;
+            Ok(())
         }
     }
 }
@@ -166,7 +168,7 @@ fn write_stop(out: &mut Vec<u8>, report: &StopReport) -> Result<(), AllocError>
 {
     out.extend_from_slice(b"stop ")?;
     append_number(out, u64::from(report.number))?;
-    out.extend_from_slice(b"\n")?;
+    out.push(b'\n')?;
     append_pause(out, &report.minor)?;
     append_services(out, report.served.as_slice())
 }
@@ -207,7 +209,7 @@ fn append_gaps(out: &mut Vec<u8>, report: &MinorReport) -> Result<(), AllocError
 {
     out.extend_from_slice(b"spares ")?;
     append_number(out, u64::from(report.spares))?;
-    out.extend_from_slice(b"\n")?;
+    out.push(b'\n')?;
     append_pieces(out, report.pieces.as_slice())
 }
 
@@ -227,7 +229,8 @@ fn append_pin(out: &mut Vec<u8>, pin: Addr) -> Result<(), AllocError>
 {
     out.extend_from_slice(b"pin ")?;
     append_number(out, pin.get())?;
-    out.extend_from_slice(b"\n")
+    out.push(b'\n')?;
+    Ok(())
 }
 
 fn append_moves(out: &mut Vec<u8>, moves: &[Move]) -> Result<(), AllocError>
@@ -246,9 +249,10 @@ fn append_move(out: &mut Vec<u8>, moved: Move) -> Result<(), AllocError>
 {
     out.extend_from_slice(b"move ")?;
     append_number(out, moved.from.get())?;
-    out.extend_from_slice(b" ")?;
+    out.push(b' ')?;
     append_number(out, moved.to.get())?;
-    out.extend_from_slice(b"\n")
+    out.push(b'\n')?;
+    Ok(())
 }
 
 fn append_fails(out: &mut Vec<u8>, fails: &[Addr]) -> Result<(), AllocError>
@@ -267,7 +271,8 @@ fn append_fail(out: &mut Vec<u8>, failed: Addr) -> Result<(), AllocError>
 {
     out.extend_from_slice(b"fail ")?;
     append_number(out, failed.get())?;
-    out.extend_from_slice(b"\n")
+    out.push(b'\n')?;
+    Ok(())
 }
 
 fn append_pieces(out: &mut Vec<u8>, pieces: &[Piece]) -> Result<(), AllocError>
@@ -301,9 +306,10 @@ fn append_place(out: &mut Vec<u8>, at: Addr, words: u32) -> Result<(), AllocErro
     ensures appended { IfOk result (λ _. out.new.items ≡ out.old.items ++ decimal at ++ space ++ decimal words ++ line_feed) }
 {
     append_number(out, at.get())?;
-    out.extend_from_slice(b" ")?;
+    out.push(b' ')?;
     append_number(out, u64::from(words))?;
-    out.extend_from_slice(b"\n")
+    out.push(b'\n')?;
+    Ok(())
 }
 
 fn append_services(out: &mut Vec<u8>, served: &[Service]) -> Result<(), AllocError>
@@ -322,11 +328,12 @@ fn append_service(out: &mut Vec<u8>, service: Service) -> Result<(), AllocError>
 {
     out.extend_from_slice(b"serve ")?;
     append_number(out, u64::from(service.mutator))?;
-    out.extend_from_slice(b" ")?;
+    out.push(b' ')?;
     append_number(out, u64::from(service.statement))?;
-    out.extend_from_slice(b" ")?;
+    out.push(b' ')?;
     append_answer(out, service.answer)?;
-    out.extend_from_slice(b"\n")
+    out.push(b'\n')?;
+    Ok(())
 }
 
 /// Appends the number in decimal, without leading zeros. The only error is want of memory.
