@@ -341,6 +341,10 @@ pub fn append_number(out: &mut Vec<u8>, number: u64) -> Result<(), AllocError>
     ensures front { IfErr result (λ _. StartsWith out.new.items out.old.items) }
     ensures appended { IfOk result (λ _. out.new.items ≡ out.old.items ++ decimal number) }
 {
+    if number < 10 {
+        out.push(b'0' + number as u8)?;
+        return Ok(());
+    }
     let mut buffer = Buffer::new();
     out.extend_from_slice(buffer.format(number).as_bytes())
 }
