@@ -1,7 +1,6 @@
 -- What steps of a walk do to the frames.
-use Rattle.std.proofs.Common.{◌≡◌, ◌≢◌, ℕ, zero, suc, ◌+◌, ◌-◌, ◌*◌, ◌≤◌, ◌<◌, cond, Bool, true, false, Option, None, MatchOption, Some, inl, inr, List, [], ◌∷◌, ◌++◌, drop, map, length, get_or, slice_get, Result, Ok, if◌then◌else◌, sym, refl, ap, ◌∙◌, subst, arith}
+use Rattle.std.proofs.Common.{◌≡◌, ◌≢◌, ℕ, zero, suc, ◌+◌, ◌-◌, ◌*◌, ◌≤◌, ◌<◌, Option, None, MatchOption, Some, inl, inr, List, [], ◌∷◌, ◌++◌, drop, take, map, length, get_or, slice_get, slice_set, Result, Ok, if◌then◌else◌, sym, refl, ap, ◌∙◌, subst, arith}
 use Rattle.std.proofs.lemmas.List.{append_assoc, append-nil}
-use Rattle.std.proofs.lemmas.Bool.{false≢true}
 use Rattle.std.proofs.lemmas.Option.{none-some, same_Some}
 use Rattle.std.proofs.lemmas.List.Folds.{flat_map-map}
 use Rattle.std.specs.List.{AllByRecursion}
@@ -25,11 +24,6 @@ out_repeat item times body e =
 -- the frame behind its next item
 abbrev pub passed : Frame → Frame
 passed f = record f { at = f.at + 1 }
-
--- a turn of the loop that ends where no step was taken
-pub smaller : (old new : ℕ) (more step : Bool) → more ≡ true → new + cond step 1 0 ≤ old → new + cond step 1 0 < old + cond more 1 0
-smaller old new true step e l = omega arith
-smaller old new false step e l = absurd (false≢true e)
 
 -- one more frame
 pub left_push : (fs : List Frame) (f : Frame) → left (fs ++ f ∷ []) ≡ (frame_left f ++ left fs)
@@ -215,6 +209,23 @@ module _ (fs gs : List Frame) (f g : Frame) (same : (fs ++ f ∷ []) ≡ (gs ++ 
       last_of (x ∷ []) [] e = cc
       last_of (x ∷ z ∷ xs) [] e = cc
       last_of (x ∷ xs) (y ∷ ys) e = last_of xs ys (ap (drop 1) e)
+
+-- the last frame, found by its number
+pub last_split : (frames : List Frame) (n : ℕ) (f : Frame) → length frames ≡ n + 1 → f ≡ get_or frames n f → frames ≡ take n frames ++ f ∷ []
+last_split [] n f l e = absurd (omega arith)
+last_split (x ∷ []) zero f l e = ap (λ (z : Frame). z ∷ []) (sym e)
+last_split (x ∷ y ∷ xs) zero f l e = absurd (omega arith)
+last_split (x ∷ xs) (suc n) f l e = ap (λ (z : List Frame). x ∷ z) (last_split xs n f (omega arith) e)
+
+pub last_set : (frames : List Frame) (n : ℕ) (f : Frame) → length frames ≡ n + 1 → slice_set frames n f ≡ take n frames ++ f ∷ []
+last_set [] n f l = absurd (omega arith)
+last_set (x ∷ []) zero f l = refl
+last_set (x ∷ y ∷ xs) zero f l = absurd (omega arith)
+last_set (x ∷ xs) (suc n) f l = ap (λ (z : List Frame). x ∷ z) (last_set xs n f (omega arith))
+
+pub one_last : (frames : List Frame) (n : ℕ) → frames ≢ [] → n ≡ length frames → length frames ≡ (n - 1) + 1
+one_last [] n some e = absurd (some refl)
+one_last (x ∷ xs) n some e = omega arith
 
 -- at a statement something is left
 pub at_left : (frames : List Frame) (s : Statement) → IsAt frames s → (rest : List Statement) × (left frames ≡ s ∷ rest)

@@ -1,4 +1,4 @@
-ghost use Rattle.std.specs.Prelude.{◌≡◌, ◌≢◌, ◌+◌, ◌*◌, ◌≤◌, ◌∷◌, ◌++◌, false, List, [], length, if◌then◌else◌, IfOk, MatchOption, vec_capacity};
+ghost use Rattle.std.specs.Prelude.{◌≡◌, ◌≢◌, ◌+◌, ◌*◌, ◌≤◌, ◌∷◌, ◌++◌, false, true, List, [], length, if◌then◌else◌, IfOk, MatchOption, vec_capacity};
 ghost use Rattle.std.specs.List.{AllByRecursion};
 ghost use Rattle.sg_program.specs.declared.program.Statement.{Statement as AnyStatement};
 ghost use Rattle.sg_program.specs.Scripts.{repeated, written_out};
@@ -95,14 +95,8 @@ fn pass(frames: &mut Vec<Frame>)
     ensures nested { AreNested 0 frames.new.items }
     ensures room { 5 ≤ vec_capacity frames.new }
 {
-    if let Some(frame) = frames.pop() {
-        frames
-            .push(Frame {
-                body: frame.body,
-                at: frame.at + 1,
-                times: frame.times,
-            })
-            .unwrap();
+    if let Some(frame) = frames.last_mut() {
+        frame.at += 1;
     }
 }
 
@@ -115,9 +109,22 @@ fn settle(frames: &mut Vec<Frame>)
     ensures nested { AreNested 0 frames.new.items }
     ensures room { 5 ≤ vec_capacity frames.new }
 {
-    let mut more = true;
+    let mut more = !is_settled(frames.as_slice());
     while more {
-        more = step(frames);
+        more = step(frames) && !is_settled(frames.as_slice());
+    }
+}
+
+// Whether the next item is a statement, or nothing is left; it only looks.
+fn is_settled(frames: &[Frame]) -> bool
+    ensures { result ≡ true → Stands frames.now }
+{
+    let Some(frame) = frames.last() else {
+        return true;
+    };
+    match frame.body.get(frame.at) {
+        Some(Item::One(_)) => true,
+        Some(Item::Repeat { .. }) | None => false,
     }
 }
 
