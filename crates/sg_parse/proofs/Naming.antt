@@ -69,6 +69,26 @@ pub number_none : (es : Entries) (name : Key) (r : Option ℕ) → r ≡ positio
 number_none es name (Some i) e = tt
 number_none es name None e = no_name es name (Missing-position (λ (k : Key). pointwise nat_eq name.now k.now) es (sym e)).absent
 
+-- the entry that stands first has this name
+first_named : (es : Entries) (name : Key) (e : Key × Form) → Some e ≡ slice_get es 0 → e.0.now ≡ name.now → StandsFor (classes_from es) name.now 0
+first_named [] name e there same = absurd cc
+first_named (x ∷ es) name e there same = record {
+  named = ap (λ (k : Key × Form). Some k.0.now) (sym (same_Some e x there)) ∙ ap (λ (w : List ℕ). Some w) same;
+  first = λ d before named. absurd (omega (arith, before));
+}
+
+first_name : (es : Entries) (name : Key) (e : Key × Form) → Some e ≡ slice_get es 0 → StandsFor (classes_from es) name.now 0 → e.0.now ≡ name.now
+first_name [] name e there stands = absurd cc
+first_name (x ∷ es) name e there stands = ap (λ (k : Key × Form). k.0.now) (same_Some e x there) ∙ same_Some x.0.now name.now stands.named
+
+pub first_told : (es : Entries) (name : Key) (e : Key × Form) (r : Bool) → Some e ≡ slice_get es 0 → r ≡ pointwise nat_eq e.0.now name.now → IsTrue r ↔ StandsFor (classes_from es) name.now 0
+first_told es name e true there told = (λ yes. first_named es name e there (same_text e.0.now name.now told), λ stands. refl)
+first_told es name e false there told = (λ yes. absurd cc, λ stands. absurd (other_text e.0.now name.now told (first_name es name e there stands)))
+
+pub none_first : (es : Entries) (name : Key) → None ≡ slice_get es 0 → ¬ StandsFor (classes_from es) name.now 0
+none_first [] name there stands = let named = stands.named in absurd cc
+none_first (x ∷ es) name there stands = absurd cc
+
 -- a later entry has another name
 other_below : (es : Entries) (k : Key) (c : ℕ) → AllByRecursion (λ y. same_key k y ≡ false) (keys_of es) → ¬ IsClassName (classes_from es) k.now c
 other_below es k c h named = no_name es k h c named

@@ -1,5 +1,5 @@
 //! The classes of a text by their names.
-ghost use Rattle.std.specs.Prelude.{◌≡◌, ℕ, Some, true, false, ◌++◌, [], ◌∷◌, slice_get, map, OnOk, IfOk, IfSome, IfNone};
+ghost use Rattle.std.specs.Prelude.{◌≡◌, ◌↔◌, ℕ, IsTrue, Some, true, false, ◌++◌, [], ◌∷◌, slice_get, map, OnOk, IfOk, IfSome, IfNone};
 ghost use Rattle.sg_desc.specs.Shapes.{is_vector};
 ghost use Rattle.sg_limits.specs.Faults.{wants_vector, class_in};
 ghost use Rattle.sg_parse.specs.Names.{class_named, classes_of, HaveOwnNames, Misnames, IsNamed, IsNaming};
@@ -55,12 +55,27 @@ impl<'a> Names<'a> {
         }
     }
 
+    /// Whether the class that stands first has this name.
+    fn is_first(&self, name: &[u8]) -> bool
+        ensures first { IsTrue result ↔ StandsFor (classes_of self.now) name.now 0 }
+        ensures distinct { HaveOwnNames (classes_of self.now) }
+    {
+        match self.forms.as_slice().first() {
+            Some((key, _)) => *key == name,
+            None => false,
+        }
+    }
+
     /// The number of the class of this name.
     pub(crate) fn number(&self, name: &[u8]) -> Option<usize>
         ensures found { IfSome result (StandsFor (classes_of self.now) name.now) }
         ensures none { IfNone result ((c : ℕ) → ¬ IsClassName (classes_of self.now) name.now c) }
         ensures distinct { HaveOwnNames (classes_of self.now) }
     {
+        // Most texts make most objects of their first class, so its name is compared without hashing.
+        if self.is_first(name) {
+            return Some(0);
+        }
         self.forms.get_index_of(name)
     }
 
