@@ -100,6 +100,17 @@ module _ (fs new : List Frame) (f : Frame) (body : List Item) (t : ℕ) (some : 
       ∙ ap (λ (k : ℕ). cost fs + (1 + items_cost body + k * (1 + items_cost body))) times_is
       ∙ ap (λ (k : ℕ). cost fs + k) (times_more t (1 + items_cost body) some)
 
+-- a body that is not done again
+module _ (fs new : List Frame) (body : List Item) (t : ℕ) (none : t ≤ 0) (is : new ≡ fs) where
+  over : t ≡ 0
+  over = omega arith
+
+  pub over_left : left new ≡ (repeated t (written_out body) ++ left fs)
+  over_left = ap left is ∙ ap (λ (k : ℕ). repeated k (written_out body) ++ left fs) (sym over)
+
+  pub over_cost : cost new ≡ cost fs + t * (1 + items_cost body)
+  over_cost = ap cost is ∙ (let e : cost fs ≡ cost fs + 0 * (1 + items_cost body) = omega arith in e) ∙ ap (λ (k : ℕ). cost fs + k * (1 + items_cost body)) (sym over)
+
 -- an item's cost and depth
 cost_one : (item : Item) (s : Statement) → out-Item item ≡ One s → item_cost item ≡ 1
 cost_one item s e = fold_out-Item ℕ cost_step item ∙ ap (λ x. cost_step (map-Item Item ℕ item_cost x)) e
@@ -222,6 +233,12 @@ last_set [] n f l = absurd (omega arith)
 last_set (x ∷ []) zero f l = refl
 last_set (x ∷ y ∷ xs) zero f l = absurd (omega arith)
 last_set (x ∷ xs) (suc n) f l = ap (λ (z : List Frame). x ∷ z) (last_set xs n f (omega arith))
+
+pub outer_same : (frames : List Frame) (n : ℕ) (f : Frame) → take n (slice_set frames n f) ≡ take n frames
+outer_same [] zero f = refl
+outer_same [] (suc n) f = refl
+outer_same (x ∷ xs) zero f = refl
+outer_same (x ∷ xs) (suc n) f = ap (λ (z : List Frame). x ∷ z) (outer_same xs n f)
 
 pub one_last : (frames : List Frame) (n : ℕ) → frames ≢ [] → n ≡ length frames → length frames ≡ (n - 1) + 1
 one_last [] n some e = absurd (some refl)

@@ -138,26 +138,23 @@ fn step(frames: &mut Vec<Frame>) -> bool
     ensures stays { result ≡ false → Stands frames.new.items }
     ensures falls { cost frames.new.items + (if result then 1 else 0) ≤ cost frames.old.items }
 {
-    let Some(frame) = frames.pop() else {
+    let Some(frame) = frames.last_mut() else {
         return false;
     };
-    if frame.body.len() <= frame.at {
-        enter(frames, frame.body, frame.times);
+    let items = frame.body;
+    if items.len() <= frame.at {
+        if frame.times > 0 {
+            frame.at = 0;
+            frame.times -= 1;
+        } else {
+            frames.pop();
+        }
         return true;
     }
-    match &frame.body[frame.at] {
-        Item::One(_) => {
-            frames.push(frame).unwrap();
-            false
-        }
+    match &items[frame.at] {
+        Item::One(_) => false,
         Item::Repeat { times, body } => {
-            frames
-                .push(Frame {
-                    body: frame.body,
-                    at: frame.at + 1,
-                    times: frame.times,
-                })
-                .unwrap();
+            frame.at += 1;
             enter(frames, body.as_slice(), *times);
             true
         }
