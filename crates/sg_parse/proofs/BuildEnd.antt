@@ -16,7 +16,7 @@ use Rattle.sg_limits.specs.Faults.{classes_in, is_begin, is_opening, is_ending}
 use Rattle.sg_parse.specs.Building.{AreFront, total_of, finals_of}
 use Rattle.sg_grammar.specs.Laws.{HaveOneProgram}
 use Rattle.sg_parse.proofs.NamedProgram.{classes_are}
-use Rattle.sg_limits.proofs.Taken.{take_next}
+use Rattle.sg_parse.proofs.Taken.{take_next}
 use Rattle.sg_parse.proofs.ScriptLemmas.{same_script}
 
 -- a sentence that begins nothing and ends nothing

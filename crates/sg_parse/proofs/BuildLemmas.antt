@@ -14,7 +14,7 @@ use Rattle.sg_desc.specs.declared.shapes.Shape.{Shape}
 use Rattle.sg_text.specs.Reading.{sentence_of, shape_in}
 use Rattle.sg_parse.specs.Building.{config_with, config_of}
 use Rattle.sg_grammar.specs.Text.{defaults}
-use Rattle.sg_limits.proofs.Taken.{read_at, take_next}
+use Rattle.sg_parse.proofs.Taken.{read_at, take_next}
 
 pub classes-push : (before : List Sentence) (line : Sentence) → classes_in (before ++ line ∷ []) ≡ classes_in before ++ class_in line
 classes-push before line = flat_map-append class_in before (line ∷ []) ∙ ap (λ x. classes_in before ++ x) (append-nil (class_in line))

@@ -18,7 +18,7 @@ use Rattle.sg_grammar.specs.Text.{AreScripts, IsProgram, StandsFor}
 use Rattle.sg_limits.specs.Faults.{classes_in, class_in, is_ending, Breaks, BreaksSome}
 use Rattle.sg_parse.specs.Building.{AreFront, IsHeavy, AreScriptsRead}
 use Rattle.sg_limits.specs.LineLimits.{HasSmallNumbers, HasNoLineFault}
-use Rattle.sg_limits.proofs.Taken.{take_next}
+use Rattle.sg_parse.proofs.Taken.{take_next}
 use Rattle.sg_parse.proofs.BuildLemmas.{classes-push}
 use Rattle.sg_parse.proofs.NamedProgram.{all_at}
 use Rattle.sg_parse.proofs.BuildEnd.{IsPlain, above_of, above_plain, above_classes, KeepBelow, keep_front}

@@ -1,3 +1,4 @@
+pub mod Taken
 pub mod Glue
 pub mod Apart
 pub mod OneRefusal

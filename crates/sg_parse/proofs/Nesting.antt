@@ -17,7 +17,7 @@ use Rattle.sg_text.specs.Lines.{made_by, Sentence, Begins, Repeats, Ends, Makes,
 use Rattle.sg_grammar.specs.Text.{AreItems, NoItem, OneSays, OneMakes, NoRepeat, OneRepeat, AreScripts, IsClass, IsSetting}
 use Rattle.sg_limits.specs.Faults.{class_in, classes_in, is_opening, is_ending, is_begin, open_behind, BreaksSome}
 use Rattle.sg_parse.specs.Indices.{HasNoneIn}
-use Rattle.sg_limits.proofs.Taken.{count-push}
+use Rattle.sg_parse.proofs.Taken.{count-push}
 use Rattle.sg_parse.proofs.BuildLemmas.{classes-push}
 use Rattle.sg_parse.proofs.Run.{none_split}
 

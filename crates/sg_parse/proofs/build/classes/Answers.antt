@@ -4,7 +4,7 @@ use Rattle.sg_text.specs.declared.line.Line.TheVariants.{Head}
 use Rattle.sg_limits.specs.Faults.{class_in}
 use Rattle.sg_text.specs.Reading.{sentence_of}
 use Rattle.sg_limits.specs.LineLimits.{HasSmallNumbers}
-use Rattle.sg_limits.proofs.Taken.{read_at}
+use Rattle.sg_parse.proofs.Taken.{read_at}
 use Rattle.sg_parse.proofs.Bodies.{small_at}
 use Rattle.sg_parse.proofs.BuildLemmas.{class_more, no_class, same_class}
 use Rattle.sg_parse.proofs.build.classes.Goals as goal

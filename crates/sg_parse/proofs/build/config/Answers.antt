@@ -1,7 +1,7 @@
 use Rattle.std.proofs.Common.{map}
 use Rattle.sg_text.specs.declared.line.Line.TheVariants.{Head}
 use Rattle.sg_text.specs.Reading.{sentence_of}
-use Rattle.sg_limits.proofs.Taken.{read_at}
+use Rattle.sg_parse.proofs.Taken.{read_at}
 use Rattle.sg_parse.proofs.Bodies.{small_at}
 use Rattle.sg_parse.proofs.BuildLemmas.{config_more}
 use Rattle.sg_parse.proofs.build.config.Goals as goal

@@ -9,7 +9,7 @@ use Rattle.sg_parse.specs.Names.{classes_of}
 use Rattle.sg_text.specs.Lines.{Repeats}
 use Rattle.sg_text.specs.Reading.{sentence_of}
 use Rattle.sg_parse.specs.Building.{IsStatement}
-use Rattle.sg_limits.proofs.Taken.{read_at}
+use Rattle.sg_parse.proofs.Taken.{read_at}
 use Rattle.sg_parse.proofs.Bodies.{IsInBody, body_end, body_more, body_none, body_over, repeat_none, repeat_empty, repeat_more, small_at, inner_small, other_line, inner_body, inner_within, some_items, no_items}
 use Rattle.sg_parse.proofs.scripts.+read_body.Goals as goal
 
