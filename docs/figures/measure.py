@@ -5,9 +5,9 @@
   docs/figures/measure.py --write FOLDER     writes the inputs as files
 
 Instructions are counted by valgrind (`--tool=callgrind`), where it is on the path: the same on each run of one binary. Seconds
-and memory are of a run without it, the best of three.
+and memory are of runs without it: seconds the best of three, memory by GNU time, where that is on the path.
 """
-import os, resource, shutil, subprocess, sys, tempfile, time
+import os, shutil, subprocess, sys, tempfile, time
 
 TOP = os.path.join(os.path.dirname(os.path.abspath(__file__)), '..', '..')
 PROGRAM = os.path.join(TOP, 'crates', 'sgenlab', 'out', 'sgenlab')
@@ -39,7 +39,7 @@ def news():
 
 
 def one_epoch():
-    return program('', '', 'repeat 1000\nrepeat 1000\nnum r0 7\nend\nend\n')
+    return program('', '', 'num r0 7\nrepeat 1000\nrepeat 1000\nnum r0 7\nend\nend\n')
 
 
 def long_list():
@@ -94,12 +94,21 @@ def timed(data):
             f.write(data)
             f.seek(0)
             begun = time.perf_counter()
-            child = subprocess.Popen([PROGRAM, 'run'], stdin=f, stdout=subprocess.DEVNULL)
-            _, status, used = os.wait4(child.pid, 0)
+            subprocess.run([PROGRAM, 'run'], stdin=f, stdout=subprocess.DEVNULL)
             gone = time.perf_counter() - begun
-        if best is None or gone < best[0]:
-            best = (gone, used.ru_maxrss / 1024)
+        best = gone if best is None else min(best, gone)
     return best
+
+
+def memory(data):
+    # A process that is begun here counts the memory of this one as its own; GNU time begins it from a small one.
+    if shutil.which('time') is None:
+        return None
+    with tempfile.TemporaryFile() as f, tempfile.NamedTemporaryFile('r') as told:
+        f.write(data)
+        f.seek(0)
+        subprocess.run([shutil.which('time'), '-f', '%M', '-o', told.name, PROGRAM, 'run'], stdin=f, stdout=subprocess.DEVNULL)
+        return int(told.read().split()[-1]) / 1024
 
 
 def counted(data):
@@ -127,6 +136,7 @@ if __name__ == '__main__':
         if args and make.__name__ not in args:
             continue
         data = make().encode()
-        count, (seconds, memory) = counted(data), timed(data)
+        count, seconds, used = counted(data), timed(data), memory(data)
         told = '-' if count is None else f'{count / 1e6:.1f} million'
-        print(f'| `{make.__name__}` | {what} | {told} | {seconds:.2f} s | {memory:.1f} MiB |')
+        held = '-' if used is None else f'{used:.1f} MiB'
+        print(f'| `{make.__name__}` | {what} | {told} | {seconds:.2f} s | {held} |')
