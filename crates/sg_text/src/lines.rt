@@ -3,7 +3,7 @@ ghost use Rattle.std.specs.Prelude.{◌≡◌, ◌≤◌, ◌<◌, not, length, 
 ghost use Rattle.std.specs.List.{position_or_len};
 ghost use Rattle.sg_text.specs.Words.{is_blank, is_line_feed};
 ghost use Rattle.sg_text.specs.Reading.{IsNoLine};
-ghost use Rattle.sg_text.specs.Steps.{is_word_byte, first_line, lines_below, lines_left, AreSaid, AreNoLine, SaysMaybe};
+ghost use Rattle.sg_text.specs.Steps.{is_word_byte, first_line, lines_below, lines_left, AreAlike, AreSaid, AreNoLine, SaysMaybe};
 
 use crate::line::Line;
 use crate::sentence::line;
@@ -56,6 +56,17 @@ fn word_len(text: &[u8]) -> usize
     text.len()
 }
 
+/// The text behind the space at its front, if one stands there.
+fn past_space(text: &[u8]) -> &[u8]
+    ensures alike { AreAlike text.now result.now }
+    ensures within { length result.now ≤ length text.now }
+{
+    match text {
+        [b' ', after @ ..] => after,
+        _ => text,
+    }
+}
+
 /// What words say, if there are some; `None` where they are no line of the language.
 fn said_by<'a>(words: &[&'a [u8]]) -> Option<Option<Line<'a>>>
     ensures some { IfSome result (AreSaid (map (λ w. w.now) words.now)) }
@@ -81,22 +92,24 @@ pub(crate) fn hear_line(bytes: &[u8]) -> Option<Heard<'_>>
     let mut count = 0;
     let mut rest = bytes;
     while let [first, after @ ..] = rest {
-        if *first == b'\n' {
+        if is_word_byte(*first) {
+            if count == MOST_WORDS {
+                return None;
+            }
+            let (word, more) = rest.split_at(1 + word_len(after));
+            words[count] = word;
+            count += 1;
+            rest = past_space(more);
+        } else if *first == b'\n' {
             let said = said_by(&words[..count])?;
             return Some(Heard {
                 said,
                 rest: Some(after),
             });
-        }
-        if is_blank(*first) {
+        } else if is_blank(*first) {
             rest = after;
         } else if *first == b'#' {
             let (_, more) = rest.split_at(line_len(rest));
-            rest = more;
-        } else if is_word_byte(*first) && count < MOST_WORDS {
-            let (word, more) = rest.split_at(word_len(rest));
-            words[count] = word;
-            count += 1;
             rest = more;
         } else {
             return None;
