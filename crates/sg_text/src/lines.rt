@@ -1,7 +1,7 @@
 //! The words of a line, and what they say.
-ghost use Rattle.std.specs.Prelude.{◌≡◌, ◌≤◌, ◌<◌, not, length, map, IfSome, IfNone};
+ghost use Rattle.std.specs.Prelude.{◌≡◌, ◌≤◌, ◌<◌, true, not, length, map, take, IfSome, IfNone};
 ghost use Rattle.std.specs.List.{position_or_len};
-ghost use Rattle.sg_text.specs.Words.{is_blank, is_line_feed};
+ghost use Rattle.sg_text.specs.Words.{is_blank, is_line_feed, is_proper, words_of};
 ghost use Rattle.sg_text.specs.Reading.{IsNoLine};
 ghost use Rattle.sg_text.specs.Steps.{is_word_byte, first_line, lines_below, lines_left, AreAlike, AreSaid, AreNoLine, SaysMaybe};
 
@@ -16,6 +16,13 @@ const MOST_WORDS: usize = 6;
 pub(crate) struct Heard<'a> {
     pub(crate) said: Option<Line<'a>>,
     pub(crate) rest: Option<&'a [u8]>,
+}
+
+/// How many words a line has, and the bytes behind its line feed, if it has one.
+#[derive(Clone, Copy, Debug, PartialEq, Eq)]
+struct Split<'a> {
+    count: usize,
+    rest: Option<&'a [u8]>,
 }
 
 /// How many bytes stand before the first line feed.
@@ -81,14 +88,17 @@ fn said_by<'a>(words: &[&'a [u8]]) -> Option<Option<Line<'a>>>
     }
 }
 
-/// What the first line says; `None` where no text has such a line. It goes over the line's bytes once.
-pub(crate) fn hear_line(bytes: &[u8]) -> Option<Heard<'_>>
-    ensures said { IfSome result (λ h. SaysMaybe (first_line bytes.now) h.said) }
-    ensures rest { IfSome result (λ h. lines_below bytes.now ≡ lines_left h.rest) }
-    ensures shorter { IfSome result (λ h. IfSome h.rest (λ rest. length rest.now < length bytes.now)) }
+/// Finds the words of the first line, and what stands below it; `None` where no text has such a line. The words come to the
+/// front of `words`. It goes over the line's bytes once.
+fn split_line<'a>(bytes: &'a [u8], words: &mut [&'a [u8]; MOST_WORDS]) -> Option<Split<'a>>
+    ensures few { IfSome result (λ s. s.count ≤ 6) }
+    ensures room { length words.new ≡ 6 }
+    ensures proper { IfSome result (λ s. is_proper (first_line bytes.now) ≡ true) }
+    ensures words { IfSome result (λ s. words_of (first_line bytes.now) ≡ map (λ w. w.now) (take s.count words.new)) }
+    ensures rest { IfSome result (λ s. lines_below bytes.now ≡ lines_left s.rest) }
+    ensures shorter { IfSome result (λ s. IfSome s.rest (λ rest. length rest.now < length bytes.now)) }
     ensures none { IfNone result (IsNoLine (first_line bytes.now)) }
 {
-    let mut words: [&[u8]; MOST_WORDS] = [&[]; MOST_WORDS];
     let mut count = 0;
     let mut rest = bytes;
     while let [first, after @ ..] = rest {
@@ -101,9 +111,8 @@ pub(crate) fn hear_line(bytes: &[u8]) -> Option<Heard<'_>>
             count += 1;
             rest = past_space(more);
         } else if *first == b'\n' {
-            let said = said_by(&words[..count])?;
-            return Some(Heard {
-                said,
+            return Some(Split {
+                count,
                 rest: Some(after),
             });
         } else if is_blank(*first) {
@@ -115,6 +124,21 @@ pub(crate) fn hear_line(bytes: &[u8]) -> Option<Heard<'_>>
             return None;
         }
     }
-    let said = said_by(&words[..count])?;
-    Some(Heard { said, rest: None })
+    Some(Split { count, rest: None })
+}
+
+/// What the first line says; `None` where no text has such a line. It goes over the line's bytes once.
+pub(crate) fn hear_line(bytes: &[u8]) -> Option<Heard<'_>>
+    ensures said { IfSome result (λ h. SaysMaybe (first_line bytes.now) h.said) }
+    ensures rest { IfSome result (λ h. lines_below bytes.now ≡ lines_left h.rest) }
+    ensures shorter { IfSome result (λ h. IfSome h.rest (λ rest. length rest.now < length bytes.now)) }
+    ensures none { IfNone result (IsNoLine (first_line bytes.now)) }
+{
+    let mut words: [&[u8]; MOST_WORDS] = [&[]; MOST_WORDS];
+    let split = split_line(bytes, &mut words)?;
+    let said = said_by(&words[..split.count])?;
+    Some(Heard {
+        said,
+        rest: split.rest,
+    })
 }
