@@ -10,7 +10,7 @@ use Rattle.std.proofs.Math.Seq.{take-length}
 use Rattle.sg_text.specs.Words.{parted_by, onto_first, is_line_feed, is_blank, is_printable, is_empty, is_proper, before_comment, words_of, lines_of}
 use Rattle.sg_text.specs.Lines.{Sentence, IsLine}
 use Rattle.sg_text.specs.Reading.{IsNoLine}
-use Rattle.sg_text.specs.Steps.{is_word_byte, first_line, lines_below}
+use Rattle.sg_text.specs.Steps.{is_word_byte, first_line, lines_below, AreAlike}
 use Rattle.sg_text.specs.Sentences.{sentence_in}
 use Rattle.sg_text.proofs.SentenceLemmas.{line_reads}
 
@@ -72,15 +72,9 @@ text_more c line e = rw (e, one_more) refl
 proper_more : (c : ℕ) (line : List ℕ) → is_comment c ≡ false → is_proper (c ∷ line) ≡ ((is_blank c || is_printable c) && is_proper line)
 proper_more c line e = rw (text_more c line e) refl
 
--- two texts whose first lines have the same words, which are proper or not, and that have the same lines below
-pub record Alike (text other : List ℕ) : Type 0 where
-  pub proper : is_proper (first_line text) ≡ is_proper (first_line other)
-  pub words : words_of (first_line text) ≡ words_of (first_line other)
-  pub below : lines_below text ≡ lines_below other
-
 -- ---- a blank
 
-blank_alike : (c : ℕ) (cs : List ℕ) → is_blank c ≡ true → Alike (c ∷ cs) cs
+blank_alike : (c : ℕ) (cs : List ℕ) → is_blank c ≡ true → AreAlike (c ∷ cs) cs
 blank_alike c cs e =
     let line = line_more c cs (blank_feed c e) in
     record {
@@ -92,9 +86,16 @@ blank_alike c cs e =
 after_front : (c : ℕ) (cs : List ℕ) → take (length (c ∷ cs) - 1) (drop 1 (c ∷ cs)) ≡ cs
 after_front c cs = let len : length (c ∷ cs) - 1 ≡ length cs = omega arith in rw len (take-length cs)
 
-pub past_blank : (rest : List ℕ) → 1 ≤ length rest → is_blank (get_or rest 0 0) ≡ true → Alike rest (take (length rest - 1) (drop 1 rest))
+pub past_blank : (rest : List ℕ) → 1 ≤ length rest → is_blank (get_or rest 0 0) ≡ true → AreAlike rest (take (length rest - 1) (drop 1 rest))
 past_blank [] some e = absurd (omega arith)
-past_blank (c ∷ cs) some e = subst (Alike (c ∷ cs)) (sym (after_front c cs)) (blank_alike c cs e)
+past_blank (c ∷ cs) some e = subst (AreAlike (c ∷ cs)) (sym (after_front c cs)) (blank_alike c cs e)
+
+-- a space at the front, which is a blank
+pub past_space : (text : List ℕ) → 1 ≤ length text → get_or text 0 0 ≡ 32 → AreAlike text (take (length text - 1) (drop 1 text))
+past_space text some e = past_blank text some (rw e refl)
+
+pub alike_itself : (text : List ℕ) → AreAlike text text
+alike_itself text = record { proper = refl; words = refl; below = refl }
 
 pub after_shorter : (rest : List ℕ) → 1 ≤ length rest → length (take (length rest - 1) (drop 1 rest)) < length rest
 after_shorter [] some = absurd (omega arith)
@@ -130,7 +131,7 @@ comment_proper c cs e = rw e refl
 comment_words : (c : ℕ) (cs : List ℕ) → c ≡ 35 → words_of (first_line (c ∷ cs)) ≡ []
 comment_words c cs e = rw e refl
 
-pub past_comment : (rest more : List ℕ) (n : ℕ) → 1 ≤ length rest → get_or rest 0 0 ≡ 35 → n ≡ position_or_len is_line_feed rest → more ≡ drop n rest → Alike rest more
+pub past_comment : (rest more : List ℕ) (n : ℕ) → 1 ≤ length rest → get_or rest 0 0 ≡ 35 → n ≡ position_or_len is_line_feed rest → more ≡ drop n rest → AreAlike rest more
 past_comment [] more n some e n-is more-is = absurd (omega arith)
 past_comment (c ∷ cs) more n some e n-is more-is =
     let same : more ≡ drop (position_or_len is_line_feed (c ∷ cs)) (c ∷ cs) = more-is ∙ ap (λ (k : ℕ). drop k (c ∷ cs)) n-is in
@@ -145,6 +146,11 @@ past_comment (c ∷ cs) more n some e n-is more-is =
 
 abbrev pub word_end : List ℕ → ℕ
 word_end bytes = position_or_len (λ c. not (is_word_byte c)) bytes
+
+-- the end of a word, from its second byte on
+pub word_end_after : (rest : List ℕ) → 1 ≤ length rest → is_word_byte (get_or rest 0 0) ≡ true → 1 + word_end (take (length rest - 1) (drop 1 rest)) ≡ word_end rest
+word_end_after [] some e = absurd (omega arith)
+word_end_after (c ∷ cs) some e = rw (after_front c cs, e) refl
 
 proper_past : (bytes : List ℕ) → is_proper (first_line bytes) ≡ is_proper (first_line (drop (word_end bytes) bytes))
 proper_past [] = refl
@@ -249,6 +255,14 @@ past_word (c ∷ cs) word more n some e n-is word-is more-is =
       shorter = let one : word_end (c ∷ cs) ≡ suc (word_end cs) = rw (e, one_more (word_end cs)) refl in
           let long : length more ≡ length (drop (word_end (c ∷ cs)) (c ∷ cs)) = ap (λ (l : List ℕ). length l) m in omega (arith, length-drop (word_end (c ∷ cs)) (c ∷ cs));
     }
+
+pub behind_alike : (rest word more other : List ℕ) → Behind rest word more → AreAlike more other → length other ≤ length more → Behind rest word other
+behind_alike rest word more other behind alike within = record {
+  proper = behind.proper ∙ alike.proper;
+  words = λ fine. behind.words (alike.proper ∙ fine) ∙ ap (λ (l : List (List ℕ)). word ∷ l) alike.words;
+  below = behind.below ∙ alike.below;
+  shorter = let less = behind.shorter in omega (arith, less, within);
+}
 
 -- ---- lines of no text
 

@@ -1,5 +1,5 @@
 -- What the sentence worked out from words has to do with the lines of the grammar.
-use Rattle.std.proofs.Common.{◌≡◌, ℕ, ◌<◌, ◌≤◌, true, false, eqb, leb, ltb, ◌&&◌, Option, Some, None, List, [], ◌∷◌, length, refl, sym, ap, ◌∙◌, inl, inr, arith}
+use Rattle.std.proofs.Common.{◌≡◌, ℕ, ◌<◌, ◌≤◌, true, false, eqb, leb, ltb, ◌&&◌, Option, Some, None, List, [], ◌∷◌, length, get_or, refl, sym, ap, ◌∙◌, inl, inr, arith}
 use Rattle.std.specs.Prelude.{codes, IsTrue, ◌^◌, IfSome}
 use Rattle.std.specs.Cmp.Lexicographic.{pointwise}
 use Rattle.std.specs.Fmt.{decimal}
@@ -191,3 +191,26 @@ pointwise_same [] [] = refl
 pointwise_same [] (d ∷ ds) = refl
 pointwise_same (c ∷ cs) [] = refl
 pointwise_same (c ∷ cs) (d ∷ ds) = rw (pointwise_same cs ds) refl
+
+-- words of two lengths, words with two first bytes, and empty words
+pub same_lengths : (u v : List ℕ) → (length u ≡ length v → ⊥) → false ≡ same u v
+same_lengths u v differ = elim (cases_Bool (same u v)) [
+  | inl e ↦ absurd (differ (ap (λ (l : List ℕ). length l) (same_true u v e)))
+  | inr e ↦ sym e
+]
+
+pub same_fronts : (u v : List ℕ) → length u ≡ length v → (get_or u 0 0 ≡ get_or v 0 0 → ⊥) → eqb (get_or u 0 0) (get_or v 0 0) ≡ same u v
+unfolding same
+same_fronts [] [] long differ = absurd (differ refl)
+same_fronts [] (d ∷ ds) long differ = absurd (omega (arith, long))
+same_fronts (c ∷ cs) [] long differ = absurd (omega (arith, long))
+same_fronts (c ∷ cs) (d ∷ ds) long differ = elim (cases_Bool (eqb c d)) [
+  | inl e ↦ absurd (differ (eqb-true c d e))
+  | inr e ↦ rw e refl
+]
+
+pub same_empty : (u v : List ℕ) → length u < 1 → length u ≡ length v → true ≡ same u v
+unfolding same
+same_empty [] [] short long = refl
+same_empty [] (d ∷ ds) short long = absurd (omega (arith, long))
+same_empty (c ∷ cs) v short long = absurd (omega (arith, short))

@@ -28,6 +28,12 @@ abbrev pub lines_left : Option (Bor (List ℕ)) → List (List ℕ)
 lines_left None = []
 lines_left (Some rest) = lines_of rest.now
 
+-- two texts whose first lines have the same words, which are proper or not, and that have the same lines below
+pub record AreAlike (text other : List ℕ) : Type 0 where
+  pub proper : is_proper (first_line text) ≡ is_proper (first_line other)
+  pub words : words_of (first_line text) ≡ words_of (first_line other)
+  pub below : lines_below text ≡ lines_below other
+
 -- the words say this, or there are none
 abbrev pub AreSaid : List (List ℕ) → Option Line → Type 0
 AreSaid words None = words ≡ []

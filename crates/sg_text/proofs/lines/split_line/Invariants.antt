@@ -1,7 +1,7 @@
 use Rattle.std.proofs.Common.{◌≡◌, ◌≤◌, ◌++◌, true, length, take, map}
 use Rattle.sg_text.specs.Words.{is_proper, words_of}
 use Rattle.sg_text.specs.Steps.{first_line, lines_below}
-use Rattle.sg_text.proofs.lines.hear_line.Given as goal
+use Rattle.sg_text.proofs.lines.split_line.Given as goal
 
 abbrev pub invariant-loop-rest : goal.invariant-loop-rest
 invariant-loop-rest l = record {
