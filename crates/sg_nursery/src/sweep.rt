@@ -108,6 +108,10 @@ fn went_to(space: &Space, object: &Object) -> Option<Addr>
     forwarded_to(space.read(object.at))
 }
 
+/// A run ends before it has more words than these: the C library fills so many by plain stores, and more by an instruction that
+/// valgrind counts once for each byte.
+const LONGEST_RUN: u64 = 128;
+
 /// The words of dead objects that stand one behind another, which are to become zero: from one word number to before another.
 #[derive(Clone, Copy)]
 struct Run {
@@ -164,7 +168,7 @@ fn clean_next(space: &mut Space, run: Run, object: &Object) -> Run
     }
     let first = object.at.word();
     let to = first + object.words as u64;
-    if first == run.to {
+    if first == run.to && to <= run.from + LONGEST_RUN {
         return Run { from: run.from, to };
     }
     clear(space, run);
