@@ -50,8 +50,7 @@ impl Descriptor {
         }
     }
 
-    /// The first strong field from `from` on, of an object of `len` fields; `len` where there is none. For a bitmap linear in
-    /// the fields that it passes, and else constant.
+    /// The first strong field from `from` on, of an object of `len` fields; `len` where there is none. Constant.
     pub fn next_strong(&self, from: u32, len: u32) -> u32
         requires { from ≤ len }
         ensures from { from ≤ result }
@@ -96,12 +95,15 @@ fn next_bit(bits: u64, from: u32, len: u32) -> u32
     ensures passed { (i : ℕ) → from ≤ i → i < result → (bit_at bits i == 1) ≡ false }
     ensures strong { result < len → (bit_at bits result == 1) ≡ true }
 {
-    for i in from..len {
-        if has_bit(bits, i) {
-            return i;
-        }
+    if 64 <= from {
+        return len;
     }
-    len
+    let rest = bits >> from;
+    if rest == 0 {
+        return len;
+    }
+    let next = from + rest.trailing_zeros();
+    if next < len { next } else { len }
 }
 
 /// How many fields the objects of a class have, and which of them hold references. For a class of vectors `fields` is 0:

@@ -1,5 +1,5 @@
 -- What is done to the words of a nursery around a round of copying, and what is told of them.
-use Rattle.std.specs.Prelude.{◌≡◌, ℕ, ◌+◌, ◌<◌, ◌≤◌, ◌⊎◌, ◌↔◌, false, List, map}
+use Rattle.std.specs.Prelude.{◌≡◌, ℕ, ◌+◌, ◌<◌, ◌≤◌, ◌⊎◌, ◌↔◌, ◌&&◌, nat_le, nat_lt, if◌then◌else◌, false, List, map}
 use Rattle.std.specs.List.{Contains}
 use Rattle.std.specs.List.Sorted.{IsStrictlyIncreasing}
 use Rattle.sg_words.specs.Address.{IsAddress, byte_at, word_at}
@@ -64,6 +64,6 @@ pub record AreCleaned (told : List Object) (old new : ℕ → ℕ) : Type 0 wher
   pub zero : (o : Object) (y : ℕ) → Contains told o → (IsStaying old o → ⊥) → first_word o ≤ y → y < word_behind o → new y ≡ 0
   pub others : (y : ℕ) → (IsTaken told y → ⊥) → new y ≡ old y
 
--- the n words from x on are zero now, and no other word has changed
-abbrev pub AreZero : (ℕ → ℕ) → ℕ → ℕ → (ℕ → ℕ) → Type 0
-AreZero old x n new = ((y : ℕ) → x ≤ y → y < x + n → new y ≡ 0) × ((y : ℕ) → (x ≤ y → y < x + n → ⊥) → new y ≡ old y)
+-- the words, but 0 from `from` to before `to`
+abbrev pub blank : ℕ → ℕ → (ℕ → ℕ) → ℕ → ℕ
+blank from to w y = if nat_le from y && nat_lt y to then 0 else w y

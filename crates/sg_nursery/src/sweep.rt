@@ -6,10 +6,10 @@ ghost use Rattle.sg_space.specs.Space.{IsContents};
 ghost use Rattle.sg_space.specs.Standing.{word};
 ghost use Rattle.sg_copy.specs.Copying.{IsStill};
 ghost use Rattle.sg_nursery.specs.Pieces.{first_word, word_behind};
-ghost use Rattle.sg_nursery.specs.Parts.{AreRounded, AreStaying, AreKept, AreCleaned, AreZero, IsRounded, IsStaying, WentTo};
+ghost use Rattle.sg_nursery.specs.Parts.{AreRounded, AreStaying, AreKept, AreCleaned, blank, IsRounded, IsStaying, WentTo};
 
 use sg_space::{Object, Space};
-use sg_words::{Addr, Move, Tag, forwarded_to, write_tag};
+use sg_words::{Addr, FIRST_WORD, Move, Tag, forwarded_to, write_tag};
 use std::alloc::{AllocError, Global};
 
 /// What a round of copying has made of the objects of the nursery. Each list is by address.
@@ -108,50 +108,81 @@ fn went_to(space: &Space, object: &Object) -> Option<Addr>
     forwarded_to(space.read(object.at))
 }
 
-// Gives what stays its plain tag again, and makes the words of all other objects zero.
+/// A run ends before it has more words than these: the C library fills so many by plain stores, and more by an instruction that
+/// valgrind counts once for each byte.
+const LONGEST_RUN: u64 = 128;
+
+/// The words of dead objects that stand one behind another, which are to become zero: from one word number to before another.
+#[derive(Clone, Copy)]
+struct Run {
+    from: u64,
+    to: u64,
+}
+
+// Gives what stays its plain tag again, and makes the words of all other objects zero: at once those of objects that stand
+// one behind another.
 fn clean(space: &mut Space, told: &[Object])
     requires contents { IsContents space.old }
     requires rounded { AreRounded space.old.layout (word space.old) told.now }
     ensures cleaned { AreCleaned told.now (word space.old) (word space.new) }
     ensures still { IsStill space.old space.new }
 {
+    let mut run = Run {
+        from: FIRST_WORD,
+        to: FIRST_WORD,
+    };
     for object in told {
-        clean_one(space, object);
+        run = clean_next(space, run, object);
     }
+    clear(space, run);
 }
 
-// The same for one object.
-fn clean_one(space: &mut Space, object: &Object)
+// Cleans one more object, behind a run whose words are still to become zero; the answer is the run that is left behind it.
+fn clean_next(space: &mut Space, run: Run, object: &Object) -> Run
     requires contents { IsContents space.old }
+    requires from { nursery_base ≤ run.from }
+    requires order { run.from ≤ run.to }
+    requires below { run.to ≤ first_word object.now }
     requires class { object.now.class < 256 }
     requires some { 0 < object.now.words }
     requires whole { byte_at (first_word object.now) ≡ object.now.at }
-    requires above { nursery_base ≤ first_word object.now }
     requires within { word_behind object.now ≤ old_base space.old.layout }
-    ensures cleaned { AreCleaned (object.now ∷ []) (word space.old) (word space.new) }
+    ensures from { nursery_base ≤ result.from }
+    ensures order { result.from ≤ result.to }
+    ensures behind { result.to ≤ word_behind object.now }
+    ensures cleaned { AreCleaned (object.now ∷ []) (blank run.from run.to (word space.old)) (blank result.from result.to (word space.new)) }
     ensures still { IsStill space.old space.new }
 {
     if stays(space, object) {
+        clear(space, run);
         space.write(
             object.at,
             write_tag(Tag::Plain {
                 class: object.class,
             }),
         );
-    } else {
-        clear(space, object.at, object.words);
+        return Run {
+            from: run.to,
+            to: run.to,
+        };
     }
+    let first = object.at.word();
+    let to = first + object.words as u64;
+    if first == run.to && to <= run.from + LONGEST_RUN {
+        return Run { from: run.from, to };
+    }
+    clear(space, run);
+    Run { from: first, to }
 }
 
-// Makes this many words zero.
-fn clear(space: &mut Space, at: Addr, words: u32)
+// Makes the words of a run zero.
+fn clear(space: &mut Space, run: Run)
     requires contents { IsContents space.old }
-    requires above { nursery_base ≤ word_at at }
-    requires within { word_at at + words ≤ old_base space.old.layout }
-    ensures cleared { AreZero (word space.old) (word_at at) words (word space.new) }
+    requires from { nursery_base ≤ run.from }
+    requires order { run.from ≤ run.to }
+    requires within { run.to ≤ old_base space.old.layout }
+    ensures cleared { (y : ℕ) → word space.new y ≡ blank run.from run.to (word space.old) y }
     ensures still { IsStill space.old space.new }
 {
-    for j in 0..words {
-        space.write(at.plus(j), 0);
-    }
+    space.clear(Addr::at_word(run.from), run.to - run.from);
 }

@@ -149,6 +149,18 @@ impl Space {
         self.words[a.word() as usize] = w;
     }
 
+    /// This many words from this byte address on become zero. Linear in them.
+    pub fn clear(&mut self, a: Addr, words: u64)
+        requires { word_at a + words ≤ words_end self.old.layout }
+        ensures zero { (y : ℕ) → word_at a ≤ y → y < word_at a + words → word self.new y ≡ 0 }
+        ensures others { (y : ℕ) → (word_at a ≤ y → y < word_at a + words → ⊥) → word self.new y ≡ word self.old y }
+        ensures still { self.new ≡ record self.old { words = self.new.words } }
+        ensures length { length self.new.words ≡ length self.old.words }
+    {
+        let from = a.word() as usize;
+        clear_words(&mut self.words, from, from + words as usize);
+    }
+
     /// How many fragments there are, at most 2,048.
     pub fn fragments(&self) -> u32
         ensures value { result ≡ length self.now.ends }
@@ -227,4 +239,17 @@ fn put_fragments(next: &mut Vec<u64>, ends: &mut Vec<u64>, pieces: &[Piece])
             ends.push(at.get() + 8 * words as u64).unwrap();
         }
     }
+}
+
+ghost use Rattle.std.specs.Prelude.{ℕ, ◌<◌, slice_index};
+
+/// The words from `from` to before `end` become zero.
+fn clear_words(words: &mut [u64], from: usize, end: usize)
+    requires order { from ≤ end }
+    requires within { end ≤ length words.old }
+    ensures zero { (y : ℕ) → from ≤ y → y < end → slice_index words.new y ≡ 0 }
+    ensures others { (y : ℕ) → (from ≤ y → y < end → ⊥) → slice_index words.new y ≡ slice_index words.old y }
+    ensures same { length words.new ≡ length words.old }
+{
+    words[from..end].fill(0);
 }

@@ -9,6 +9,9 @@ use crate::space::Space;
 use sg_words::{Addr, FIRST_WORD, List, plain_class};
 use std::alloc::{AllocError, Global};
 
+/// For how many objects a walk takes room at first.
+const USUAL_OBJECTS: usize = 1024;
+
 impl Space {
     /// The objects that stand in the nursery, by address. Linear in the objects, the fragments and the words that no object and no
     /// fragment's rest has.
@@ -17,7 +20,7 @@ impl Space {
         ensures { IfOk result (λ told. (owner : ℕ → Option ℕ) → IsSoundBy self.now owner → TellsYoung self.now owner told) }
     {
         let end = self.layout().old_word();
-        let mut told = Vec::new(alloc);
+        let mut told = Vec::with_capacity(alloc, USUAL_OBJECTS)?;
         let mut fragment = 0;
         let mut x = FIRST_WORD;
         while x < end {

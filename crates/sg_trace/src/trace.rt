@@ -1,13 +1,19 @@
 // The text of a report.
-ghost use Rattle.std.specs.Prelude.{◌≡◌, ◌+◌, ◌++◌, codes, IfOk, IfErr};
+ghost use Rattle.std.specs.Prelude.{◌≡◌, ◌+◌, ◌≤◌, ◌∷◌, ◌++◌, codes, drop, IfOk, IfErr};
 ghost use Rattle.std.specs.Fmt.{decimal};
 ghost use Rattle.std.specs.List.{flat_map};
 ghost use Rattle.sg_trace.specs.Trace.{space, line_feed, StartsWith, answer_text, answer_line, answer_lines, request_text, leave_line, part_text, end_line, epoch_text, pin_line, move_line, fail_line, piece_line, minor_text, pause_text, service_line, stop_text};
 
-use itoa::Buffer;
+use itoa::{Buffer, write_digits};
 use sg_graph::{Answer, EpochReport, Leave, MinorReport, Part, Request, Service, StopReport};
 use sg_words::{Addr, Move, Piece};
 use std::alloc::{AllocError, Global};
+
+/// The most bytes of a line of an answer: three numbers of at most 20 digits, two spaces and a line feed.
+const LINE: usize = 63;
+
+/// The bytes for which room is taken at once for each line of an answer.
+const USUAL_LINE: usize = 16;
 
 /// Appends the text of an epoch: the line `epoch E`, a line for each answer, a line for each mutator that left, and
 /// `end` behind the last epoch.
@@ -67,6 +73,8 @@ fn append_answers(
     ensures front { IfErr result (λ _. StartsWith out.new.items out.old.items) }
     ensures appended { IfOk result (λ _. out.new.items ≡ out.old.items ++ answer_lines mutator first answers.now) }
 {
+    // Most lines are shorter than that, so the text seldom grows line by line.
+    out.reserve(answers.len().saturating_mul(USUAL_LINE))?;
     for (index, answer) in answers.iter().enumerate() {
         append_answer_line(out, mutator, u64::from(first) + index as u64, *answer)?;
     }
@@ -82,13 +90,67 @@ fn append_answer_line(
     ensures front { IfErr result (λ _. StartsWith out.new.items out.old.items) }
     ensures appended { IfOk result (λ _. out.new.items ≡ out.old.items ++ answer_line mutator statement answer) }
 {
-    append_number(out, u64::from(mutator))?;
-    out.push(b' ')?;
-    append_number(out, statement)?;
-    out.push(b' ')?;
+    match answer {
+        Answer::At(address) => append_number_line(out, mutator, statement, address.get()),
+        Answer::Number(number) => append_number_line(out, mutator, statement, number),
+        _ => append_word_line(out, mutator, statement, answer),
+    }
+}
+
+// The line of an answer that is a number, as one piece.
+fn append_number_line(
+    out: &mut Vec<u8>,
+    mutator: u32,
+    statement: u64,
+    number: u64,
+) -> Result<(), AllocError>
+    ensures front { IfErr result (λ _. StartsWith out.new.items out.old.items) }
+    ensures appended { IfOk result (λ _. out.new.items ≡ out.old.items ++ decimal mutator ++ space ++ decimal statement ++ space ++ decimal number ++ line_feed) }
+{
+    let mut line = [0; LINE];
+    let answer = write_back(&mut line, LINE, number, b'\n');
+    let second = write_back(&mut line, answer, statement, b' ');
+    let first = write_back(&mut line, second, u64::from(mutator), b' ');
+    out.extend_from_slice(&line[first..])
+}
+
+// The line of an answer that is a word; what stands before the word is one piece.
+fn append_word_line(
+    out: &mut Vec<u8>,
+    mutator: u32,
+    statement: u64,
+    answer: Answer,
+) -> Result<(), AllocError>
+    ensures front { IfErr result (λ _. StartsWith out.new.items out.old.items) }
+    ensures appended { IfOk result (λ _. out.new.items ≡ out.old.items ++ answer_line mutator statement answer) }
+{
+    append_beginning(out, mutator, statement)?;
     append_answer(out, answer)?;
     out.push(b'\n')?;
     Ok(())
+}
+
+// What stands before the answer.
+fn append_beginning(out: &mut Vec<u8>, mutator: u32, statement: u64) -> Result<(), AllocError>
+    ensures front { IfErr result (λ _. StartsWith out.new.items out.old.items) }
+    ensures appended { IfOk result (λ _. out.new.items ≡ out.old.items ++ decimal mutator ++ space ++ decimal statement ++ space) }
+{
+    let mut line = [0; LINE];
+    let second = write_back(&mut line, LINE, statement, b' ');
+    let first = write_back(&mut line, second, u64::from(mutator), b' ');
+    out.extend_from_slice(&line[first..])
+}
+
+// Writes the number and this byte behind it so that they end at `end`, and returns where they start.
+fn write_back(line: &mut [u8; LINE], end: usize, number: u64, byte: u8) -> usize
+    requires room { 21 ≤ end }
+    requires within { end ≤ 63 }
+    ensures start { result ≤ end }
+    ensures short { end ≤ result + 21 }
+    ensures written { drop result line.new ≡ decimal number ++ byte ∷ drop end line.old }
+{
+    line[end - 1] = byte;
+    write_digits(number, line, end - 1)
 }
 
 fn append_answer(out: &mut Vec<u8>, answer: Answer) -> Result<(), AllocError>
