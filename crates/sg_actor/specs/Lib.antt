@@ -1,3 +1,4 @@
-pub mod Views
-pub mod Direct
 pub mod State
+pub mod Setting
+pub mod Turning
+pub mod Testing

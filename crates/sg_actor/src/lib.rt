@@ -1,10 +1,14 @@
-//! The mutator: one statement of its script after another, by atomic steps on the words that mutators share.
+//! The mutator: one statement of its script after another, turn by turn, by atomic steps on the words that mutators share.
+//!
+//! Its code reaches these words through a port alone, of any kind: a lent space, or a seat of a table.
 #![tactic(auto)]
 
-mod hands;
+mod accesses;
+mod making;
 mod mutator;
-mod shared;
+mod registers;
+mod tools;
+mod turns;
 
-pub use hands::Held;
-pub use mutator::{Mutator, Stage};
-pub use shared::place;
+pub use mutator::{Held, Mutator, Stage};
+pub use tools::ObjectTest;

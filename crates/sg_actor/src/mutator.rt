@@ -1,21 +1,39 @@
-ghost use Rattle.std.specs.Prelude.{◌≡◌, ◌+◌, ◌<◌, ◌≤◌, ◌++◌, List, [], map, reverse, length, IfOk};
+ghost use Rattle.std.specs.Prelude.{◌≡◌, ◌↔◌, ◌<◌, ◌≤◌, ◌+◌, ◌++◌, true, Some, length, take, IfOk};
+ghost use Rattle.sg_program.specs.declared.program.Statement.{Statement as AnyStatement};
 ghost use Rattle.sg_program.specs.Scripts.{script_of};
 ghost use Rattle.sg_program.specs.Invariants.{IsWithinLimits};
 ghost use Rattle.sg_rules.specs.Rules.{fresh};
-ghost use Rattle.sg_actor.specs.State.{Mutating, actor_of, leave_of, asking_of, WaitsForNone, IsCounted, IsSpaceFor, HasStepped, MayStep, MayServe, HasServed, BeginsEpoch, DropsBuffer};
+ghost use Rattle.sg_actor.specs.State.{Mutating, actor_of, leave_of, asking_of, IsCounted, words_down, words_in, WaitsForNone, BeginsEpoch, DropsBuffer, MayServe, HasServed};
 
-use crate::hands::{Hands, Held};
+use crate::tools::{answered_register, object_word};
 use sg_program::{Answer, Leave, Program, Request, Statement, script_total};
 use sg_script::Cursor;
-use sg_space::Space;
 use std::alloc::{AllocError, Global};
 use std::marker::Model;
+
+/// A word of the stack, and the offset that stands beside it where the word is an address inside an object.
+#[derive(Clone, Copy)]
+pub struct Held {
+    /// The byte address of an object or of a byte of one, 0 for none, or a number.
+    pub word: u64,
+    /// In bytes. No collector looks at it.
+    pub offset: u64,
+}
 
 /// Where a mutator stands.
 #[derive(Clone, Copy)]
 pub enum Stage {
     /// Between two statements of its epoch.
     Between,
+    /// In the midst of a statement, within a turn.
+    Within,
+    /// An exchange is prepared, to claim words for the object that this statement makes: of the next word of this fragment,
+    /// which was seen to stand at the word with this number.
+    Claiming {
+        statement: Statement,
+        fragment: u32,
+        next: u64,
+    },
     /// No statement is left.
     Ended,
     /// It has left its epoch with this statement, which asks for this.
@@ -23,23 +41,35 @@ pub enum Stage {
         statement: Statement,
         request: Request,
     },
+    /// It has left its epoch, since another mutator asked for a stop.
+    Yielded,
 }
 
-/// A mutator with its script: it does one statement after another, until one asks for a stop or none is left.
+/// A mutator with its script: registers, a stack, a buffer, and the answers of its epoch.
 #[derive(Drop)]
 pub struct Mutator<'a> {
-    program: &'a Program,
-    number: u32,
-    /// The number of the first statement of this epoch, counted from 0 over the whole script.
-    first: u32,
-    /// The statements to come. The one with which it has left isn't among them.
-    cursor: Cursor<'a>,
-    hands: Hands,
-    stage: Stage,
+    pub(crate) program: &'a Program,
+    pub(crate) number: u32,
+    // The number of the first statement of this epoch, counted from 0 over the whole script.
+    pub(crate) first: u32,
+    // The statements to come, without the one that has begun.
+    pub(crate) cursor: Cursor<'a>,
+    // The word in each register: the byte address of an object or of a byte of one, 0 for none, or a number.
+    pub(crate) registers: [u64; 16],
+    // The offset beside each register whose word is the address of a byte of an object, in bytes.
+    pub(crate) offsets: [u64; 16],
+    // The stack, with its top last.
+    pub(crate) stack: Vec<Held>,
+    // The words that it has taken and not used: the number of the first one, and of the one behind the last.
+    pub(crate) from: u64,
+    pub(crate) to: u64,
+    pub(crate) answers: Vec<Answer>,
+    pub(crate) stage: Stage,
 }
 
 impl<'a> Model for Mutator<'a> {
     ghost use Rattle.sg_program.specs.contracts.program.Item as e;
+    ghost use Rattle.std.specs.Prelude.{vec_capacity};
     ghost use Rattle.std.specs.Coded.{codes};
     ghost use Rattle.sg_actor.specs.State.{Mutating, IsSoundMutator};
 
@@ -52,16 +82,16 @@ impl<'a> Model for Mutator<'a> {
       number = m.number;
       first = m.first;
       stage = m.stage;
-      registers = m.hands.registers;
-      offsets = m.hands.offsets;
-      stack = m.hands.stack.items;
-      from = m.hands.from;
-      to = m.hands.to;
+      registers = m.registers;
+      offsets = m.offsets;
+      stack = m.stack.items;
+      from = m.from;
+      to = m.to;
       script = m.cursor;
-      told = m.hands.answers.items;
+      told = m.answers.items;
     } };
 
-    ghost invariant = { λ m. IsSoundMutator m.program.now m.number m.first m.stage m.hands m.cursor };
+    ghost invariant = { λ m. IsSoundMutator m.program.now m.number m.first m.stage m.stack.items m.cursor m.answers.items (vec_capacity m.stack) (vec_capacity m.answers) };
 }
 
 impl<'a> Mutator<'a> {
@@ -82,7 +112,12 @@ impl<'a> Mutator<'a> {
             number,
             first: 0,
             cursor: Cursor::new(alloc, script.items.as_slice())?,
-            hands: Hands::new(alloc, script_total(script) as usize)?,
+            registers: [0; 16],
+            offsets: [0; 16],
+            stack: Vec::with_capacity(alloc, 64)?,
+            from: 0,
+            to: 0,
+            answers: Vec::with_capacity(alloc, script_total(script) as usize)?,
             stage: Stage::Between,
         })
     }
@@ -102,11 +137,18 @@ impl<'a> Mutator<'a> {
         self.first
     }
 
-    /// Its answers in this epoch.
+    /// Its answers in this epoch, in order.
     pub fn answers(&self) -> &[Answer]
         ensures { result.now ≡ self.now.told }
     {
-        self.hands.answers()
+        self.answers.as_slice()
+    }
+
+    /// Whether no statement is left, and it has left its epoch for that.
+    pub fn ended(&self) -> bool
+        ensures { result ≡ true ↔ self.now.stage ≡ Stage.Ended }
+    {
+        matches!(self.stage, Stage::Ended)
     }
 
     /// How it has left its epoch; `None` exactly while it hasn't.
@@ -114,9 +156,10 @@ impl<'a> Mutator<'a> {
         ensures { result ≡ leave_of self.now.stage }
     {
         match self.stage {
-            Stage::Between => None,
             Stage::Ended => Some(Leave::Ended),
             Stage::Asking { request, .. } => Some(Leave::Wants(request)),
+            Stage::Yielded => Some(Leave::Yield),
+            _ => None,
         }
     }
 
@@ -130,45 +173,43 @@ impl<'a> Mutator<'a> {
         }
     }
 
+    /// Writes the words in its registers, and then those on its stack from the top down: what a pause can't tell from addresses. The
+    /// answer says how many. It takes no memory.
+    pub fn words_of(&self, into: &mut [u64; 80]) -> u32
+        ensures few { result ≤ 80 }
+        ensures words { take result into.new ≡ words_in self.now }
+        ensures registers { length self.now.registers ≡ 16 }
+    {
+        write_registers(&self.registers, into);
+        write_stack(self.stack.as_slice(), into);
+        16 + self.stack.len() as u32
+    }
+
     /// The next epoch begins: it has no answers in it yet. One that has ended stays so.
     pub fn begin_epoch(&mut self)
         requires { WaitsForNone self.old.stage }
         ensures { BeginsEpoch self.old self.new }
     {
-        self.first += self.hands.answers().len() as u32;
-        self.hands.forget();
-    }
-
-    /// Does its next statement; or it leaves its epoch: with that statement, which then waits for its answer, or because none
-    /// is left. It takes no memory, and time linear in the fragments.
-    pub fn step(&mut self, space: &mut Space)
-        requires between { self.old.stage ≡ Stage.Between }
-        requires space { IsSpaceFor self.old.program space.old }
-        requires going { space.old.stop ≡ 0 }
-        requires may { MayStep space.old self.old }
-        ensures { HasStepped space.old self.old space.new self.new }
-    {
-        let Some(statement) = self.cursor.peek() else {
-            self.stage = Stage::Ended;
-            return;
-        };
-        self.cursor.advance();
-        if let Some(request) = self.hands.step(self.program, space, statement) {
-            self.stage = Stage::Asking { statement, request };
+        self.first += self.answers.len() as u32;
+        self.answers.clear();
+        if matches!(self.stage, Stage::Yielded) {
+            self.stage = Stage::Between;
         }
     }
 
     /// The statement with which it has left has this answer, and its epoch's answers are gone. It takes no memory.
     pub fn serve(&mut self, answer: Answer)
         requires { MayServe self.old.stage answer }
-        ensures { HasServed self.old answer self.new }
+        ensures { (statement : AnyStatement) → asking_of self.old.stage ≡ Some statement → HasServed self.old statement answer self.new }
     {
         let Stage::Asking { statement, .. } = self.stage else {
             unreachable!();
         };
-        self.first += self.hands.answers().len() as u32 + 1;
-        self.hands.forget();
-        self.hands.answer(statement, answer);
+        self.first += self.answers.len() as u32 + 1;
+        self.answers.clear();
+        if let Some(r) = answered_register(statement) {
+            self.registers[r as usize] = object_word(answer);
+        }
         self.stage = Stage::Between;
     }
 
@@ -176,15 +217,28 @@ impl<'a> Mutator<'a> {
     pub fn drop_buffer(&mut self)
         ensures { DropsBuffer self.old self.new }
     {
-        self.hands.empty_buffer();
+        self.from = 0;
+        self.to = 0;
     }
+}
 
-    /// The words in its registers, and then those on its stack from the top down: what a pause can't tell from addresses.
-    /// Takes memory for them, and time linear in them.
-    pub fn ambiguous(&self, alloc: Global) -> Result<Vec<u64>, AllocError>
-        ensures words { IfOk result (λ words. words.items ≡ self.now.registers ++ map (λ (h : Held). h.word) (reverse self.now.stack)) }
-        ensures count { length self.now.registers ≡ 16 }
-    {
-        self.hands.ambiguous(alloc)
+/// The words of the registers come first.
+fn write_registers(registers: &[u64; 16], into: &mut [u64; 80])
+    ensures written { take 16 into.new ≡ registers.now }
+    ensures registers { length registers.now ≡ 16 }
+{
+    for r in 0..16 {
+        into[r] = registers[r];
+    }
+}
+
+/// Behind them come the words of the stack, from its top down.
+fn write_stack(stack: &[Held], into: &mut [u64; 80])
+    requires { length stack.now ≤ 64 }
+    ensures { take (16 + length stack.now) into.new ≡ take 16 into.old ++ words_down stack.now }
+{
+    let height = stack.len();
+    for i in 0..height {
+        into[16 + i] = stack[height - 1 - i].word;
     }
 }

@@ -1,5 +1,5 @@
 -- One order of whole statements has one report.
-use Rattle.std.proofs.Common.{◌≡◌, ℕ, ◌↔◌, Bool, true, false, inl, inr, IsTrue, List, [], ◌∷◌, sym, refl, ap, ◌∙◌, subst, arith}
+use Rattle.std.proofs.Common.{map, ◌≡◌, ℕ, ◌↔◌, Bool, true, false, inl, inr, IsTrue, List, [], ◌∷◌, sym, refl, ap, ◌∙◌, subst, arith}
 use Rattle.std.proofs.lemmas.Bool.{cases_lt}
 use Rattle.sg_words.specs.Lists.{Pairwise}
 use Rattle.sg_program.specs.declared.program.Statement.{Statement}
@@ -7,18 +7,14 @@ use Rattle.sg_program.specs.declared.program.Statement.TheVariants.{New, NewV, M
 use Rattle.sg_program.specs.declared.program.Program.{Program}
 use Rattle.sg_program.specs.declared.answers.Answer.{Answer}
 use Rattle.sg_program.specs.declared.answers.Answer.TheVariants.{At}
-use Rattle.sg_program.specs.declared.answers.Request.{Request}
-use Rattle.sg_program.specs.declared.answers.Request.TheVariants.{Need, Minor}
-use Rattle.sg_program.specs.declared.answers.Leave.{Leave}
-use Rattle.sg_program.specs.declared.answers.Leave.TheVariants.{Ended, Wants}
 use Rattle.sg_graph.specs.declared.reports.Part.{Part}
 use Rattle.sg_graph.specs.declared.reports.EpochReport.{EpochReport}
 use Rattle.sg_program.specs.Scripts.{words_for}
 use Rattle.sg_graph.specs.Graph.{Graph, advanced}
 use Rattle.sg_graph.specs.Statements.{heap_after, hands_after}
 use Rattle.sg_graph.specs.Book.{Book, Claims, IsPlaced, words_of_class, Books}
-use Rattle.sg_graph.specs.Epoch.{Said, Turn, Explains, Asks, Leaves, IsPart, running, left, AllEnded, IsEpoch}
-use Rattle.sg_graph.specs.Laws.{HasOneReport}
+use Rattle.sg_graph.specs.Epoch.{Said, Turn, Explains, IsPart, running, left, AllEnded, IsEpoch}
+use Rattle.sg_graph.specs.Laws.{HasOneReport, leaves_of}
 
 -- the lowest fragment with room is one
 one_claim : (p : Program) (b : Book) (k n name f e : ℕ) (c d : Book) → Claims p b k n name f c → Claims p b k n name e d → f ≡ e
@@ -48,7 +44,7 @@ one_book p b k Sections answer c d x y = absurd x
 one_book p b k s answer c d x y = x ∙ sym y
 
 -- a whole statement leads to one graph and one book
-one_turn : (p : Program) (g : Graph) (b : Book) (said : Said) (h i : Graph) (c d : Book) → Turn p g b said h c → Turn p g b said i d → (h ≡ i) × (c ≡ d)
+pub one_turn : (p : Program) (g : Graph) (b : Book) (said : Said) (h i : Graph) (c d : Book) → Turn p g b said h c → Turn p g b said i d → (h ≡ i) × (c ≡ d)
 one_turn p g b said h i c d t u = (
   t.does.1 ∙ ap (λ s. does s t.rest) same ∙ ap (does u.statement) same_rest ∙ sym u.does.1,
   one_book p b said.by u.statement said.answer c d (subst (λ s. Books p b said.by s said.answer c) same t.books) u.books,
@@ -74,31 +70,8 @@ one_order p g b (said ∷ order) h i c d (h1, c1, t, x) (i1, d1, u, y) =
     let there = subst (λ z. Explains p z d1 order i d) (sym q.0) y in
     one_order p h1 c1 order h i c d x (subst (λ z. Explains p h1 z order i d) (sym q.1) there)
 
--- a statement asks for one thing
-one_want : (p : Program) (b : Book) (k : ℕ) (s : Statement) (r q : Request) → Asks p b k s r → Asks p b k s q → r ≡ q
-one_want p b k (New r class) (Need w) (Need v) x y = ap Need (x.0 ∙ sym y.0)
-one_want p b k (New r class) (Need w) Minor x y = absurd y
-one_want p b k (New r class) Minor q x y = absurd x
-one_want p b k (NewV r class count) (Need w) (Need v) x y = ap Need (x.0 ∙ sym y.0)
-one_want p b k (NewV r class count) (Need w) Minor x y = absurd y
-one_want p b k (NewV r class count) Minor q x y = absurd x
-one_want p b k (Collect false) Minor Minor x y = refl
-one_want p b k (Collect false) Minor (Need v) x y = absurd y
-one_want p b k (Collect false) (Need w) q x y = absurd x
-one_want p b k s r q x y = absurd x
-
--- a mutator leaves in one way
-one_leave : (p : Program) (b : Book) (k : ℕ) (script : List Statement) (l m : Leave) → Leaves p b k l script → Leaves p b k m script → l ≡ m
-one_leave p b k script Ended Ended x y = refl
-one_leave p b k script Ended (Wants q) x (s, rest, is, asks) = absurd (let e : [] ≡ (s ∷ rest) = sym x ∙ is in cc)
-one_leave p b k script (Wants r) Ended (s, rest, is, asks) y = absurd (let e : [] ≡ (s ∷ rest) = sym y ∙ is in cc)
-one_leave p b k script (Wants r) (Wants q) (s, rest, is, asks) (s', rest', is', asks') =
-    let e : (s ∷ rest) ≡ (s' ∷ rest') = sym is ∙ is' in
-    let same : s ≡ s' = cc e in
-    ap Wants (one_want p b k s' r q (subst (λ z. Asks p b k z r) same asks) asks')
-
-one_part : (p : Program) (g : Graph) (order : List Said) (h : Graph) (c : Book) (k : ℕ) (x y : Part) → IsPart p g order h c k x → IsPart p g order h c k y → x ≡ y
-one_part p g order h c k x y u v = λ i. record { mutator = number i; first = first i; answers = answers i; leave = leave i }
+one_part : (p : Program) (g : Graph) (order : List Said) (h : Graph) (c : Book) (k : ℕ) (x y : Part) → IsPart p g order h c k x → IsPart p g order h c k y → x.leave ≡ y.leave → x ≡ y
+one_part p g order h c k x y u v leave = λ i. record { mutator = number i; first = first i; answers = answers i; leave = leave i }
   where
     number : x.mutator ≡ y.mutator
     number = u.number ∙ sym v.number
@@ -109,16 +82,14 @@ one_part p g order h c k x y u v = λ i. record { mutator = number i; first = fi
     answers : x.answers ≡ y.answers
     answers = u.answers ∙ sym v.answers
 
-    leave : x.leave ≡ y.leave
-    leave = one_leave p c k _ x.leave y.leave u.leaves v.leaves
-
-one_list : {A B : Type 0} (R : A → B → Type 0) → ((x : A) (y z : B) → R x y → R x z → y ≡ z) → (xs : List A) (ys zs : List B) → Pairwise R xs ys → Pairwise R xs zs → ys ≡ zs
-one_list R one [] [] [] h k = refl
-one_list R one [] [] (z ∷ zs) h k = absurd k
-one_list R one [] (y ∷ ys) zs h k = absurd h
-one_list R one (x ∷ xs) [] zs h k = absurd h
-one_list R one (x ∷ xs) (y ∷ ys) [] h k = absurd k
-one_list R one (x ∷ xs) (y ∷ ys) (z ∷ zs) h k = let e = one x y z h.0 k.0 in let f = one_list R one xs ys zs h.1 k.1 in cc
+one_list : (R : ℕ → Part → Type 0) → ((k : ℕ) (y z : Part) → R k y → R k z → y.leave ≡ z.leave → y ≡ z) → (xs : List ℕ) (ys zs : List Part) → Pairwise R xs ys → Pairwise R xs zs →
+    map (λ (part : Part). part.leave) ys ≡ map (λ (part : Part). part.leave) zs → ys ≡ zs
+one_list R one [] [] [] h k e = refl
+one_list R one [] [] (z ∷ zs) h k e = absurd k
+one_list R one [] (y ∷ ys) zs h k e = absurd h
+one_list R one (x ∷ xs) [] zs h k e = absurd h
+one_list R one (x ∷ xs) (y ∷ ys) [] h k e = absurd k
+one_list R one (x ∷ xs) (y ∷ ys) (z ∷ zs) h k e = let f = one x y z h.0 k.0 (cc e) in let g = one_list R one xs ys zs h.1 k.1 (cc e) in cc
 
 one_bool : (a b : Bool) (P : Type 0) → IsTrue a ↔ P → IsTrue b ↔ P → a ≡ b
 one_bool true true P h k = refl
@@ -134,8 +105,8 @@ module _ (p : Program) (e : ℕ) (g : Graph) (b : Book) (order : List Said) (swe
   graph : h ≡ i
   graph = x.after ∙ ap (λ (z : Graph). left z) both.0 ∙ sym y.after
 
-  report : r ≡ s
-  report = λ j. record { number = number j; last = last j; parts = parts j }
+  report : leaves_of r ≡ leaves_of s → r ≡ s
+  report e = λ j. record { number = number j; last = last j; parts = parts j }
     where
       number : r.number ≡ s.number
       number = x.number ∙ sym y.number
@@ -147,7 +118,7 @@ module _ (p : Program) (e : ℕ) (g : Graph) (b : Book) (order : List Said) (swe
       there = subst (λ z. Pairwise (IsPart p g order z c) (running p g) s.parts) (sym both.0) (subst (λ z. Pairwise (IsPart p g order y.last z) (running p g) s.parts) (sym both.1) y.parts)
 
       parts : r.parts ≡ s.parts
-      parts = one_list (IsPart p g order x.last c) (one_part p g order x.last c) (running p g) r.parts s.parts x.parts there
+      parts = one_list (IsPart p g order x.last c) (one_part p g order x.last c) (running p g) r.parts s.parts x.parts there e
 
 pub one_report : HasOneReport
 one_report = record {

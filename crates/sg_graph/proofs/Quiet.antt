@@ -123,10 +123,14 @@ module _ (p : Program) (g : Graph) where
       }
       after_same = λ i. record g { field = λ n. (field_same n) i; link = λ w. (link_same kept w) i; registered = registered_same i; ready = ready_same i }
 
+      none_kept : kept 0 ≡ false
+      none_kept = elim (cases_Bool (kept 0)) [ inl e ↦ absurd (let l = (among 0 e).0 in omega arith) | inr e ↦ e ]
+
       -- the pause
       pub quiet : ((n : ℕ) → n ≢ 0 → kept n ≡ true ↔ IsReached p g root n) → IsPause p g root g kept
       quiet exact = record {
         first = kept;
+        nothing = (none_kept, none_kept);
         reaches = exact;
         keeps = λ n d. (
           λ k. reach_more root (λ m. root m ⊎ (Contains g.registered m × (kept m ≡ false))) (λ m r. inl r) g.count n ((exact n d).0 k),

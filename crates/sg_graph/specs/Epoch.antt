@@ -1,5 +1,6 @@
 -- An epoch: each mutator that hasn't ended does some of its next statements and then leaves.
-use Rattle.std.specs.Prelude.{◌≡◌, ℕ, zero, suc, ◌+◌, ◌<◌, ◌==◌, ◌↔◌, Bool, true, false, not, IsTrue, if◌then◌else◌, List, [], ◌∷◌, ◌++◌, length, map, filter}
+use Rattle.std.specs.Prelude.{◌≡◌, ◌≢◌, ℕ, zero, suc, ◌+◌, ◌<◌, ◌==◌, ◌↔◌, Bool, true, false, not, IsTrue, if◌then◌else◌, List, [], ◌∷◌, ◌++◌, length, map, filter}
+use Rattle.std.specs.List.{Contains}
 use Rattle.sg_words.specs.Address.{byte_at}
 use Rattle.sg_words.specs.Lists.{Pairwise}
 use Rattle.sg_program.specs.declared.program.Statement.{Statement}
@@ -8,13 +9,13 @@ use Rattle.sg_program.specs.declared.program.Program.{Program}
 use Rattle.sg_program.specs.declared.answers.Answer.{Answer}
 use Rattle.sg_program.specs.declared.answers.Answer.TheVariants.{At, Nil, Null, Number, Fine, Yes, No, Field, Full}
 use Rattle.sg_program.specs.declared.answers.Leave.{Leave}
-use Rattle.sg_program.specs.declared.answers.Leave.TheVariants.{Ended, Wants}
+use Rattle.sg_program.specs.declared.answers.Leave.TheVariants.{Ended, Yield, Wants}
 use Rattle.sg_program.specs.declared.answers.Request.{Request}
 use Rattle.sg_program.specs.declared.answers.Request.TheVariants.{Need, Minor}
 use Rattle.sg_graph.specs.declared.reports.Part.{Part}
 use Rattle.sg_graph.specs.declared.reports.EpochReport.{EpochReport}
 use Rattle.sg_program.specs.Scripts.{script_of, words_for, IsSmall}
-use Rattle.sg_graph.specs.Graph.{Graph}
+use Rattle.sg_graph.specs.Graph.{Graph, Mutator, Ref}
 use Rattle.sg_graph.specs.Statements.{Does}
 use Rattle.sg_graph.specs.Book.{Book, Books, HasNoPlace, words_of_class, IsSoundBook}
 
@@ -61,9 +62,10 @@ Asks p b k (NewV r class count) (Need words) = (words ≡ words_for count) × Is
 Asks p b k (Collect false) Minor = Unit {0}
 Asks p b k s request = ⊥
 
--- how mutator k leaves: it has ended exactly where no statement is left, and else its next statement asks for something
+-- how mutator k leaves: it has ended exactly where no statement is left; else it yields, or its next statement asks for something
 abbrev pub Leaves : Program → Book → ℕ → Leave → List Statement → Type 0
 Leaves p b k Ended script = script ≡ []
+Leaves p b k Yield script = script ≢ []
 Leaves p b k (Wants request) script = (statement : Statement) × (rest : List Statement) × (script ≡ statement ∷ rest) × Asks p b k statement request
 
 -- what the report says of mutator k: its first statement's number, its answers and how it left
@@ -72,6 +74,10 @@ pub record IsPart (p : Program) (g : Graph) (order : List Said) (h : Graph) (c :
   pub first : part.first + length (g.mutator k).script ≡ length (script_of p k)
   pub answers : part.answers ≡ map (by_address c) (answers_of k order)
   pub leaves : Leaves p c k part.leave (h.mutator k).script
+
+-- some of these parts is of a mutator that asks for something
+abbrev pub SomeAsks : List Part → Type 0
+SomeAsks parts = (part : Part) × Contains parts part × ((request : Request) × (part.leave ≡ Wants request))
 
 -- the numbers below n, in order
 abbrev pub numbers_below : ℕ → List ℕ
@@ -86,9 +92,14 @@ abbrev pub is_done : List Statement → Bool
 is_done [] = true
 is_done (s ∷ rest) = false
 
+-- a mutator as an epoch ends: where it has ended, nothing is in its hands any more
+abbrev pub parted : Mutator → Bool → Mutator
+parted m true = record m { register = λ _. Ref 0; stack = []; ended = true }
+parted m false = record m { ended = false }
+
 -- as an epoch ends, the mutators without a statement left have ended
 abbrev pub left : Graph → Graph
-left g = record g { mutator = λ k. record (g.mutator k) { ended = is_done (g.mutator k).script } }
+left g = record g { mutator = λ k. parted (g.mutator k) (is_done (g.mutator k).script) }
 
 -- every mutator has ended
 abbrev pub AllEnded : Program → Graph → Type 0
@@ -103,6 +114,8 @@ pub record IsEpoch (p : Program) (e : ℕ) (g : Graph) (b : Book) (order : List 
   pub after : h ≡ left last
   pub number : report.number ≡ e
   pub parts : Pairwise (IsPart p g order last c) (running p g) report.parts
+  -- who yields does so since another one asks
+  pub yields : (part : Part) → Contains report.parts part → part.leave ≡ Yield → SomeAsks report.parts
   pub ends : IsTrue report.last ↔ AllEnded p h
   pub none : swept ≡ []
   pub sound : IsSoundBook p h c

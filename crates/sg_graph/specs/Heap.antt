@@ -67,10 +67,10 @@ pub record Fields (p : Program) (w : ℕ → ℕ) (g : Graph) (b : Book) : Type 
 abbrev pub layout_of : Program → Layout
 layout_of p = record { nursery = p.config.nursery; blocks = p.config.blocks; pages = p.config.pages }
 
--- each global holds the address of a standing object or 0, and the rows behind the globals are empty
-pub record Globals (p : Program) (w : ℕ → ℕ) (global : ℕ → ℕ) (stands : ℕ → Bool) (address : ℕ → ℕ) : Type 0 where
-  pub holds : (x : ℕ) → x < 64 → w (globals_base (layout_of p) + x) ≡ byte_at (address (global x))
-  pub stand : (x : ℕ) → x < 64 → stands (global x) ≡ true
+-- each global holds the address of an object that is known, or 0, and the rows behind the globals are empty
+pub record Globals (p : Program) (w : ℕ → ℕ) (g : Graph) (b : Book) : Type 0 where
+  pub holds : (x : ℕ) → x < 64 → w (globals_base (layout_of p) + x) ≡ byte_at (b.address (g.global x))
+  pub known : (x : ℕ) → x < 64 → IsKnown w g b (g.global x)
   pub empty : (x : ℕ) → ready_base (layout_of p) ≤ x → x < words_end (layout_of p) → w x ≡ 0
 
 -- the nursery and the major heap are zero outside of objects
@@ -93,7 +93,7 @@ pub record IsLaid (p : Program) (w : ℕ → ℕ) (g : Graph) (b : Book) (owner 
   pub nothing : Nothing b.stands b.address g.size
   pub objects : Objects p g.count g.class g.size b.stands b.address b.section b.fill owner
   pub fields : Fields p w g b
-  pub globals : Globals p w g.global b.stands b.address
+  pub globals : Globals p w g b
   pub clear : Clear p w owner
   pub fragments : Fragments p b.fragments b.next b.limit owner
   pub buffers : Buffers p b.from b.to owner

@@ -1,33 +1,42 @@
 -- Laws of the definitions: that they mean what their names say.
-use Rattle.std.specs.Prelude.{◌≡◌, ◌≢◌, ℕ, ◌≤◌, ◌↔◌, Bool, true, List, [], ◌∷◌, ◌++◌}
+use Rattle.std.specs.Prelude.{◌≡◌, ◌≢◌, ℕ, ◌≤◌, ◌↔◌, Bool, true, List, [], ◌∷◌, ◌++◌, map}
 use Rattle.std.specs.List.{Contains}
 use Rattle.sg_words.specs.Reach.{Reached}
 use Rattle.sg_desc.specs.Shapes.{holds_reference, is_strong}
 use Rattle.sg_program.specs.declared.program.Program.{Program}
 use Rattle.sg_program.specs.Scripts.{kind_of}
+use Rattle.sg_program.specs.declared.answers.Leave.{Leave}
+use Rattle.sg_graph.specs.declared.reports.Part.{Part}
 use Rattle.sg_graph.specs.declared.reports.EpochReport.{EpochReport}
 use Rattle.sg_graph.specs.declared.reports.MinorReport.{MinorReport}
 use Rattle.sg_graph.specs.Graph.{Graph}
 use Rattle.sg_graph.specs.Book.{Book, IsApart}
-use Rattle.sg_graph.specs.Epoch.{Said, IsEpoch}
+use Rattle.sg_graph.specs.Epoch.{Said, Turn, IsEpoch}
 use Rattle.sg_graph.specs.Pause.{IsTarget, IsReached, IsPause, IsPointedInto, IsRoot}
 use Rattle.sg_graph.specs.Minor.{IsMinorPause}
 use Rattle.sg_graph.specs.Invariants.{IsPlain}
-use Rattle.sg_graph.specs.Run.{Phase, Epoch, IsRun}
+use Rattle.sg_graph.specs.Run.{Phase, Epoch, Goes, IsRun, IsWholeRun}
+use Rattle.sg_graph.specs.Follows.{FollowsTo, IsRunBy, IsWholeRunBy}
+use Rattle.sg_words.specs.Schedule.{Schedule}
 
 -- a run ends behind the epoch that is told to be the last one
 pub record EndsBehindLast : Type 0 where
   pub none : (p : Program) (phases more : List Phase) (report : EpochReport) (order : List Said) (swept : List ℕ) →
       IsRun p (phases ++ Epoch report order swept ∷ more) → report.last ≡ true → more ≡ []
 
--- one order of whole statements, from one graph and one book on, has one report, and leads to one graph and one book
+-- how the mutators of an epoch left, in order
+abbrev pub leaves_of : EpochReport → List Leave
+leaves_of report = map (λ (part : Part). part.leave) report.parts
+
+-- one order of whole statements, from one graph and one book on, leads to one graph and one book; and it has one report, where the
+-- mutators leave in one way
 pub record HasOneReport : Type 0 where
   pub graph : (p : Program) (e : ℕ) (g : Graph) (b : Book) (order : List Said) (swept swept' : List ℕ) (r s : EpochReport)
       (h i : Graph) (c d : Book) → IsEpoch p e g b order swept r h c → IsEpoch p e g b order swept' s i d → h ≡ i
   pub book : (p : Program) (e : ℕ) (g : Graph) (b : Book) (order : List Said) (swept swept' : List ℕ) (r s : EpochReport)
       (h i : Graph) (c d : Book) → IsEpoch p e g b order swept r h c → IsEpoch p e g b order swept' s i d → c ≡ d
-  pub report : (p : Program) (e : ℕ) (g : Graph) (b : Book) (order : List Said) (swept swept' : List ℕ) (r s : EpochReport)
-      (h i : Graph) (c d : Book) → IsEpoch p e g b order swept r h c → IsEpoch p e g b order swept' s i d → r ≡ s
+  pub report : (p : Program) (e : ℕ) (g : Graph) (b : Book) (order : List Said) (swept swept' : List ℕ) (r s : EpochReport) (h i : Graph) (c d : Book) →
+      IsEpoch p e g b order swept r h c → IsEpoch p e g b order swept' s i d → leaves_of r ≡ leaves_of s → r ≡ s
 
 -- what an ambiguous word points into stands after a minor pause, where it stood
 pub record KeepsPointedInto : Type 0 where
@@ -54,3 +63,14 @@ pub record QuietPause : Type 0 where
   pub pause : (p : Program) (g : Graph) (b : Book) (ambiguous : List ℕ) → IsPlain p g → (kept : ℕ → Bool) →
       ((n : ℕ) → kept n ≡ true → (1 ≤ n) × (n ≤ g.count)) →
       ((n : ℕ) → n ≢ 0 → kept n ≡ true ↔ IsReached p g (IsRoot p g b ambiguous) n) → IsPause p g (IsRoot p g b ambiguous) g kept
+
+-- A mutator's next statement has one answer, and so leads to one graph and one book.
+abbrev pub HasOneTurn : Type 0
+HasOneTurn = (p : Program) (g : Graph) (b : Book) (said said' : Said) (h h' : Graph) (c c' : Book) → Turn p g b said h c → Turn p g b said' h' c' →
+    said.by ≡ said'.by → (said ≡ said') × (h ≡ h') × (c ≡ c')
+
+-- a run that follows a list of turns is a run
+pub record RunsByTurns : Type 0 where
+  pub goes : (p : Program) (turns : List ℕ) (n : ℕ) (phases : List Phase) (g : Graph) (b : Book) (s : Schedule) → FollowsTo p turns n phases g b s → Goes p n phases g b
+  pub run : (p : Program) (turns : List ℕ) (phases : List Phase) → IsRunBy p turns phases → IsRun p phases
+  pub whole : (p : Program) (turns : List ℕ) (phases : List Phase) → IsWholeRunBy p turns phases → IsWholeRun p phases

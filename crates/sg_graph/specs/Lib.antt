@@ -12,3 +12,5 @@ pub mod Run
 pub mod Heap
 pub mod Invariants
 pub mod Laws
+pub mod Turns
+pub mod Follows

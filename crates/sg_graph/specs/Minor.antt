@@ -1,5 +1,5 @@
 -- A minor pause and its report.
-use Rattle.std.specs.Prelude.{◌≡◌, ◌≢◌, ℕ, ◌+◌, ◌<◌, ◌≤◌, ◌⊎◌, ◌↔◌, Bool, true, List, map}
+use Rattle.std.specs.Prelude.{◌≡◌, ◌≢◌, ℕ, ◌+◌, ◌<◌, ◌≤◌, ◌⊎◌, ◌↔◌, Bool, true, false, List, map}
 use Rattle.std.specs.List.{Contains}
 use Rattle.std.specs.List.Sorted.{IsStrictlyIncreasing}
 use Rattle.sg_words.specs.Address.{byte_at}
@@ -47,14 +47,16 @@ sources moves = map (λ (move : Move). move.from) moves
 pub record Keeping (p : Program) (g : Graph) (b : Book) (ambiguous : List ℕ) (h : Graph) (c : Book) : Type 0 where
   pub kept : ℕ → Bool
   pub pause : IsPause p g (IsRoot p g b ambiguous) h kept
-  pub nothing : (c.stands 0 ≡ true) × (c.address 0 ≡ b.address 0)
+  pub nothing : (c.stands 0 ≡ true) × (c.address 0 ≡ b.address 0) × (c.section 0 ≡ b.section 0)
   pub stands : (n : ℕ) → n ≢ 0 → c.stands n ≡ kept n
   pub stood : (n : ℕ) → c.stands n ≡ true → b.stands n ≡ true
 
--- Who keeps its address: each pinned object, and each other one that isn't told to have moved.
+-- Who keeps its address: each pinned object, and each other one that isn't told to have moved. What doesn't stand any more is left in
+-- the book as it was.
 pub record Staying (g : Graph) (b : Book) (ambiguous : List ℕ) (moves : List Move) (c : Book) : Type 0 where
   pub pinned : (n : ℕ) → IsPinned g b ambiguous n → (c.stands n ≡ true) × IsStill b c n
   pub still : (n : ℕ) → n ≢ 0 → c.stands n ≡ true → IsStill b c n ⊎ Contains moves (move_of b c n)
+  pub gone : (n : ℕ) → c.stands n ≡ false → IsStill b c n
 
 -- What is told: each young object that is kept is exactly one of pinned, moved and failed, and each list has exactly its objects,
 -- by address.

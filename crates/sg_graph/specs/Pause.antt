@@ -56,6 +56,8 @@ link_after first kept link = if (if link.long then kept link.target else first l
 -- and long ones to what isn't kept. All else stays.
 pub record IsPause (p : Program) (g : Graph) (root : ℕ → Type 0) (h : Graph) (kept : ℕ → Bool) : Type 0 where
   pub first : ℕ → Bool
+  -- the name 0 stands for nothing, which is no object to keep
+  pub nothing : (first 0 ≡ false) × (kept 0 ≡ false)
   pub reaches : (n : ℕ) → n ≢ 0 → first n ≡ true ↔ IsReached p g root n
   pub keeps : (n : ℕ) → n ≢ 0 → kept n ≡ true ↔ IsReached p g (λ m. root m ⊎ (Contains g.registered m × (first m ≡ false))) n
   pub after : h ≡ record g {

@@ -10,7 +10,7 @@ use Rattle.sg_program.specs.declared.answers.Answer.TheVariants.{At, Fine, Full}
 use Rattle.sg_program.specs.declared.answers.Request.{Request}
 use Rattle.sg_program.specs.declared.answers.Request.TheVariants.{Need, Minor}
 use Rattle.sg_program.specs.declared.answers.Leave.{Leave}
-use Rattle.sg_program.specs.declared.answers.Leave.TheVariants.{Ended, Wants}
+use Rattle.sg_program.specs.declared.answers.Leave.TheVariants.{Ended, Yield, Wants}
 use Rattle.sg_graph.specs.declared.reports.Part.{Part}
 use Rattle.sg_graph.specs.declared.reports.MinorReport.{MinorReport}
 use Rattle.sg_graph.specs.declared.reports.Service.{Service}
@@ -32,6 +32,7 @@ pub record Asked : Type 0 where
 -- what a part of an epoch's report asks for: at the statement behind its last answered one
 abbrev pub asked_by : Part → Leave → List Asked
 asked_by part Ended = []
+asked_by part Yield = []
 asked_by part (Wants request) = record { by = part.mutator; statement = part.first + length part.answers; request = request } ∷ []
 
 -- the requests of an epoch, in order of mutators

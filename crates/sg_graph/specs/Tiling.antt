@@ -32,3 +32,4 @@ pub record IsTiled (p : Program) (g : Graph) (b : Book) (pieces : List Piece) : 
   pub fragments : b.fragments ≡ length (fronts_of pieces)
   pub next : (f : ℕ) → f < b.fragments → byte_at (b.next f) ≡ slice_index (fronts_of pieces) f
   pub limit : (f : ℕ) → f < b.fragments → byte_at (b.limit f) ≡ slice_index (ends_of pieces) f
+  pub beyond : (f : ℕ) → b.fragments ≤ f → (b.next f ≡ 0) × (b.limit f ≡ 0)

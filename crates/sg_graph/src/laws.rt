@@ -1,4 +1,4 @@
-ghost use Rattle.sg_graph.specs.Laws.{EndsBehindLast, HasOneReport, KeepsPointedInto, QuietPause};
+ghost use Rattle.sg_graph.specs.Laws.{EndsBehindLast, HasOneReport, HasOneTurn, KeepsPointedInto, QuietPause, RunsByTurns};
 
 /// The law of the end: a run ends behind the epoch that is told to be the last one. It does nothing; its contract is the
 /// law.
@@ -22,4 +22,15 @@ pub fn keeps_pointed_into()
 /// roots reach changes nothing. It does nothing; its contract is the law.
 pub fn quiet_pause()
     ensures { QuietPause }
+{}
+
+/// The law of one turn: a mutator's next statement has one answer, and so leads to one graph and one book. It does nothing;
+/// its contract is the law.
+pub fn one_turn()
+    ensures { HasOneTurn }
+{}
+
+/// The law of turns: a run that follows a list of turns is a run. It does nothing; its contract is the law.
+pub fn runs_by_turns()
+    ensures { RunsByTurns }
 {}

@@ -8,7 +8,9 @@ mod laws;
 mod names;
 mod reports;
 
-pub use laws::{ends_behind_last, keeps_pointed_into, one_report, quiet_pause};
+pub use laws::{
+    ends_behind_last, keeps_pointed_into, one_report, one_turn, quiet_pause, runs_by_turns,
+};
 pub use names::names_are_pairs;
 pub use reports::{EpochReport, MinorReport, Part, Service, StopReport};
 pub use sg_program::{

@@ -144,12 +144,8 @@ pub record KeepsLimits (found : List Numbered) : Type 0 where
 abbrev pub IsPairClass : List Class → List ℕ → Type 0
 IsPairClass classes name = (c : ℕ) × (class : Class) × (slice_get classes c ≡ Some class) × (class.name ≡ name) × (class.shape.kind ≡ Ephemeron)
 
--- the line is of the language and isn't run yet: a second mutator, globals, the major heap, large vectors, weak links,
--- finalization, pairs
+-- the line is of the language and isn't run yet: the major heap, large vectors, weak links, finalization, pairs
 pub data IsLater (before : List Sentence) : Sentence → Type 0 where
-  Another : 1 ≤ count_by is_begin before → IsLater before Begins
-  GlobalPut : (g r : ℕ) → IsLater before (Says (GPut g r))
-  GlobalGet : (r g : ℕ) → IsLater before (Says (GGet r g))
   Old : (r : ℕ) (name : List ℕ) → IsLater before (Makes AsMature r name)
   Major : IsLater before (Says (Collect true))
   Told : IsLater before (Says Sections)

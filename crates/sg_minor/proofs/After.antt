@@ -7,6 +7,7 @@ use Rattle.sg_program.specs.declared.program.Program.{Program}
 use Rattle.sg_program.specs.Scripts.{words_for}
 use Rattle.sg_graph.specs.Graph.{Graph}
 use Rattle.sg_graph.specs.Book.{Book, Section, Young, Old, nursery_end, old_end}
+use Rattle.sg_graph.specs.Minor.{IsStill}
 use Rattle.sg_words.specs.Sections.{nursery_base}
 use Rattle.sg_graph.specs.Laws.{QuietPause}
 use Rattle.sg_graph.specs.Invariants.{IsPlain}
@@ -101,9 +102,12 @@ module _ (c : Ended) where
   pub stands-kept : (n : ℕ) → c.b.stands n ≡ true → (IsYoung c.area (c.b.address n) → IsKept c.stays c.moves (c.b.address n)) → stands_on n ≡ true
   stands-kept = keeps c.p c.area c.tie c.w c.g c.b c.ambiguous c.owner c.heap c.stays c.moves c.traced
 
-  -- the new book
-  abbrev pub section_of : ℕ → Section
-  section_of n = cond (has (c.b.address n) c.moves) Old (c.b.section n)
+  -- the new book: an address may have been a dead object's too, so only what stood is sent
+  pub address_of : ℕ → ℕ
+  address_of n = cond (c.b.stands n) (c.m (c.b.address n)) (c.b.address n)
+
+  pub section_of : ℕ → Section
+  section_of n = cond (c.b.stands n) (cond (has (c.b.address n) c.moves) Old (c.b.section n)) (c.b.section n)
 
   abbrev pub count : ℕ
   count = length (fronts_of c.pieces)
@@ -111,7 +115,7 @@ module _ (c : Ended) where
   abbrev pub booked : Book
   booked = record {
     stands = stands_on;
-    address = λ n. c.m (c.b.address n);
+    address = address_of;
     section = section_of;
     fill = c.end;
     fragments = count;
@@ -121,14 +125,38 @@ module _ (c : Ended) where
     to = λ _. 0;
   }
 
+  pub at-sent : (n : ℕ) → c.b.stands n ≡ true → address_of n ≡ c.m (c.b.address n)
+  unfolding address_of
+  at-sent n s = cond-true _ _ _ s
+
+  pub moved-section : (n : ℕ) → c.b.stands n ≡ true → In (c.b.address n) c.moves → section_of n ≡ Old
+  unfolding section_of
+  moved-section n s h = cond-true _ _ _ s ∙ cond-true _ _ _ h
+
+  -- what isn't at a moved object's address is still
+  pub unmoved-still : (n : ℕ) → has (c.b.address n) c.moves ≡ false → IsStill c.b booked n
+  unfolding address_of section_of
+  unmoved-still n h = elim (cases_Bool (c.b.stands n)) [
+    | inl s ↦ record { address = cond-true _ _ _ s ∙ c.picture.others (c.b.address n) h; section = cond-true _ _ _ s ∙ cond-false _ _ _ h }
+    | inr s ↦ record { address = cond-false _ _ _ s; section = cond-false _ _ _ s }
+  ]
+
+  -- and so is what doesn't stand any more: what stood and moved is kept
+  pub gone-still : (n : ℕ) → stands_on n ≡ false → IsStill c.b booked n
+  unfolding address_of section_of
+  gone-still n k = elim (cases_Bool (c.b.stands n)) [
+    | inl s ↦ unmoved-still n (out (c.b.address n) c.moves (λ h. (let z : false ≡ true = sym k ∙ stands-kept n s (λ _. inr h) in cc)))
+    | inr s ↦ record { address = cond-false _ _ _ s; section = cond-false _ _ _ s }
+  ]
+
   not-moved : (a : ℕ) → (IsYoung c.area a → ⊥) → has a c.moves ≡ false
   not-moved a n = out a c.moves (λ h. n (kept-young a (inr h)))
 
-  pub unmoved : (a : ℕ) → (IsYoung c.area a → ⊥) → c.m a ≡ a
-  unmoved a n = c.picture.others a (not-moved a n)
+  pub old-still : (n : ℕ) → (IsYoung c.area (c.b.address n) → ⊥) → IsStill c.b booked n
+  old-still n o = unmoved-still n (not-moved (c.b.address n) o)
 
-  pub unmoved-stays : (a : ℕ) → In a c.stays → c.m a ≡ a
-  unmoved-stays a h = c.picture.others a (c.traced.apart a h)
+  pub stays-still : (n : ℕ) → In (c.b.address n) c.stays → IsStill c.b booked n
+  stays-still n h = unmoved-still n (c.traced.apart (c.b.address n) h)
 
   pub fill-grows : c.b.fill ≤ c.end
   fill-grows = placed-grows c.w c.m c.b.fill c.moves c.end c.picture.placed
@@ -141,20 +169,21 @@ module _ (c : Ended) where
 
   -- where a kept object stands
   pub data Place (n : ℕ) : Type 0 where
-    Stayed : Lies n → In (c.b.address n) c.stays → section_of n ≡ Young → c.m (c.b.address n) ≡ c.b.address n → Place n
-    Moved : Lies n → In (c.b.address n) c.moves → section_of n ≡ Old → c.b.fill ≤ c.m (c.b.address n) → c.m (c.b.address n) + words_for (c.g.size n) ≤ c.end → Place n
-    Older : LiesOld n → section_of n ≡ Old → c.m (c.b.address n) ≡ c.b.address n → Place n
+    Stayed : Lies n → In (c.b.address n) c.stays → section_of n ≡ Young → address_of n ≡ c.b.address n → Place n
+    Moved : Lies n → In (c.b.address n) c.moves → section_of n ≡ Old → c.b.fill ≤ address_of n → address_of n + words_for (c.g.size n) ≤ c.end → Place n
+    Older : LiesOld n → section_of n ≡ Old → address_of n ≡ c.b.address n → Place n
 
   pub place : (n : ℕ) → n ≢ 0 → stands_on n ≡ true → Place n
   place n d k =
       let s = stood n k in
       elim (lies n s d) [
         | inl i ↦ elim (is-kept n k i.young) [
-          | inl h ↦ Stayed i h (cond-false _ _ _ (c.traced.apart (c.b.address n) h) ∙ i.section) (unmoved-stays (c.b.address n) h)
+          | inl h ↦ (let q = stays-still n h in Stayed i h (q.section ∙ i.section) q.address)
           | inr h ↦ (let q = placed-in c.w c.m c.b.fill c.moves c.end c.picture.placed (c.b.address n) h in
-              Moved i h (cond-true _ _ _ h) q.0 (let u = q.1 in let z = sizes n d s in omega arith))
+              let l = q.0 in let u = q.1 in let z = sizes n d s in let e = at-sent n s in
+              Moved i h (moved-section n s h) (omega arith) (omega arith))
         ]
-        | inr o ↦ Older o (cond-false _ _ _ (not-moved (c.b.address n) o.old) ∙ o.section) (unmoved (c.b.address n) o.old)
+        | inr o ↦ (let q = old-still n o.old in Older o (q.section ∙ o.section) q.address)
       ]
 
   pub pictured : (n : ℕ) → n ≢ 0 → c.b.stands n ≡ true → Place n → IsPictured c.area c.w c.v c.m (c.b.address n)
@@ -162,11 +191,11 @@ module _ (c : Ended) where
   pictured n d s (Moved i h q l u) = c.picture.moved (c.b.address n) h
   pictured n d s (Older o q e) = c.picture.old n d s o.section
 
-  pub unmoved-nil : c.m (c.b.address 0) ≡ c.b.address 0
-  unmoved-nil = unmoved (c.b.address 0) (λ y. let z = c.heap.laid.nothing.at_nil in let l = (in-nursery (c.b.address 0) y).0 in omega arith)
+  pub nil-still : IsStill c.b booked 0
+  nil-still = old-still 0 (λ y. let z = c.heap.laid.nothing.at_nil in let l = (in-nursery (c.b.address 0) y).0 in omega arith)
 
-  pub nil-at : c.m (c.b.address 0) ≡ 0
-  nil-at = unmoved-nil ∙ c.heap.laid.nothing.at_nil
+  pub nil-at : address_of 0 ≡ 0
+  nil-at = nil-still.address ∙ c.heap.laid.nothing.at_nil
 
   -- Whose word each word is: of the nursery, what stayed keeps its own and the fragments are new; a copy has the owner of its
   -- original.
@@ -242,17 +271,17 @@ module _ (c : Ended) where
       (λ j more there low high. (let o = tiles-apart (layout_of c.p) c.standing c.pieces c.tiles f j more there in omega arith)) q u
 
   -- each word of a kept object is its own
-  nothing-owns : (n x : ℕ) → n ≡ 0 → c.m (c.b.address n) ≤ x → x < c.m (c.b.address n) + words_for (c.g.size n) → owner3 x ≡ Of n
+  nothing-owns : (n x : ℕ) → n ≡ 0 → address_of n ≤ x → x < address_of n + words_for (c.g.size n) → owner3 x ≡ Of n
   nothing-owns n x z l u =
       let a : c.b.address n ≡ 0 = ap c.b.address z ∙ c.heap.laid.nothing.at_nil in
-      let e : c.m (c.b.address n) ≡ 0 = ap (λ (k : ℕ). c.m (c.b.address k)) z ∙ nil-at in
+      let e : address_of n ≡ 0 = ap address_of z ∙ nil-at in
       let i : c.g.size n ≡ 0 = ap c.g.size z ∙ c.heap.laid.nothing.no_size in
       let f = fill-from in
       let s : c.b.stands n ≡ true = ap c.b.stands z ∙ c.heap.laid.nothing.stands_nil in
       owner3-old x (λ y. let k = (in-nursery x y).0 in omega arith) (omega arith)
       ∙ c.heap.laid.objects.owns n x s (omega arith) (omega arith)
 
-  object-owns : (n x : ℕ) → n ≢ 0 → c.b.stands n ≡ true → Place n → c.m (c.b.address n) ≤ x → x < c.m (c.b.address n) + words_for (c.g.size n) → owner3 x ≡ Of n
+  object-owns : (n x : ℕ) → n ≢ 0 → c.b.stands n ≡ true → Place n → address_of n ≤ x → x < address_of n + words_for (c.g.size n) → owner3 x ≡ Of n
   object-owns n x d s (Stayed i h q e) l u =
       let z = sizes n d s in
       let above = i.above in
@@ -268,7 +297,8 @@ module _ (c : Ended) where
       ∙ cond-true _ (Of n) Nobody h
   object-owns n x d s (Moved i h q low high) l u =
       let z = sizes n d s in
-      settled-in c.w c.m c.owner c.b.fill c.moves owner2 c.end c.picture.placed (c.b.address n) x h l (omega arith)
+      let e = at-sent n s in
+      settled-in c.w c.m c.owner c.b.fill c.moves owner2 c.end c.picture.placed (c.b.address n) x h (omega arith) (omega arith)
       ∙ c.heap.laid.objects.owns n (c.b.address n) s (le_refl _) (omega arith)
   object-owns n x d s (Older o q e) l u =
       let above = o.above in
@@ -276,7 +306,7 @@ module _ (c : Ended) where
       owner3-old x (old-out x (omega arith)) (omega arith)
       ∙ c.heap.laid.objects.owns n x s (omega arith) (omega arith)
 
-  pub owns : (n x : ℕ) → stands_on n ≡ true → c.m (c.b.address n) ≤ x → x < c.m (c.b.address n) + words_for (c.g.size n) → owner3 x ≡ Of n
+  pub owns : (n x : ℕ) → stands_on n ≡ true → address_of n ≤ x → x < address_of n + words_for (c.g.size n) → owner3 x ≡ Of n
   owns n x k l u = elim (cases_eq n 0) [
     | inl z ↦ nothing-owns n x z l u
     | inr d ↦ object-owns n x d (stood n k) (place n d k) l u
@@ -284,12 +314,12 @@ module _ (c : Ended) where
 
   -- and no other word is
   abbrev pub HasWord : ℕ → ℕ → Type 0
-  HasWord n x = (stands_on n ≡ true) × (c.m (c.b.address n) ≤ x) × (x < c.m (c.b.address n) + words_for (c.g.size n))
+  HasWord n x = (stands_on n ≡ true) × (address_of n ≤ x) × (x < address_of n + words_for (c.g.size n))
 
   stayed-owned : (n x : ℕ) → c.owner x ≡ Of n → In (c.b.address n) c.stays → HasWord n x
   stayed-owned n x o h =
       let q = c.heap.laid.objects.owned n x o in
-      let e = unmoved-stays (c.b.address n) h in
+      let e = (stays-still n h).address in
       let l = q.1 in
       let u = q.2 in
       (stands-kept n q.0 (λ _. inl h), omega arith, omega arith)
@@ -306,7 +336,7 @@ module _ (c : Ended) where
           | inr i ↦ i.old y
         ]
       ] in
-      let e = unmoved (c.b.address n) old in
+      let e = (old-still n old).address in
       (stands-kept n q.0 (λ y. absurd (old y)), omega arith, omega arith)
 
   abbrev pub copied-of : (x : ℕ) → c.b.fill ≤ x → x < c.end → (a : ℕ) × In a c.moves × (c.m a ≤ x) × (x < c.m a + size_of c.w a)
@@ -326,7 +356,7 @@ module _ (c : Ended) where
       let at : c.b.address n ≡ q.0 = ap c.b.address (sym e) ∙ k.at in
       let s : c.b.stands n ≡ true = ap c.b.stands (sym e) ∙ k.stands in
       let d : n ≢ 0 = λ z. k.some (e ∙ z) in
-      let m-at = ap c.m at in
+      let m-at = at-sent n s ∙ ap c.m at in
       let size = sizes n d s in
       let size-at : size_of c.w (c.b.address n) ≡ size_of c.w q.0 = ap (λ (z : ℕ). size_of c.w z) at in
       let low = q.2 in

@@ -1,13 +1,12 @@
 -- The objects that are found move or fail in turn.
-use Rattle.std.proofs.Common.{◌≡◌, ◌≢◌, ℕ, ◌+◌, true, List, [], ◌∷◌, map, sym, refl, ap, subst, inl, inr, arith}
-use Rattle.std.proofs.lemmas.Bool.{cond-true, cond-false}
+use Rattle.std.proofs.Common.{◌≡◌, ◌≢◌, ℕ, ◌+◌, true, List, [], ◌∷◌, map, sym, refl, ◌∙◌, subst, inl, inr, arith}
 use Rattle.sg_words.specs.Lists.{In}
 use Rattle.sg_words.specs.Objects.{size_of, Placed}
 use Rattle.sg_words.proofs.Members.{in-here, in-there}
 use Rattle.sg_graph.specs.Book.{old_end}
 use Rattle.sg_graph.specs.Copies.{AreCopied}
 use Rattle.sg_copy.specs.Order.{Fits}
-use Rattle.sg_minor.proofs.After.{Ended, booked, sizes, unmoved-stays}
+use Rattle.sg_minor.proofs.After.{Ended, booked, sizes, at-sent, moved-section, stays-still}
 
 module _ (c : Ended) where
   pub copied : (at : ℕ) (moves fails names : List ℕ) → Fits c.w (old_end c.p) at moves fails (map c.b.address names) c.end → Placed c.w at moves c.m c.end →
@@ -23,15 +22,15 @@ module _ (c : Ended) where
         | inl q ↦ (let here = subst (λ (l : List ℕ). Placed c.w at l c.m c.end) q.1 placed in
             inl (
               (let l = q.2 in omega arith),
-              here.0,
-              cond-true _ _ _ (moved x (subst (λ (l : List ℕ). In x l) (sym q.1) (in-here x x q.0 refl))),
+              at-sent c n o.1 ∙ here.0,
+              moved-section c n o.1 (moved x (subst (λ (l : List ℕ). In x l) (sym q.1) (in-here x x q.0 refl))),
               subst (λ (z : ℕ). AreCopied c.p c.g c.b (booked c) (at + z) names) size
                   (copied (at + size_of c.w x) q.0 fails names q.3 here.1 (λ a i. moved a (subst (λ (l : List ℕ). In a l) (sym q.1) (in-there a x q.0 i))) failed more),
             ))
         | inr q ↦ (let stays = failed x (subst (λ (l : List ℕ). In x l) (sym q.1) (in-here x x q.0 refl)) in
             inr (
               (let l = q.2 in omega arith),
-              record { address = unmoved-stays c x stays; section = cond-false _ _ _ (c.traced.apart x stays) },
+              stays-still c n stays,
               copied at moves q.0 names q.3 placed moved (λ a i. failed a (subst (λ (l : List ℕ). In a l) (sym q.1) (in-there a x q.0 i))) more,
             ))
       ]

@@ -81,7 +81,7 @@ module _ (p : Program) where
     };
     globals = record {
       holds = λ x l. all_zero (globals_base (layout_of p) + x) (omega arith);
-      stand = λ x l. refl;
+      known = λ x l. (refl, inl refl);
       empty = λ x from to. all_zero x to;
     };
     clear = record { clear = λ x from to none. all_zero x (omega arith) };

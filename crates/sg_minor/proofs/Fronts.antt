@@ -1,19 +1,18 @@
 -- The rest of the major heap is zero, and pinned objects are whole.
-use Rattle.std.proofs.Common.{◌≡◌, ◌≢◌, ℕ, zero, suc, ◌+◌, ◌≤◌, ◌<◌, true, List, sym, ap, ◌∙◌, subst, inl, inr, arith, length}
-use Rattle.std.proofs.lemmas.Bool.{cases_eq, cases_lt}
+use Rattle.std.proofs.Common.{◌≡◌, ◌≢◌, ℕ, ◌+◌, ◌≤◌, ◌<◌, List, sym, ap, ◌∙◌, inl, inr, arith, length}
+use Rattle.std.proofs.lemmas.Bool.{cases_eq}
 use Rattle.sg_program.specs.declared.program.Program.{Program}
 use Rattle.sg_graph.specs.Graph.{Graph}
-use Rattle.sg_graph.specs.Book.{Book, nursery_end, old_end}
-use Rattle.sg_words.specs.Sections.{old_base, large_base}
+use Rattle.sg_graph.specs.Book.{Book, old_end}
+use Rattle.sg_words.specs.Sections.{old_base}
 use Rattle.sg_space.specs.Space.{Contents}
 use Rattle.sg_space.specs.Standing.{word}
 use Rattle.sg_graph.specs.Heap.{Owner, Of, layout_of, IsHeap}
 use Rattle.sg_words.specs.Lists.{In}
-use Rattle.sg_words.specs.Objects.{size_of}
 use Rattle.sg_copy.specs.Copying.{IsWhole}
 use Rattle.sg_minor.specs.Joined.{ArePins}
 use Rattle.sg_nursery.specs.Parts.{HasTagged}
-use Rattle.sg_minor.proofs.Named.{common, in-nursery, pin-named, outer, tag-of, first, size-at}
+use Rattle.sg_minor.proofs.Named.{in-nursery, pin-named, first, size-at}
 
 module _ (p : Program) (w : ℕ → ℕ) (g : Graph) (b : Book) (owner : ℕ → Owner) (t : IsHeap p w g b owner) where
   -- no object has a word behind the filled part

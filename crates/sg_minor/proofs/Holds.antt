@@ -1,6 +1,7 @@
 -- After a pause the words hold the graph by the new book.
 use Rattle.std.proofs.Common.{◌≡◌, ◌≢◌, ℕ, ◌+◌, ◌≤◌, ◌<◌, ◌⊎◌, cond, Bool, true, false, sym, refl, ap, ◌∙◌, subst, inl, inr, arith}
 use Rattle.std.proofs.lemmas.Bool.{cases_eq, cases_lt}
+use Rattle.sg_words.specs.Address.{byte_at}
 use Rattle.sg_desc.specs.Shapes.{holds_reference}
 use Rattle.sg_program.specs.Scripts.{kind_of, words_for}
 use Rattle.sg_graph.specs.Graph.{Entry, Ref, Int, Inner}
@@ -11,18 +12,19 @@ use Rattle.sg_copy.specs.Area.{IsYoung, is_strong}
 use Rattle.sg_words.specs.Lists.{In}
 use Rattle.sg_words.specs.Objects.{size_of, sent}
 use Rattle.sg_words.proofs.Objects.{sent-at}
-use Rattle.sg_minor.proofs.Names.{some-name, name-some, size-is, strong-of, target-kept, global-kept}
+use Rattle.sg_minor.proofs.Names.{some-name, name-some, size-is, strong-of, ref-stands, target-kept, global-kept}
 use Rattle.sg_minor.proofs.Tiles.{next_of, limit_of, tiles-apart}
-use Rattle.sg_minor.proofs.After.{Ended, sizes, names, young-or, stands_on, stood, stands-nothing, stands-kept, booked, section_of, count, fill-grows, end-within, fill-from, Place, Stayed, Moved, Older, place, pictured, nil-at, unmoved-stays, owner3, tile-of, frag-owns, owns, owned, packed}
+use Rattle.sg_minor.proofs.After.{Ended, sizes, names, young-or, stands_on, stood, stands-nothing, stands-kept, address_of, section_of, count, booked, at-sent, stays-still, fill-grows, end-within, fill-from, Place, Stayed, Moved, Older, place, pictured, nil-at, owner3, tile-of, frag-owns, owns, owned, packed}
 
--- a field is sent where it holds a reference
-entry-word : (address m : ℕ → ℕ) (e : Entry) (strong : Bool) (x : ℕ) → IsOfSort strong e → x ≡ word_of address e → cond strong (sent m x) x ≡ word_of (λ k. m (address k)) e
-entry-word address m (Ref k) true x h e = sent-at m x (address k) e
-entry-word address m (Ref k) false x h e = absurd h
-entry-word address m (Int v) true x h e = absurd h
-entry-word address m (Int v) false x h e = e
-entry-word address m (Inner k o) true x h e = absurd h
-entry-word address m (Inner k o) false x h e = absurd h
+-- a field is sent where it holds a reference, to what is at `after` then
+entry-word : (address after m : ℕ → ℕ) (e : Entry) (strong : Bool) (x : ℕ) → IsOfSort strong e → ((k : ℕ) → e ≡ Ref k → after k ≡ m (address k)) → x ≡ word_of address e →
+    cond strong (sent m x) x ≡ word_of after e
+entry-word address after m (Ref k) true x h to e = sent-at m x (address k) e ∙ ap byte_at (sym (to k refl))
+entry-word address after m (Ref k) false x h to e = absurd h
+entry-word address after m (Int v) true x h to e = absurd h
+entry-word address after m (Int v) false x h to e = e
+entry-word address after m (Inner k o) true x h to e = absurd h
+entry-word address after m (Inner k o) false x h to e = absurd h
 
 sort-of-ref : (z : Bool) (k : ℕ) → IsOfSort z (Ref k) → z ≡ true
 sort-of-ref true k h = refl
@@ -32,15 +34,17 @@ module _ (c : Ended) where
   has-field : (n i : ℕ) → i < c.g.size n → n ≢ 0
   has-field n i l e = let u = ap c.g.size e in let z = c.heap.laid.nothing.no_size in omega arith
 
-  fields-hold : (n i : ℕ) → stands_on c n ≡ true → i < c.g.size n → c.v (c.m (c.b.address n) + 2 + i) ≡ word_of (λ k. c.m (c.b.address k)) (c.g.field n i)
+  fields-hold : (n i : ℕ) → stands_on c n ≡ true → i < c.g.size n → c.v (address_of c n + 2 + i) ≡ word_of (address_of c) (c.g.field n i)
   fields-hold n i k l =
       let d = has-field n i l in
       let s = stood c n k in
       let len = size-is c.p c.area c.tie c.w c.g c.b c.ambiguous c.owner c.heap n d s in
       let st = strong-of c.p c.area c.tie c.w c.g c.b c.ambiguous c.owner c.heap n i s d ∙ c.law.strong c.p c.g c.plain n i (some-name n d) (c.heap.laid.objects.given n s) in
-      (pictured c n d s (place c n d k)).fields i (omega arith)
-      ∙ entry-word c.b.address c.m (c.g.field n i) (is_strong c.area c.w (c.b.address n) i) (c.w (c.b.address n + 2 + i))
+      ap (λ (z : ℕ). c.v (z + 2 + i)) (at-sent c n s)
+      ∙ (pictured c n d s (place c n d k)).fields i (omega arith)
+      ∙ entry-word c.b.address (address_of c) c.m (c.g.field n i) (is_strong c.area c.w (c.b.address n) i) (c.w (c.b.address n + 2 + i))
       (subst (λ (z : Bool). IsOfSort z (c.g.field n i)) (sym st) (c.heap.laid.fields.sorted n i s l))
+      (λ j e. at-sent c j (ref-stands c.p c.area c.tie c.w c.g c.b c.ambiguous c.owner c.heap n i j s l e))
       (c.heap.laid.fields.holds n i s l)
 
   pub heads : (n : ℕ) → n ≢ 0 → stands_on c n ≡ true → IsHeaded c.v c.g (booked c) n
@@ -48,7 +52,8 @@ module _ (c : Ended) where
       let s = stood c n k in
       let q = pictured c n d s (place c n d k) in
       let h = c.heap.headed n (some-name n d) s in
-      (q.first ∙ h.0, q.length ∙ h.1)
+      let at = at-sent c n s in
+      (ap c.v at ∙ q.first ∙ h.0, ap (λ (z : ℕ). c.v (z + 1)) at ∙ q.length ∙ h.1)
 
   knows : (k : ℕ) → stands_on c k ≡ true → IsKnown c.v c.g (booked c) k
   knows k s = (
@@ -85,21 +90,22 @@ module _ (c : Ended) where
   pub rows-same : (x : ℕ) → ready_base (layout_of c.p) ≤ x → c.v x ≡ c.w x
   rows-same x l = let limit = c.tie.limit in c.picture.rows x (omega arith) (λ j u e. omega arith)
 
-  globals : Globals c.p c.v c.g.global (stands_on c) (λ n. c.m (c.b.address n))
+  globals : Globals c.p c.v c.g (booked c)
   globals = record {
-    holds = λ x l. c.picture.globals x l ∙ sent-at c.m _ (c.b.address (c.g.global x)) (c.heap.laid.globals.holds x l);
-    stand = global-kept c.p c.area c.tie c.w c.g c.b c.ambiguous c.owner c.heap c.stays c.moves c.traced;
+    holds = λ x l. c.picture.globals x l ∙ sent-at c.m _ (c.b.address (c.g.global x)) (c.heap.laid.globals.holds x l)
+        ∙ ap byte_at (sym (at-sent c (c.g.global x) (c.heap.laid.globals.known x l).0));
+    known = λ x l. knows (c.g.global x) (global-kept c.p c.area c.tie c.w c.g c.b c.ambiguous c.owner c.heap c.stays c.moves c.traced x l);
     empty = λ x l u. rows-same x l ∙ c.heap.laid.globals.empty x l u;
   }
 
   place-inside : (n : ℕ) → n ≢ 0 → Place c n →
-      ((section_of c n ≡ Young) × (nursery_base ≤ c.m (c.b.address n)) × (c.m (c.b.address n) + words_for (c.g.size n) ≤ nursery_end c.p))
-      ⊎ ((section_of c n ≡ Old) × (nursery_end c.p ≤ c.m (c.b.address n)) × (c.m (c.b.address n) + words_for (c.g.size n) ≤ c.end))
+      ((section_of c n ≡ Young) × (nursery_base ≤ address_of c n) × (address_of c n + words_for (c.g.size n) ≤ nursery_end c.p))
+      ⊎ ((section_of c n ≡ Old) × (nursery_end c.p ≤ address_of c n) × (address_of c n + words_for (c.g.size n) ≤ c.end))
   place-inside n d (Stayed i h q e) = let l = i.above in let u = i.below in inl (q, omega arith, omega arith)
   place-inside n d (Moved i h q l u) = let z = fill-from c in inr (q, omega arith, u)
   place-inside n d (Older o q e) = let l = o.above in let u = o.below in let z = fill-grows c in inr (q, omega arith, omega arith)
 
-  objects : Objects c.p c.g.count c.g.class c.g.size (stands_on c) (λ n. c.m (c.b.address n)) (section_of c) c.end (owner3 c)
+  objects : Objects c.p c.g.count c.g.class c.g.size (stands_on c) (address_of c) (section_of c) c.end (owner3 c)
   objects = record {
     given = λ n k. c.heap.laid.objects.given n (stood c n k);
     shaped = λ n l k. c.heap.laid.objects.shaped n l (stood c n k);
@@ -115,10 +121,11 @@ module _ (c : Ended) where
   clear-young x y out = c.picture.swept x y (λ a h l u.
       (let k = names c a (inl h) in
       let at = k.at in
-      let e : c.m (c.b.address k.name) ≡ a = ap c.m at ∙ unmoved-stays c a h in
+      let here : In (c.b.address k.name) c.stays = subst (λ z. In z c.stays) (sym at) h in
+      let e : address_of c k.name ≡ a = (stays-still c k.name here).address ∙ at in
       let size = sizes c k.name k.some k.stands in
       let size-at : size_of c.w (c.b.address k.name) ≡ size_of c.w a = ap (λ (z : ℕ). size_of c.w z) at in
-      let on : stands_on c k.name ≡ true = stands-kept c k.name k.stands (λ _. inl (subst (λ z. In z c.stays) (sym at) h)) in
+      let on : stands_on c k.name ≡ true = stands-kept c k.name k.stands (λ _. inl here) in
       out k.name (owns c k.name x on (omega arith) (omega arith))))
 
   clear : Clear c.p c.v (owner3 c)

@@ -1,5 +1,5 @@
 -- The objects that a round finds, by their names: each is the first new one to which the items and those before it lead.
-use Rattle.std.proofs.Common.{◌≡◌, ◌≢◌, ℕ, zero, suc, ◌+◌, ◌≤◌, ◌<◌, ◌⊎◌, leb, ltb, eqb, cond, Bool, true, false, List, [], ◌∷◌, ◌++◌, map, filter, sym, refl, ap, ◌∙◌, subst, inl, inr, arith, le_refl}
+use Rattle.std.proofs.Common.{◌≡◌, ◌≢◌, ℕ, zero, suc, ◌+◌, ◌≤◌, ◌<◌, eqb, cond, Bool, true, false, List, [], ◌∷◌, ◌++◌, map, filter, sym, refl, ap, ◌∙◌, subst, inl, inr, arith, le_refl}
 use Rattle.std.specs.List.{flat_map}
 use Rattle.std.proofs.Math.Path.{fun_ext}
 use Rattle.std.proofs.lemmas.Bool.{cond-true, cond-false, cases_Bool, eq-eqb, le-leb, lt-ltb, false≢true}
@@ -7,18 +7,18 @@ use Rattle.std.proofs.lemmas.Bool.Decides.{nat_tests}
 use Rattle.std.proofs.lemmas.List.{append_assoc, map-append}
 use Rattle.sg_words.specs.Address.{byte_at, word_at}
 use Rattle.sg_words.specs.Tags.{plain_word}
-use Rattle.sg_words.specs.Lists.{has, In, Pairwise}
-use Rattle.sg_words.specs.Found.{IsFirstNew, IsFoundBy, IsSearched}
+use Rattle.sg_words.specs.Lists.{In, Pairwise}
+use Rattle.sg_words.specs.Found.{IsFoundBy, IsSearched}
 use Rattle.sg_words.specs.Found.IsFoundBy.{Begins, Finds}
 use Rattle.sg_words.specs.Objects.{strong_slots, size_of}
 use Rattle.sg_words.specs.Sections.{nursery_base, globals_base}
-use Rattle.sg_words.proofs.Members.{has-cases, in-here, in-there, in-last, in-before, last-cases, in_map, map_in, filter-in, out}
+use Rattle.sg_words.proofs.Members.{has-cases, in-here, in-there, last-cases, in_map, map_in, filter-in, out}
 use Rattle.sg_words.proofs.Numbers.{word_at-byte_at}
 use Rattle.sg_program.specs.declared.program.Program.{Program}
 use Rattle.sg_program.specs.Scripts.{kind_of}
 use Rattle.sg_desc.specs.Shapes.{strong_holds}
 use Rattle.sg_graph.specs.Graph.{Graph, Entry, Ref}
-use Rattle.sg_graph.specs.Book.{Book, Young, nursery_end, word_of}
+use Rattle.sg_graph.specs.Book.{Book, nursery_end, word_of}
 use Rattle.sg_graph.specs.Epoch.{numbers_below}
 use Rattle.sg_graph.specs.Pause.{IsPinned}
 use Rattle.sg_graph.specs.Copies.{IsMovable, name_in, names_in, targets_of, items_of, leads_of}
@@ -29,7 +29,7 @@ use Rattle.sg_minor.specs.Joined.{ArePins, global_slots, slots_of_name, slots_ou
 use Rattle.sg_nursery.specs.Parts.{HasTagged}
 use Rattle.sg_minor.proofs.Areas.{area_for}
 use Rattle.sg_minor.proofs.Names.{ref-of}
-use Rattle.sg_minor.proofs.Named.{field_refers, common, young-named, in-nursery, nursery, young-section, inner-field, outer, tag-of, strong, len, first}
+use Rattle.sg_minor.proofs.Named.{field_refers, common, young-named, in-nursery, young-section, inner-field, outer, tag-of, strong, len, first}
 use Rattle.sg_minor.proofs.Added.{young-word}
 
 -- a list that is mapped from what passes a test, split at one of its numbers
@@ -196,7 +196,7 @@ module _ (p : Program) (w : ℕ → ℕ) (g : Graph) (b : Book) (owner : ℕ →
       subst (λ (names : List ℕ). Hold (global_slots (layout_of p) (suc k)) names) (sym (map-append g.global (numbers_below k) (k ∷ [])))
       (subst (λ (slots : List ℕ). Hold slots (map g.global (numbers_below k) ++ g.global k ∷ [])) (sym (map-append (λ (x : ℕ). globals_base (layout_of p) + x) (numbers_below k) (k ∷ [])))
       (hold-append (global_slots (layout_of p) k) (map g.global (numbers_below k)) ((globals_base (layout_of p) + k) ∷ []) (g.global k ∷ []) (hold-globals k (omega arith))
-      ((outer p w g b owner t ambiguous pins ps w1 tg (globals_base (layout_of p) + k) (λ y. (let u = y.1 in omega arith)) ∙ t.laid.globals.holds k (omega arith), t.laid.globals.stand k (omega arith)), tt)))
+      ((outer p w g b owner t ambiguous pins ps w1 tg (globals_base (layout_of p) + k) (λ y. (let u = y.1 in omega arith)) ∙ t.laid.globals.holds k (omega arith), (t.laid.globals.known k (omega arith)).0), tt)))
 
   -- a strong field and the name in it
   field-ref : (n i : ℕ) → b.stands n ≡ true → i < g.size n → field_refers p g n i ≡ true → (k : ℕ) × (g.field n i ≡ Ref k) × Holds (b.address n + 2 + i) k

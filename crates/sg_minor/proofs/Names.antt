@@ -13,7 +13,7 @@ use Rattle.sg_words.specs.Sections.{nursery_base, globals_base}
 use Rattle.sg_graph.specs.Pause.{IsTarget, IsReached, IsRoot}
 use Rattle.sg_graph.specs.Invariants.{IsPlain}
 use Rattle.sg_words.specs.Reach.{Reached, Root, Next}
-use Rattle.sg_words.proofs.Closure.{from_rounds, within_closed, to_rounds}
+use Rattle.sg_words.proofs.Closure.{within_closed}
 use Rattle.sg_graph.specs.Laws.{QuietPause}
 use Rattle.sg_graph.specs.Heap.{Owner, Of, IsOfSort, IsKnownEntry, IsHeap, layout_of}
 use Rattle.sg_copy.specs.Area.{Area, IsYoung, class_of, is_strong, Points}
@@ -138,7 +138,7 @@ module _ (p : Program) (area : Area) (tie : IsAreaOf p area) (w : ℕ → ℕ) (
     | inr h ↦ elim h [
       | inl h ↦ (let e : b.address (g.global h.0) ≡ a = global-name h.0 a h.1 h.2 in
           let d = young-named (g.global h.0) (subst (IsYoung area) (sym e) y) in
-          let s = t.laid.globals.stand h.0 h.1 in
+          let s = (t.laid.globals.known h.0 h.1).0 in
           record { name = g.global h.0; some = d; stands = s; at = e; reached = Root (g.global h.0) (d, s, inr (inr (inr (inl (h.0, h.1, refl))))) })
       | inr h ↦ (let f = field-name h.0 a h.1 h.2 h.4 in record { name = f.0; some = f.1; stands = f.2; at = f.3; reached = Next h.0 f.0 (Root h.0 (h.1, h.2, inl h.3)) f.4 })
     ]
@@ -228,7 +228,7 @@ module _ (p : Program) (area : Area) (tie : IsAreaOf p area) (w : ℕ → ℕ) (
     ]
 
     pub global-kept : (x : ℕ) → x < 64 → kept (g.global x) ≡ true
-    global-kept x l = keeps (g.global x) (t.laid.globals.stand x l) (λ y. tr.items (b.address (g.global x)) (y, inr (inl (x, l, t.laid.globals.holds x l))))
+    global-kept x l = keeps (g.global x) (t.laid.globals.known x l).0 (λ y. tr.items (b.address (g.global x)) (y, inr (inl (x, l, t.laid.globals.holds x l))))
 
     not-old : (n : ℕ) → b.stands n ≡ true → IsYoung area (b.address n) → b.section n ≡ Old → ⊥
     not-old n s y o = let e = sym (young-section n s y) ∙ o in cc

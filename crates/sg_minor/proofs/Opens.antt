@@ -27,7 +27,7 @@ module _ (p : Program) (w : ℕ → ℕ) (g : Graph) (b : Book) (owner : ℕ →
   start-named : (s a : ℕ) → IsStart p g b pins s → w s ≡ byte_at a → IsYoung (area_for p) a → (n : ℕ) × (n ≢ 0) × (b.stands n ≡ true) × (b.address n ≡ a)
   start-named s a (AtGlobal x l e) q y =
       let f : b.address (g.global x) ≡ a = byte-same (b.address (g.global x)) a (sym (t.laid.globals.holds x l) ∙ ap w (sym e) ∙ q) in
-      (g.global x, young-named p w g b owner t (g.global x) (subst (IsYoung (area_for p)) (sym f) y), t.laid.globals.stand x l, f)
+      (g.global x, young-named p w g b owner t (g.global x) (subst (IsYoung (area_for p)) (sym f) y), (t.laid.globals.known x l).0, f)
   start-named s a (AtField n i d st o l e u) q y =
       let k = field-name p w g b owner t n i st l e in
       let f : b.address k.0 ≡ a = byte-same (b.address k.0) a (sym k.2 ∙ ap w (sym u) ∙ q) in

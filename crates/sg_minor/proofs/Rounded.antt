@@ -1,5 +1,5 @@
 -- What a round of copying has made of the words of the nursery.
-use Rattle.std.proofs.Common.{◌≡◌, ◌≢◌, ℕ, ◌+◌, ◌%◌, ◌<◌, ◌≤◌, ◌⊎◌, inl, inr, Bool, List, [], ◌∷◌, ◌++◌, map, get_or, true, false, refl, sym, ap, ◌∙◌, subst, arith}
+use Rattle.std.proofs.Common.{◌≡◌, ◌≢◌, ℕ, ◌+◌, ◌%◌, ◌<◌, ◌≤◌, ◌⊎◌, inl, inr, Bool, List, ◌++◌, map, get_or, true, false, refl, sym, ap, ◌∙◌, subst, arith}
 use Rattle.std.proofs.lemmas.Bool.{cases_eq, cases_lt, cases_Bool, false≢true}
 use Rattle.std.proofs.lemmas.List.Elements.{Contains-get_or}
 use Rattle.std.proofs.lemmas.Option.{slice_get_within, get_or_from_slice_get, slice_get_read}
@@ -30,7 +30,7 @@ use Rattle.sg_words.specs.Objects.{size_of}
 use Rattle.sg_copy.specs.Image.{IsImage}
 use Rattle.sg_copy.specs.Copying.{area_of, IsStill, fields_of, fields_of_all, area_still}
 use Rattle.sg_words.proofs.Numbers.{word_at-byte_at, is_address}
-use Rattle.sg_words.proofs.Members.{in-flat, in-left, in-right, out, in-cases, in-there, in-here, contains_in, in_contains, in_map, map_in}
+use Rattle.sg_words.proofs.Members.{in-flat, in-left, in-right, out, in-cases, contains_in, in_contains, in_map, map_in}
 use Rattle.sg_words.proofs.Objects.{placed-in, slots-are}
 use Rattle.sg_minor.specs.Joined.{ArePins, HasSwept, AreSeeds}
 use Rattle.sg_minor.proofs.Added.{IsSeed, Global, Field, seeds-each}
@@ -93,7 +93,7 @@ module _ (p : Program) (s : Contents) (g : Graph) (b : Book) (is : IsSpaceOf p s
   global_target x a l w young =
       let k = g.global x in
       let holds = heap.laid.globals.holds x l in
-      let stands = heap.laid.globals.stand x l in
+      let stands = (heap.laid.globals.known x l).0 in
       let nursery = nursery_is p s g b is owner heap contents in
       let at : b.address k ≡ a = omega arith in
       let from = young.0 in

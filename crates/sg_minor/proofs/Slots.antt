@@ -1,7 +1,6 @@
 -- The slots of a round are globals and the reference fields of old and of pinned objects.
-use Rattle.std.proofs.Common.{◌≡◌, ◌≢◌, ℕ, ◌+◌, ◌<◌, ◌⊎◌, true, List, [], ◌∷◌, ◌++◌, sym, refl, ap, ◌∙◌, subst, inl, inr, arith}
+use Rattle.std.proofs.Common.{◌≡◌, ◌≢◌, ℕ, ◌+◌, ◌<◌, ◌⊎◌, true, List, ◌++◌, sym, refl, ap, ◌∙◌, subst, inl, inr, arith}
 use Rattle.sg_words.specs.Address.{byte_at}
-use Rattle.sg_words.specs.Tags.{plain_word}
 use Rattle.sg_program.specs.declared.program.Program.{Program}
 use Rattle.sg_graph.specs.Graph.{Graph}
 use Rattle.sg_graph.specs.Book.{Book, Old}
@@ -11,7 +10,6 @@ use Rattle.sg_space.specs.Standing.{word}
 use Rattle.sg_graph.specs.Heap.{Owner, layout_of, IsHeap}
 use Rattle.sg_copy.specs.Area.{Area, IsYoung, class_of}
 use Rattle.sg_words.specs.Lists.{In}
-use Rattle.sg_copy.specs.Round.{slots, slots_by}
 use Rattle.sg_copy.specs.Copying.{area_of, fields_of, fields_of_all}
 use Rattle.sg_words.proofs.Members.{in-left, in-right, in-cases, flat-in, in-flat}
 use Rattle.sg_words.proofs.Objects.{slots-in, slots-are}
@@ -20,7 +18,6 @@ use Rattle.sg_nursery.specs.Parts.{HasTagged}
 use Rattle.sg_minor.proofs.Added.{IsSeed, Global, Field, seeds-each, seeds-all}
 use Rattle.sg_minor.proofs.Areas.{refers, area_for}
 use Rattle.sg_minor.proofs.Named.{field_refers, pin-named, class-as, refers-as, size-at}
-use Rattle.sg_minor.proofs.Names.{class-of-plain}
 
 -- a global, or a reference field of an old or of a pinned object
 pub data IsStart (p : Program) (g : Graph) (b : Book) (pins : List ℕ) (s : ℕ) : Type 0 where

@@ -1,13 +1,14 @@
 -- The fragments among the pieces of the nursery.
 use Rattle.std.proofs.Common.{◌≡◌, ℕ, zero, suc, ◌+◌, ◌*◌, ◌≤◌, ◌<◌, List, [], ◌∷◌, length, map, get_or, slice_index, AllPairs, Contains, sym, refl, ap, ◌∙◌, subst, inl, inr, arith}
 use Rattle.std.proofs.lemmas.Bool.{cases_lt}
-use Rattle.std.proofs.lemmas.List.{length-map, get_or-map}
+use Rattle.std.proofs.lemmas.List.{length-map, get_or-map, get_or_past}
 use Rattle.std.proofs.lemmas.List.Kept.{AllPairs-from_increasing}
 use Rattle.sg_words.specs.Address.{byte_at, word_at}
 use Rattle.sg_words.specs.declared.pieces.Piece.{Piece}
 use Rattle.sg_words.specs.declared.pieces.Piece.TheVariants.{Frag, Waste}
 use Rattle.sg_words.specs.Pieces.{fronts_of, ends_of, place}
 use Rattle.sg_words.specs.declared.layout.Layout.{Layout}
+use Rattle.sg_words.proofs.Fragments.{same_count}
 use Rattle.sg_space.specs.declared.objects.Object.{Object}
 use Rattle.sg_nursery.specs.Pieces.{IsGap, ArePieces}
 
@@ -57,6 +58,13 @@ next_of pieces f = word_at (slice_index (fronts_of pieces) f)
 
 abbrev pub limit_of : List Piece → ℕ → ℕ
 limit_of pieces f = word_at (slice_index (ends_of pieces) f)
+
+-- there is none behind the last fragment
+pub next-beyond : (pieces : List Piece) (f : ℕ) → length (fronts_of pieces) ≤ f → next_of pieces f ≡ 0
+next-beyond pieces f l = ap word_at (get_or_past (fronts_of pieces) f 0 l)
+
+pub limit-beyond : (pieces : List Piece) (f : ℕ) → length (fronts_of pieces) ≤ f → limit_of pieces f ≡ 0
+limit-beyond pieces f l = let same = same_count pieces in ap word_at (get_or_past (ends_of pieces) f 0 (omega arith))
 
 -- fragment f is a gap of the nursery
 pub record IsTile (layout : Layout) (standing : List Object) (pieces : List Piece) (f : ℕ) : Type 0 where

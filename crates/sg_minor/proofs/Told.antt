@@ -7,7 +7,7 @@ use Rattle.sg_graph.specs.declared.reports.MinorReport.{MinorReport}
 use Rattle.sg_program.specs.Scripts.{words_for}
 use Rattle.sg_graph.specs.Book.{Young, Old, nursery_end, old_end, IsWordOf, IsApart}
 use Rattle.sg_words.specs.Sections.{nursery_base}
-use Rattle.sg_graph.specs.Pause.{IsPinned, StandsYoung, IsRoot}
+use Rattle.sg_graph.specs.Pause.{IsPinned, StandsYoung}
 use Rattle.sg_graph.specs.Tiling.{IsCovered, IsTiled, IsGap as IsGapOf}
 use Rattle.sg_graph.specs.Minor.{IsLoose, HasMoved, HasFailed, IsStill, Keeping, Staying, Telling, Tidying, IsMinorPause, move_of}
 use Rattle.sg_graph.specs.Heap.{layout_of}
@@ -20,7 +20,8 @@ use Rattle.sg_nursery.specs.Pieces.{IsTaken, IsGap}
 use Rattle.sg_minor.specs.Joined.{ArePins, IsKept}
 use Rattle.sg_minor.specs.Law.{IsReportOf}
 use Rattle.sg_minor.proofs.Names.{of-same, some-name, name-some, exactly}
-use Rattle.sg_minor.proofs.After.{Ended, lies, sizes, one-name, names, kept-young, section-young, stands_on, stood, is-kept, stands-nothing, stands-kept, booked, section_of, fill-grows, end-within, fill-from, Place, Stayed, Moved, Older, place, unmoved-nil, nil-at, unmoved-stays, tile-of, taken, owns, owned, packed}
+use Rattle.sg_minor.proofs.Tiles.{next-beyond, limit-beyond}
+use Rattle.sg_minor.proofs.After.{Ended, lies, sizes, one-name, names, kept-young, section-young, stands_on, stood, is-kept, stands-nothing, stands-kept, address_of, section_of, booked, at-sent, moved-section, gone-still, stays-still, fill-grows, end-within, fill-from, Place, Stayed, Moved, Older, place, nil-still, nil-at, tile-of, taken, owns, owned, packed}
 
 module _ (c : Ended) where
   young-not-old : (n : ℕ) → section_of c n ≡ Old → section_of c n ≡ Young → ⊥
@@ -58,13 +59,14 @@ module _ (c : Ended) where
       let k = names c a (inl q.1) in
       let at = k.at in
       let here : In (c.b.address k.name) c.stays = subst (λ z. In z c.stays) (sym at) q.1 in
-      let e = unmoved-stays c (c.b.address k.name) here in
+      let still = stays-still c k.name here in
+      let e = still.address in
       let size = sizes c k.name k.some k.stands in
       let size-at : size_of c.w (c.b.address k.name) ≡ size_of c.w a = ap (λ (z : ℕ). size_of c.w z) at in
       let l = q.2 in
       let u = q.3 in (
         k.name,
-        cond-false _ _ _ (c.traced.apart (c.b.address k.name) here) ∙ section-young c k.name k.stands (kept-young c (c.b.address k.name) (inl here)),
+        still.section ∙ section-young c k.name k.stands (kept-young c (c.b.address k.name) (inl here)),
         record { some = some-name k.name k.some; stands = stands-kept c k.name k.stands (λ _. inl here); above = omega arith; below = omega arith },
       )
 
@@ -109,6 +111,7 @@ module _ (c : Ended) where
     fragments = refl;
     next = λ f l. sym (tile-of c f l).front_at;
     limit = λ f l. sym (tile-of c f l).end_at;
+    beyond = λ f l. (next-beyond c.pieces f l, limit-beyond c.pieces f l);
   }
 
   -- the words that the pause has filled are those of objects of the major heap
@@ -119,10 +122,10 @@ module _ (c : Ended) where
       let h = owned c q.0 x q.1 in
       let low = h.1 in
       let high = h.2 in
-      let d : q.0 ≢ 0 = λ z. (let a : c.m (c.b.address q.0) ≡ 0 = ap (λ (k : ℕ). c.m (c.b.address k)) z ∙ nil-at c in let i : c.g.size q.0 ≡ 0 = ap c.g.size z ∙ c.heap.laid.nothing.no_size in omega arith) in
+      let d : q.0 ≢ 0 = λ z. (let a : address_of c q.0 ≡ 0 = ap (address_of c) z ∙ nil-at c in let i : c.g.size q.0 ≡ 0 = ap c.g.size z ∙ c.heap.laid.nothing.no_size in omega arith) in
       (q.0, go q.0 low high (place c q.0 d h.0), record { some = some-name q.0 d; stands = h.0; above = h.1; below = h.2 })
     where
-      go : (n : ℕ) → c.m (c.b.address n) ≤ x → x < c.m (c.b.address n) + words_for (c.g.size n) → Place c n → section_of c n ≡ Old
+      go : (n : ℕ) → address_of c n ≤ x → x < address_of c n + words_for (c.g.size n) → Place c n → section_of c n ≡ Old
       go n low high (Stayed i h q e) = let below = i.below in let from = fill-from c in absurd (omega arith)
       go n low high (Moved i h q a e) = q
       go n low high (Older o q e) = q
@@ -138,9 +141,6 @@ module _ (c : Ended) where
     -- what stays is pinned or has failed
     stays-cases : (a : ℕ) → In a c.stays → In a pins ⊎ In a fails
     stays-cases a h = in-cases a pins fails (subst (λ (l : List ℕ). In a l) split h)
-
-    still-of : (n : ℕ) → In (c.b.address n) c.stays → IsStill c.b (booked c) n
-    still-of n h = record { address = unmoved-stays c (c.b.address n) h; section = cond-false _ _ _ (c.traced.apart (c.b.address n) h) }
 
     pin-stands : (n : ℕ) → IsPinned c.g c.b c.ambiguous n → stands_on c n ≡ true
     pin-stands n h = stands-kept c n h.0.1 (λ _. inl (pin-stays (c.b.address n) (pinned.all n h)))
@@ -158,6 +158,13 @@ module _ (c : Ended) where
     failed-loose : (n : ℕ) → In (c.b.address n) fails → IsPinned c.g c.b c.ambiguous n → ⊥
     failed-loose n h q = not-in (c.b.address n) pins (failed (c.b.address n) h) (pinned.all n q)
 
+    abbrev moved-from : (ℕ → ℕ) → ℕ → Move
+    moved-from m z = record { from = byte_at z; to = byte_at (m z) }
+
+    -- what is told of an object that moved is where the book has it
+    told-to : (n : ℕ) → c.b.stands n ≡ true → moved-from c.m (c.b.address n) ≡ move_of c.b (booked c) n
+    told-to n s = ap (λ (z : ℕ). record { from = byte_at (c.b.address n); to = byte_at z }) (sym (at-sent c n s))
+
     told-move : (move : Move) → Contains report.moves move → (n : ℕ) × IsLoose c.g c.b c.ambiguous (booked c) n × HasMoved c.g c.b (booked c) n × (move ≡ move_of c.b (booked c) n)
     told-move move h =
         let e = (told.moves.exact move).0 h in
@@ -166,15 +173,14 @@ module _ (c : Ended) where
         let here : In (c.b.address k.name) c.moves = subst (λ z. In z c.moves) (sym k.at) e.1 in
         let size = sizes c k.name k.some k.stands in
         let q = placed-in c.w c.m c.b.fill c.moves c.end c.picture.placed (c.b.address k.name) here in
-        let before = q.1 in (
+        let behind = q.0 in
+        let before = q.1 in
+        let to = at-sent c k.name k.stands in (
           k.name,
           record { young = stands-young x (inr e.1); kept = named-stands x (inr e.1); loose = moved-loose k.name here },
-          record { section = cond-true _ _ _ here; behind = q.0; before = omega arith },
-          e.2 ∙ ap (moved-from c.m) (sym k.at),
+          record { section = moved-section c k.name k.stands here; behind = omega arith; before = omega arith },
+          e.2 ∙ ap (moved-from c.m) (sym k.at) ∙ told-to k.name k.stands,
         )
-      where
-        moved-from : (ℕ → ℕ) → ℕ → Move
-        moved-from m z = record { from = byte_at z; to = byte_at (m z) }
 
     told-fail : (a : ℕ) → Contains report.fails a → (n : ℕ) × IsLoose c.g c.b c.ambiguous (booked c) n × HasFailed c.p c.g c.b (booked c) n × (a ≡ byte_at (c.b.address n))
     told-fail a h =
@@ -187,7 +193,7 @@ module _ (c : Ended) where
         let q = full (c.b.address k.name) here in (
           k.name,
           record { young = stands-young x (inl s); kept = named-stands x (inl s); loose = failed-loose k.name here },
-          record { still = still-of k.name (fail-stays (c.b.address k.name) here); full = omega arith },
+          record { still = stays-still c k.name (fail-stays (c.b.address k.name) here); full = omega arith },
           e.2 ∙ ap byte_at (sym k.at),
         )
 
@@ -195,7 +201,7 @@ module _ (c : Ended) where
     loose-told n h = elim (lies c n h.young.1 h.young.0) [
       | inr o ↦ absurd (let e : Young ≡ Old = sym h.young.2 ∙ o.section in cc)
       | inl i ↦ elim (is-kept c n h.kept i.young) [
-        | inr moved ↦ inl ((told.moves.exact (move_of c.b (booked c) n)).1 (c.b.address n, moved, refl))
+        | inr moved ↦ inl ((told.moves.exact (move_of c.b (booked c) n)).1 (c.b.address n, moved, sym (told-to n h.young.1)))
         | inl stays ↦ elim (stays-cases (c.b.address n) stays) [
           | inr fell ↦ inr ((told.fails.exact (byte_at (c.b.address n))).1 (c.b.address n, fell, refl))
           | inl pin ↦ absurd (let q = pinned.each (c.b.address n) pin in h.loose (subst (IsPinned c.g c.b c.ambiguous) (one-name c q.0 n q.1.0.1 h.young.1 q.2) q.1))
@@ -218,10 +224,10 @@ module _ (c : Ended) where
       spares = told.spares;
     }
 
-    still-or-told : (n : ℕ) → n ≢ 0 → Place c n → IsStill c.b (booked c) n ⊎ Contains report.moves (move_of c.b (booked c) n)
-    still-or-told n d (Stayed i h q e) = inl (still-of n h)
-    still-or-told n d (Moved i h q l u) = inr ((told.moves.exact (move_of c.b (booked c) n)).1 (c.b.address n, h, refl))
-    still-or-told n d (Older o q e) = inl (record { address = e; section = q ∙ sym o.section })
+    still-or-told : (n : ℕ) → c.b.stands n ≡ true → Place c n → IsStill c.b (booked c) n ⊎ Contains report.moves (move_of c.b (booked c) n)
+    still-or-told n s (Stayed i h q e) = inl (stays-still c n h)
+    still-or-told n s (Moved i h q l u) = inr ((told.moves.exact (move_of c.b (booked c) n)).1 (c.b.address n, h, sym (told-to n s)))
+    still-or-told n s (Older o q e) = inl (record { address = e; section = q ∙ sym o.section })
 
     -- what stands after the pause, but for nothing
     stays_on : ℕ → Bool
@@ -243,15 +249,16 @@ module _ (c : Ended) where
       kept = stays_on;
       pause = c.law.pause c.p c.g c.b c.ambiguous c.plain stays_on among (λ n d. (let e = exactly c.p c.area c.tie c.w c.g c.b c.ambiguous c.owner c.heap c.stays c.moves c.traced c.law c.plain n d in
           ((λ k. e.0 (sym (stays_as n d) ∙ k)), (λ r. stays_as n d ∙ e.1 r))));
-      nothing = (stands-nothing c, unmoved-nil c);
+      nothing = (stands-nothing c, (nil-still c).address, (nil-still c).section);
       stands = λ n d. sym (stays_as n d);
       stood = stood c;
     }
 
     stays : Staying c.g c.b c.ambiguous report.moves (booked c)
     stays = record {
-      pinned = λ n h. (pin-stands n h, still-of n (pin-stays (c.b.address n) (pinned.all n h)));
-      still = λ n d k. still-or-told n d (place c n d k);
+      pinned = λ n h. (pin-stands n h, stays-still c n (pin-stays (c.b.address n) (pinned.all n h)));
+      still = λ n d k. still-or-told n (stood c n k) (place c n d k);
+      gone = gone-still c;
     }
 
     tidies : c.pieces ≡ report.pieces → Tidying c.p c.b report.pieces c.g (booked c)

@@ -1,28 +1,23 @@
 -- A pause as a whole: from its parts to the law.
-use Rattle.std.proofs.Common.{◌≡◌, ℕ, zero, suc, ◌+◌, ◌<◌, ◌≤◌, List, ◌++◌, map, length, get_or, Option, refl, sym, ap, ◌∙◌, subst, arith}
+use Rattle.std.proofs.Common.{◌≡◌, ℕ, ◌+◌, List, ◌++◌, map, length, get_or, Option, refl, sym, ap, ◌∙◌, subst, arith}
 use Rattle.std.specs.List.{Contains}
 use Rattle.std.specs.List.Sorted.{IsStrictlyIncreasing}
 use Rattle.std.proofs.lemmas.List.{get_or-map, length-map}
 use Rattle.std.proofs.lemmas.List.Elements.{Contains-get_or}
 use Rattle.sg_words.specs.Address.{byte_at, word_at}
-use Rattle.sg_words.specs.Tags.{plain_word}
 use Rattle.sg_words.specs.Pieces.{fronts_of, ends_of}
 use Rattle.sg_words.specs.declared.pieces.Move.{Move}
-use Rattle.sg_words.specs.declared.pieces.Piece.{Piece}
 use Rattle.sg_program.specs.declared.program.Program.{Program}
 use Rattle.sg_graph.specs.Graph.{Graph}
 use Rattle.sg_graph.specs.declared.reports.MinorReport.{MinorReport}
-use Rattle.sg_graph.specs.Book.{Book, nursery_end, old_end}
+use Rattle.sg_graph.specs.Book.{Book}
 use Rattle.sg_graph.specs.Invariants.{IsPlain}
 use Rattle.sg_space.specs.declared.objects.Object.{Object}
-use Rattle.sg_words.specs.Sections.{old_base, large_base}
 use Rattle.sg_space.specs.Space.{Contents, IsContents}
 use Rattle.sg_space.specs.Standing.{word, IsSoundBy, TellsYoung}
 use Rattle.sg_minor.specs.Holding.{HoldsHeap}
-use Rattle.sg_words.specs.Objects.{size_of}
 use Rattle.sg_copy.specs.Image.{IsImage}
 use Rattle.sg_copy.specs.Copying.{area_of, IsStill, CanCopyFrom, HasCopiedTo, fields_of_all, area_still, still_on, contents_still}
-use Rattle.sg_words.proofs.Members.{out}
 use Rattle.sg_words.proofs.Numbers.{word_at-byte_at}
 use Rattle.sg_pins.specs.Pins.{ArePinned}
 use Rattle.sg_minor.specs.Joined.{ArePins, AreSeeds, IsBegun, IsEnded, JoinLaw}
@@ -30,9 +25,8 @@ use Rattle.sg_nursery.specs.Parts.{HasTagged, AreRounded, AreStaying, AreKept, A
 use Rattle.sg_minor.specs.Law.{AreTold, HasPaused, PauseLaw}
 use Rattle.sg_nursery.specs.Pieces.{ArePieces}
 use Rattle.sg_minor.specs.Parts.{HasTraced, HasFinished}
-use Rattle.sg_minor.proofs.Sound.{owner_of, sound_by, class_is, length_is, young_inside, old_inside, nursery_is, blocks_is}
+use Rattle.sg_minor.proofs.Sound.{owner_of, sound_by}
 use Rattle.sg_minor.proofs.Pinned.{are_pins, are_plain}
-use Rattle.sg_minor.proofs.OldSlots.{IsBorder, border_next, first_border, object_here}
 use Rattle.sg_minor.proofs.Rounded.{told_rounded, told_staying, has_swept, told_pins, told_moves, told_fails, have_words}
 
 -- the numbers of words whose addresses are in order

@@ -1,18 +1,13 @@
 -- What the parts of a minor pause do to words and lists, one by one.
-use Rattle.std.specs.Prelude.{◌≡◌, ℕ, ◌+◌, ◌<◌, ◌≤◌, ◌⊎◌, ◌↔◌, Option, List, ◌++◌, map, filter}
-use Rattle.std.specs.List.{Contains, flat_map}
-use Rattle.std.specs.List.Sorted.{IsStrictlyIncreasing}
-use Rattle.sg_words.specs.Address.{IsAddress, byte_at, word_at}
-use Rattle.sg_words.specs.Tags.{plain_word}
+use Rattle.std.specs.Prelude.{◌≡◌, ℕ, Option, List, ◌++◌, map, filter}
+use Rattle.std.specs.List.{flat_map}
+use Rattle.sg_words.specs.Address.{byte_at, word_at}
 use Rattle.sg_words.specs.declared.pieces.Move.{Move}
 use Rattle.sg_program.specs.declared.program.Program.{Program}
 use Rattle.sg_graph.specs.Graph.{Graph}
 use Rattle.sg_graph.specs.Book.{Book}
 use Rattle.sg_graph.specs.Copies.{StandsOld, AreByAddress}
-use Rattle.sg_graph.specs.Minor.{sources}
-use Rattle.sg_words.specs.declared.layout.Layout.{Layout}
 use Rattle.sg_space.specs.declared.objects.Object.{Object}
-use Rattle.sg_words.specs.Sections.{IsInSection}
 use Rattle.sg_space.specs.Space.{Contents}
 use Rattle.sg_space.specs.Standing.{word, IsSoundBy, TellsYoung}
 use Rattle.sg_pins.specs.Pins.{ArePinned}
@@ -22,7 +17,7 @@ use Rattle.sg_minor.specs.Holding.{HoldsHeap}
 use Rattle.sg_copy.specs.Copying.{area_of, IsStill, HasCopiedTo, fields_of_all}
 use Rattle.sg_minor.specs.Joined.{AreSeeds, slots_of_name, holds_young}
 use Rattle.sg_nursery.specs.Parts.{HasTagged, AreKept, AreCleaned}
-use Rattle.sg_nursery.specs.Pieces.{AreStanding, IsTaken, ArePieces, first_word, word_behind}
+use Rattle.sg_nursery.specs.Pieces.{ArePieces}
 
 -- some program's graph stands in the space by some book
 abbrev pub HoldsSome : Contents → Type 0

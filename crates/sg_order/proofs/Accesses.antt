@@ -76,36 +76,36 @@ finds_as p g m entry script s test t = record { test = test; tests = t.tests; ho
 
 module _ (p : Program) (lay : Constants) (w : Words) (g : Graph) (b : Book) (said : ℕ → List Answer) (k : ℕ) (owner : ℕ → Owner)
     (t : Ground p lay w g b owner) where
+  -- an object's words stand before the globals
+  pub below_globals : (n y : ℕ) → b.stands n ≡ true → y < b.address n + (g.size n + 2) → y < globals_base (layout_of p)
+  below_globals n y sn to = elim (cases_eq n 0) [
+    | inl z ↦ let u : b.address n ≡ 0 = ap b.address z ∙ t.laid.nothing.at_nil in let v : g.size n ≡ 0 = ap g.size z ∙ t.laid.nothing.no_size in omega arith
+    | inr some ↦ elim (t.laid.objects.inside n (omega arith) sn) [
+      | inl i ↦ (let l = i.2 in omega arith)
+      | inr i ↦ (let l = i.2 in let u = t.laid.objects.filled.1 in omega arith)
+    ]
+  ]
+
   -- a store of a word of a standing object
   module _ (n y val : ℕ) (sn : b.stands n ≡ true) (from : b.address n ≤ y) (to : y < b.address n + (g.size n + 2)) where
     pub same_there : (m x : ℕ) → b.stands m ≡ true → b.address m ≤ x → x < b.address m + (g.size m + 2) → x ≡ y → m ≡ n
     same_there m x q e r s = same_object p lay w g b said k owner t m n x q sn e r (omega arith) (omega arith)
 
-    -- no global and no row behind it
-    below_globals : y < globals_base (layout_of p)
-    below_globals = elim (cases_eq n 0) [
-      | inl z ↦ let u : b.address n ≡ 0 = ap b.address z ∙ t.laid.nothing.at_nil in let v : g.size n ≡ 0 = ap g.size z ∙ t.laid.nothing.no_size in omega arith
-      | inr some ↦ elim (t.laid.objects.inside n (omega arith) sn) [
-        | inl i ↦ (let l = i.2 in omega arith)
-        | inr i ↦ (let l = i.2 in let u = t.laid.objects.filled.1 in omega arith)
-      ]
-    ]
-
-    pub ground_stored : (fld : ℕ → ℕ → Entry) →
+    pub ground_stored : (fld : ℕ → ℕ → Entry) → ((m : ℕ) → IsKnown w.word g b m → IsKnown (put w.word y val) g b m) →
         ((m i : ℕ) → b.stands m ≡ true → i < g.size m → put w.word y val (b.address m + 2 + i) ≡ word_of b.address (fld m i)) →
         ((m i : ℕ) → b.stands m ≡ true → i < g.size m → IsKnownEntry (put w.word y val) g b (fld m i)) →
         ((m i : ℕ) → b.stands m ≡ true → i < g.size m → IsOfSort (holds_reference (kind_of p (g.class m)) i (g.size m)) (fld m i)) →
         Ground p lay (write w (Word y) val) (record g { field = fld }) b owner
-    ground_stored fld holds known sorted = record {
+    ground_stored fld on holds known sorted = record {
       laid = record {
         nothing = t.laid.nothing;
         objects = t.laid.objects;
         fields = record { holds = holds; known = known; sorted = sorted };
         globals = record {
-          holds = λ x l. put-other w.word y val (globals_base (layout_of p) + x) (λ e. let u = below_globals in absurd (omega arith))
+          holds = λ x l. put-other w.word y val (globals_base (layout_of p) + x) (λ e. let u = below_globals n y sn to in absurd (omega arith))
               ∙ t.laid.globals.holds x l;
-          stand = t.laid.globals.stand;
-          empty = λ x l m. put-other w.word y val x (λ e. let u = below_globals in absurd (omega arith)) ∙ t.laid.globals.empty x l m;
+          known = λ x l. on (g.global x) (t.laid.globals.known x l);
+          empty = λ x l m. put-other w.word y val x (λ e. let u = below_globals n y sn to in absurd (omega arith)) ∙ t.laid.globals.empty x l m;
         };
         clear = record {
           clear = λ x l m none. put-other w.word y val x (λ e. none n (t.laid.objects.owns n x sn (omega arith) (omega arith)))
@@ -208,7 +208,7 @@ module _ (p : Program) (lay : Constants) (w : Words) (g : Graph) (b : Book) (sai
       owner = owner;
       later = later_stored n at val sn (omega arith) (omega arith) (put g.field n (put (g.field n) i e)) known_stored
           (λ m q x. length_off n at val sn (omega arith) (omega arith) (omega arith) m q ∙ x);
-      ground = ground_stored n at val sn (omega arith) (omega arith) (put g.field n (put (g.field n) i e)) holds_stored
+      ground = ground_stored n at val sn (omega arith) (omega arith) (put g.field n (put (g.field n) i e)) known_stored holds_stored
           (λ m j q r. field_all (λ m j x. b.stands m ≡ true → j < g.size m → IsKnownEntry (put w.word at val) g b x)
           (λ _ _. entry_later w g b (write w (Word at) val) g b e known_stored ke)
           (λ m j s l. entry_later w g b (write w (Word at) val) g b (g.field m j) known_stored (t.laid.fields.known m j s l)) m j q r)
@@ -267,37 +267,51 @@ module _ (p : Program) (lay : Constants) (w : Words) (g : Graph) (b : Book) (sai
         ) refl st.regs
         (λ q. known (st.entry q) (st.known q)) st.offsets refl tt (λ q. refl) refl))
 
-    -- the deciding load of a reference
-    pub gets : (d r i v : ℕ) → w.word (object_in a r + 2 + i) ≡ v → Stands p lay w g b said k (within a rest (Access (Get d r i))) →
-        Kept p lay w g b said k (Access (Get d r i)) true w (over a rest (put a.reg d v) (reference_answer v))
-    gets d r i v e st =
+    -- the object of a statement that loads a field for references, and the known one that the field holds
+    pub field_of : (d r i : ℕ) (st : Stands p lay w g b said k (within a rest (Access (Get d r i)))) →
+        (n target : ℕ) × Finds p g (record (g.mutator k) { register = st.entry; script = Get d r i ∷ rest }) (Get d r i) n × (g.field n i ≡ Ref target)
+        × IsKnown w.word g b target × (w.word (object_in a r + 2 + i) ≡ byte_at (b.address target))
+    field_of d r i st =
         let test : Test = record { register = r; field = i; sort = Reference } in
         let x = tested_as p g st.entry (Get d r i) st.at.0 test refl st.at.1 in
         let n = x.name in
         let sn = (known_at p lay w g b said k owner t _ st r n x.holds).0 in
         let f = reference_field (kind_of p (g.class n)) (g.size n) i x.finds in
-        let target = of_reference _ (g.field n i) f.1 (t.laid.fields.sorted n i sn f.0) in
-        let ev : v ≡ word_of b.address (Ref target.0) = sym e ∙ ap (λ z. w.word (z + 2 + i)) (object_at p lay w g b said k owner t _ st r n x.holds)
-        ∙ t.laid.fields.holds n i sn f.0 ∙ ap (word_of b.address) target.1 in
-        let kt : IsKnownEntry w.word g b (Ref target.0) = subst (IsKnownEntry w.word g b) target.1 (t.laid.fields.known n i sn f.0) in
-        let regs = put-along (word_of b.address) a.reg st.entry d v (Ref target.0) st.regs ev in
-        let known = known_put p lay w g b said k owner t _ st d (Ref target.0) kt in
-        let offsets = offsets_put g b a.offset st.entry d (Ref target.0) (λ o. kt.0) st.offsets in
-        let kinds = put-along kind_of_entry (λ r. kind_of_entry (st.entry r)) st.entry d IsRef (Ref target.0) (λ r. refl) refl in
-        let found = finds_as p g (g.mutator k) st.entry (Get d r i ∷ rest) (Get d r i) test x in
-        elim (cases_eq target.0 0) [
+        let target = of_reference _ (g.field n i) f.1 (t.laid.fields.sorted n i sn f.0) in (
+          n,
+          target.0,
+          finds_as p g (g.mutator k) st.entry (Get d r i ∷ rest) (Get d r i) test x,
+          target.1,
+          subst (IsKnownEntry w.word g b) target.1 (t.laid.fields.known n i sn f.0),
+          ap (λ z. w.word (z + 2 + i)) (object_at p lay w g b said k owner t _ st r n x.holds) ∙ t.laid.fields.holds n i sn f.0
+              ∙ ap (word_of b.address) target.1,
+        )
+
+    -- the deciding load of a reference
+    pub gets : (d r i v : ℕ) → w.word (object_in a r + 2 + i) ≡ v → Stands p lay w g b said k (within a rest (Access (Get d r i))) →
+        Kept p lay w g b said k (Access (Get d r i)) true w (over a rest (put a.reg d v) (reference_answer v))
+    gets d r i v e st =
+        let x = field_of d r i st in
+        let target = x.1 in
+        let kt = x.4 in
+        let ev : v ≡ word_of b.address (Ref target) = sym e ∙ x.5 in
+        let regs = put-along (word_of b.address) a.reg st.entry d v (Ref target) st.regs ev in
+        let known = known_put p lay w g b said k owner t _ st d (Ref target) kt in
+        let offsets = offsets_put g b a.offset st.entry d (Ref target) (λ o. kt.0) st.offsets in
+        let kinds = put-along kind_of_entry (λ r. kind_of_entry (st.entry r)) st.entry d IsRef (Ref target) (λ r. refl) refl in
+        elim (cases_eq target 0) [
           | inl z ↦ decided p lay w g b said k _ (λ x e. e) w g (unchanged p lay w g b said k owner t) _ (Get d r i) rest st (put st.entry d (Ref 0)) Nil
               (put a.reg d v) (reference_answer v) st.at.2
-              ((n, found, target.1 ∙ ap Ref z), refl) refl
+              ((x.0, x.2, x.3 ∙ ap Ref z), refl) refl
               (subst (λ m. (q : ℕ) → put a.reg d v q ≡ word_of b.address (put st.entry d (Ref m) q)) z regs)
               (subst (λ m. (q : ℕ) → IsKnownEntry w.word g b (put st.entry d (Ref m) q)) z known)
               (subst (λ m. (q : ℕ) → StandsAt g b (a.offset q) (put st.entry d (Ref m) q)) z offsets)
               (cond-true _ _ _ (eq-eqb v 0 (ev ∙ ap (λ m. byte_at (b.address m)) z ∙ (let u = t.laid.nothing.at_nil in omega arith)))) tt
               (subst (λ m. (q : ℕ) → put (λ r. kind_of_entry (st.entry r)) d IsRef q ≡ kind_of_entry (put st.entry d (Ref m) q)) z kinds) refl
-          | inr z ↦ decided p lay w g b said k _ (λ x e. e) w g (unchanged p lay w g b said k owner t) _ (Get d r i) rest st (put st.entry d (Ref target.0))
-              (At target.0) (put a.reg d v) (reference_answer v) st.at.2
-              ((n, found, target.1, z), refl) refl regs known offsets
-              (cond-false _ _ _ (ne_eqb v 0 (λ q. z (name_nil p lay w g b said k owner t target.0 kt.0 (omega arith)))) ∙ ap At ev) kt.0 kinds refl
+          | inr z ↦ decided p lay w g b said k _ (λ x e. e) w g (unchanged p lay w g b said k owner t) _ (Get d r i) rest st (put st.entry d (Ref target))
+              (At target) (put a.reg d v) (reference_answer v) st.at.2
+              ((x.0, x.2, x.3, z), refl) refl regs known offsets
+              (cond-false _ _ _ (ne_eqb v 0 (λ q. z (name_nil p lay w g b said k owner t target kt.0 (omega arith)))) ∙ ap At ev) kt.0 kinds refl
         ]
 
     -- the deciding load of a number

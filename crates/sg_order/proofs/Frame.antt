@@ -15,7 +15,7 @@ use Rattle.sg_graph.specs.Graph.{Entry, Ref, Int, Inner, Mutator, Graph}
 use Rattle.sg_program.specs.Tests.{Test}
 use Rattle.sg_graph.specs.Book.{Book, word_of}
 use Rattle.sg_graph.specs.Epoch.{by_address}
-use Rattle.sg_rules.specs.Rules.{Constants, StackWord, Mid, Idle, TestTag, TestLength, Access, Look, Claim, StoreLength, StoreTag, HideLength, Ask, Left, Actor}
+use Rattle.sg_rules.specs.Rules.{Constants, StackWord, Mid, Idle, TestTag, TestLength, Access, AccessGlobal, Look, Claim, StoreLength, StoreTag, HideLength, Ask, Left, Yielded, Actor}
 use Rattle.sg_order.specs.Rest.{kinds_in}
 use Rattle.sg_rules.specs.Resting.{IsRunnable}
 use Rattle.sg_order.specs.Rest.{StandsAt}
@@ -165,6 +165,7 @@ module _ (p : Program) (lay : Constants) (w : Words) (g : Graph) (b : Book) (sai
     address = l.address m.name m.stands ∙ m.address;
     size = l.size m.name m.stands ∙ m.size;
     class_is = l.class m.name m.stands ∙ m.class_is;
+    heading = m.heading;
     ahead = moved _ _ _ m.ahead;
   }
 
@@ -197,6 +198,7 @@ module _ (p : Program) (lay : Constants) (w : Words) (g : Graph) (b : Book) (sai
   pub mid_later : (entry : ℕ → Entry) (answers : List Answer) (rest : List Statement) (mid : Mid) → ((r : ℕ) → IsKnownEntry w.word g b (entry r)) →
       AtMid p lay w g b said j entry answers rest mid → AtMid p lay v h c said' j entry answers rest mid
   mid_later entry answers rest Idle q m = moved _ _ _ m
+  mid_later entry answers rest Yielded q m = moved _ _ _ m
   mid_later entry answers rest (TestTag s test) q m = (m.0, moved _ _ _ m.1)
   mid_later entry answers rest (TestLength s test class) q m = (
     m.0,
@@ -205,8 +207,9 @@ module _ (p : Program) (lay : Constants) (w : Words) (g : Graph) (b : Book) (sai
     moved _ _ _ m.2,
   )
   mid_later entry answers rest (Access s) q m = (m.0, tested entry s m.0 q m.1, moved _ _ _ m.2)
+  mid_later entry answers rest (AccessGlobal s) q m = (m.0, moved _ _ _ m.1)
   mid_later entry answers rest (Look s f) q m = (m.0, m.1, tight _ f m.2, moved _ _ _ m.3)
-  mid_later entry answers rest (Claim s f next) q m = (m.0, m.1, tight _ f m.2, m.3, moved _ _ _ m.4)
+  mid_later entry answers rest (Claim s f next) q m = (m.0, m.1, tight _ f m.2, m.3, moved _ _ _ m.4, (let r = l.next f in let n = m.5 in omega arith), m.6)
   mid_later entry answers rest (StoreLength s x) q m = placed entry answers rest s x m
   mid_later entry answers rest (StoreTag s x) q m = (
     placed entry answers rest s x m.0,

@@ -15,19 +15,19 @@ use Rattle.sg_words.specs.Sections.{nursery_base}
 use Rattle.sg_graph.specs.Epoch.{by_address}
 use Rattle.sg_words.specs.Lists.{Pairwise}
 use Rattle.sg_graph.specs.Heap.{Owner, Of, Frag, Nobody, IsKnownEntry, IsHeap}
-use Rattle.sg_rules.specs.Rules.{Constants, StackWord, Mid, Left, Actor, fresh}
+use Rattle.sg_rules.specs.Rules.{Constants, StackWord, Mid, Claim, Left, Actor, fresh}
 use Rattle.sg_order.specs.Rest.{Holds, IsReady, IsHeld, IsEpochOpening, before_it, IsOver, kinds_in}
 use Rattle.sg_rules.specs.Resting.{IsRunnable}
 use Rattle.sg_order.specs.Rest.{StandsAt}
 use Rattle.sg_order.specs.Opening.{AreFirstConstants, AreFirstWords, AreFirstScripts, FirstOpening}
-use Rattle.sg_order.specs.OneOrder.{OneOrder}
+use Rattle.sg_order.specs.OneOrder.{HasPrepared, OneOrder}
 use Rattle.sg_words.proofs.Puts.{within_range, range-in, range-below}
 use Rattle.sg_order.proofs.Events.{range-was}
 use Rattle.sg_order.proofs.Cases.{by_making}
-use Rattle.sg_order.proofs.Relation.{Ground, IsMutator, Tight, AsksForRoom, AtMid, Stacked, Stands, IsHeading, World}
+use Rattle.sg_order.proofs.Relation.{Ground, IsMutator, Tight, AsksForRoom, AtMid, Stacked, Stands, WritesHeader, World}
 use Rattle.sg_order.proofs.Loads.{same_object}
+use Rattle.sg_order.proofs.Stopping.{wanted_so, wanted_at_opening}
 use Rattle.sg_order.proofs.Whole.{one_by_one}
-use Rattle.sg_order.proofs.MayDo.{may_do}
 
 -- an epoch opens with every object headed and every mutator between two statements
 pub at_opening : (p : Program) (lay : Constants) (w : Words) (g : Graph) (b : Book) (actors : ℕ → Actor) → IsEpochOpening p lay w g b actors →
@@ -82,10 +82,11 @@ at_rest p lay w g b said k a s over = go a.mid over s.at
   where
     go : (mid : Mid) → IsOver mid → AtMid p lay w g b said k s.entry s.answers a.script mid → IsMutator g said k s.entry (before_it mid a.script) s.answers
     go mid over = elim over [
-      | inl e ↦ subst (λ mid. AtMid p lay w g b said k s.entry s.answers a.script mid → IsMutator g said k s.entry (before_it mid a.script) s.answers) (sym e)
-          (λ m. m)
-      | inr e ↦ subst (λ mid. AtMid p lay w g b said k s.entry s.answers a.script mid → IsMutator g said k s.entry (before_it mid a.script) s.answers)
-          (sym e.1) (λ m. m.1)
+      | inl e ↦ subst (λ mid. AtMid p lay w g b said k s.entry s.answers a.script mid → IsMutator g said k s.entry (before_it mid a.script) s.answers) (sym e) (λ m. m)
+      | inr gone ↦ elim gone [
+        | inl e ↦ subst (λ mid. AtMid p lay w g b said k s.entry s.answers a.script mid → IsMutator g said k s.entry (before_it mid a.script) s.answers) (sym e.1) (λ m. m.1)
+        | inr e ↦ subst (λ mid. AtMid p lay w g b said k s.entry s.answers a.script mid → IsMutator g said k s.entry (before_it mid a.script) s.answers) (sym e) (λ m. m)
+      ]
     ]
 
 -- the places of a stack hold what they keep
@@ -130,11 +131,30 @@ no_place p lay w g b said owner t k a st s making e =
     let tight = asked_tight p lay b k s making m.0 in
     record { short = tight.short; none = λ f l. tight.below f (let n = t.number in omega arith) }
 
+module _ (p : Program) (lay : Constants) (w : Words) (g : Graph) (b : Book) (said : ℕ → List Answer) (owner : ℕ → Owner)
+    (t : Ground p lay w g b owner) where
+  -- who is right before the exchange of a next word has prepared it
+  has_prepared : (k : ℕ) (a : Actor) → Stands p lay w g b said k a → (s : Statement) (f seen : ℕ) → a.mid ≡ Claim s f seen →
+      HasPrepared p g b k a s f seen
+  has_prepared k a st s f seen e =
+      let m = subst (λ (mid : Mid). AtMid p lay w g b said k st.entry st.answers a.script mid) e st.at in
+      record {
+        makes = m.0;
+        script = m.4.script_is;
+        short = m.2.short;
+        there = let l = m.1 in let n = t.number in omega arith;
+        below = m.2.below;
+        behind = m.5;
+      }
+
 -- who is over writes no header
-over_makes_none : (x : ℕ) (mid : Mid) → IsOver mid → IsHeading x mid → ⊥
+over_makes_none : (x : ℕ) (mid : Mid) → IsOver mid → WritesHeader x mid → ⊥
 over_makes_none x mid over = elim over [
-  | inl e ↦ subst (λ mid. IsHeading x mid → ⊥) (sym e) (λ m. m)
-  | inr e ↦ subst (λ mid. IsHeading x mid → ⊥) (sym e.1) (λ m. m)
+  | inl e ↦ subst (λ mid. WritesHeader x mid → ⊥) (sym e) (λ m. m)
+  | inr gone ↦ elim gone [
+    | inl e ↦ subst (λ mid. WritesHeader x mid → ⊥) (sym e.1) (λ m. m)
+    | inr e ↦ subst (λ mid. WritesHeader x mid → ⊥) (sym e) (λ m. m)
+  ]
 ]
 
 -- where all are over, the words hold the graph
@@ -172,11 +192,15 @@ is_one_order p lay w g b es actors last opening legal follows =
       explains = x.explains;
       deciding = x.order_is;
       apart = apart_by p lay v x.graph x.book x.world.owner x.world.ground;
-      may = λ k s rest idle script. may_do p lay v x.graph x.book x.says x.world.owner x.world.ground k (last k) (x.world.stands k) s rest idle script;
+      fragments = x.world.ground.number;
+      limits = x.world.ground.limits;
+      nexts = x.world.ground.words;
       answers = λ k over. let s = x.world.stands k in s.told ∙ ap (map (by_address x.book))
           (sym (at_rest p lay v x.graph x.book x.says k (last k) s over).says ∙ x.said_is k);
       ready = λ k over. ready_at_rest p lay v x.graph x.book x.says k (last k) (x.world.stands k) over;
       tight = λ k s making e. no_place p lay v x.graph x.book x.says x.world.owner x.world.ground k (last k) (x.world.stands k) s making e;
+      prepared = λ k s f seen e. has_prepared p lay v x.graph x.book x.says x.world.owner x.world.ground k (last k) (x.world.stands k) s f seen e;
+      yielded = λ k e. (wanted_so p lay es w actors last legal follows (wanted_at_opening w actors opening.going opening.idle)).yielded k e;
       held = held_at_rest p lay v x.graph x.book x.says last x.world;
     }
 
@@ -227,7 +251,7 @@ module _ (p : Program) (lay : Constants) (w : Words) (scripts : AreFirstScripts 
       };
       globals = record {
         holds = λ x l. opening.word _;
-        stand = λ x l. refl;
+        known = λ x l. (refl, inl refl);
         empty = λ x l r. opening.word x;
       };
       clear = record { clear = λ x l r none. opening.word x };
@@ -271,6 +295,7 @@ module _ (p : Program) (lay : Constants) (w : Words) (scripts : AreFirstScripts 
       runnable = scripts.runnable k;
     };
     idle = λ k. refl;
+    going = opening.stop;
     untold = λ k. refl;
   }
 

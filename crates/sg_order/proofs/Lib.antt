@@ -8,9 +8,14 @@ pub mod Loads
 pub mod Registers
 pub mod Accesses
 pub mod Makes
+pub mod Globals
 pub mod Places
+pub mod Claims
+pub mod Headers
+pub mod Stopping
 pub mod Whole
-pub mod MayDo
+pub mod Sanity
+pub mod Progress
 pub mod Law
 pub mod SoFar
 pub mod Serving

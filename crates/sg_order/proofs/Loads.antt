@@ -2,6 +2,7 @@
 use Rattle.std.proofs.Common.{◌≡◌, ◌≢◌, ℕ, ◌+◌, ◌<◌, ◌≤◌, true, false, Option, Some, None, List, ◌∷◌, map, inl, inr, sym, refl, ap, ◌∙◌, subst, le_refl, zero-le, nat_lt, Bool, arith}
 use Rattle.std.proofs.lemmas.Bool.{cases_eq, cases_lt, cond-true, cond-false, lt-ltb, le-ltb}
 use Rattle.sg_words.specs.Address.{byte_at, word_at}
+use Rattle.sg_words.specs.Sections.{nursery_base}
 use Rattle.sg_words.specs.Tags.{plain_word}
 use Rattle.sg_words.specs.Words.{put, Words, write}
 use Rattle.sg_program.specs.declared.program.Statement.{Statement}
@@ -18,7 +19,7 @@ use Rattle.sg_program.specs.Tests.{Test, test_of}
 use Rattle.sg_graph.specs.Book.{Book, Books, word_of}
 use Rattle.sg_graph.specs.Heap.{Owner, IsKnown, IsKnownEntry}
 use Rattle.sg_words.specs.declared.steps.Place.TheVariants.{Stop}
-use Rattle.sg_rules.specs.Rules.{Constants, Mid, Idle, TestTag, TestLength, Access, Look, Claim, Ask, Left, Actor, before, within, over, cleared, object_in, looking}
+use Rattle.sg_rules.specs.Rules.{Constants, Mid, Idle, TestTag, TestLength, Access, Look, Claim, Ask, Left, Yielded, Actor, before, within, over, cleared, object_in, looking}
 use Rattle.sg_order.specs.Rest.{kind_of_entry}
 use Rattle.sg_order.specs.Rest.{StandsAt}
 use Rattle.sg_words.proofs.Puts.{put-all, put-along}
@@ -279,10 +280,23 @@ module _ (p : Program) (lay : Constants) (w : Words) (g : Graph) (b : Book) (sai
               (omega arith);
         }) st.entry st.answers st.at))
 
-    pub finds_room : (s : Statement) (f next : ℕ) → next + made_words p s ≤ lay.limit f → Stands p lay w g b said k (within a rest (Look s f)) →
+    -- the word that was seen is the book's
+    seen_is : (f next : ℕ) → f < lay.fragments → w.next f ≡ byte_at next → next ≡ b.next f
+    seen_is f next lf e =
+        let there : f < b.fragments = (let x = t.number in omega arith) in
+        let x = t.words f there in
+        omega arith
+
+    seen_in : (f next : ℕ) → f < lay.fragments → w.next f ≡ byte_at next → nursery_base ≤ next
+    seen_in f next lf e =
+        let z = seen_is f next lf e in
+        let inside = (t.laid.fragments.inside f (let x = t.number in omega arith)).0 in
+        omega arith
+
+    pub finds_room : (s : Statement) (f next : ℕ) → next + made_words p s ≤ lay.limit f → w.next f ≡ byte_at next → Stands p lay w g b said k (within a rest (Look s f)) →
         Kept p lay w g b said k (Look s f) false w (within a rest (Claim s f next))
-    finds_room s f next l st = still p lay w g b said k _ (λ x e. e) owner t _
-        (again p lay w g b said k _ st rest (Claim s f next) (st.at.0, st.at.1, st.at.2, l, st.at.3))
+    finds_room s f next l e st = still p lay w g b said k _ (λ x e. e) owner t _ (again p lay w g b said k _ st rest (Claim s f next)
+        (st.at.0, st.at.1, st.at.2, l, st.at.3, (let z = seen_is f next st.at.1 e in omega arith), seen_in f next st.at.1 e))
 
     -- one more fragment is too small, by the word that was seen
     tighter : (n f next : ℕ) → f < lay.fragments → w.next f ≡ byte_at next → lay.limit f < next + n → Tight b k n f → Tight b k n (f + 1)
@@ -304,9 +318,24 @@ module _ (p : Program) (lay : Constants) (w : Words) (g : Graph) (b : Book) (sai
     finds_small s f next l e st = still p lay w g b said k _ (λ x e. e) owner t _ (again p lay w g b said k _ st rest (looking lay s (f + 1))
         (looks_on s (f + 1) st.at.0 (let u = st.at.1 in omega arith) (tighter (made_words p s) f next st.at.1 e l st.at.2) st.entry st.answers st.at.3))
 
+    -- a claim that is lost: the word that was found leaves room in the same fragment, or it doesn't
+    pub claims_again : (s : Statement) (f seen next : ℕ) → next + made_words p s ≤ lay.limit f → w.next f ≡ byte_at next → Stands p lay w g b said k (within a rest (Claim s f seen)) →
+        Kept p lay w g b said k (Claim s f seen) false w (within a rest (Claim s f next))
+    claims_again s f seen next l e st = still p lay w g b said k _ (λ x e. e) owner t _ (again p lay w g b said k _ st rest (Claim s f next)
+        (st.at.0, st.at.1, st.at.2, l, st.at.4, (let z = seen_is f next st.at.1 e in omega arith), seen_in f next st.at.1 e))
+
+    pub claims_on : (s : Statement) (f seen next : ℕ) → lay.limit f < next + made_words p s → w.next f ≡ byte_at next → Stands p lay w g b said k (within a rest (Claim s f seen)) →
+        Kept p lay w g b said k (Claim s f seen) false w (within a rest (looking lay s (f + 1)))
+    claims_on s f seen next l e st = still p lay w g b said k _ (λ x e. e) owner t _ (again p lay w g b said k _ st rest (looking lay s (f + 1))
+        (looks_on s (f + 1) st.at.0 (let u = st.at.1 in omega arith) (tighter (made_words p s) f next st.at.1 e l st.at.2) st.entry st.answers st.at.4))
+
     -- a collection
     pub wants : Stands p lay w g b said k (before a (Collect false) rest) → Kept p lay w g b said k Idle false w (within a rest (Ask (Collect false)))
     wants st = still p lay w g b said k _ (λ x e. e) owner t _ (again p lay w g b said k _ st rest (Ask (Collect false)) (tt, st.at))
+
+    -- another one asks for a stop
+    pub gives_way : (s : Statement) → Stands p lay w g b said k (before a s rest) → Kept p lay w g b said k Idle false w (within a (s ∷ rest) Yielded)
+    gives_way s st = still p lay w g b said k _ (λ x e. e) owner t _ (again p lay w g b said k _ st (s ∷ rest) Yielded st.at)
 
     -- the stop word is set: it enters into nothing
     pub leaves : (s : Statement) → Stands p lay w g b said k (within a rest (Ask s)) →

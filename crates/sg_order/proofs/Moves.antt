@@ -20,7 +20,7 @@ use Rattle.sg_rules.specs.Resting.{IsRunnable}
 use Rattle.sg_order.specs.Rest.{StandsAt}
 use Rattle.sg_words.proofs.Puts.{put-same, put-other, put-all}
 use Rattle.sg_order.proofs.Frame.{answers_push, given_push, stack_later}
-use Rattle.sg_order.proofs.Relation.{Ground, IsGiven, IsMutator, AtMid, Stacked, Stands, Later, IsHeading, Heads, Kept}
+use Rattle.sg_order.proofs.Relation.{Ground, IsGiven, IsMutator, AtMid, Stacked, Stands, Later, WritesHeader, Heads, Kept}
 
 -- h, where mutator k has this in its registers and on its stack, and these statements before it
 abbrev pub handed_with : Graph → ℕ → List Statement → (ℕ → Entry) → List Entry → Graph
@@ -53,7 +53,7 @@ laid_mutators p w g b owner m t = record {
   nothing = t.nothing;
   objects = t.objects;
   fields = record { holds = t.fields.holds; known = t.fields.known; sorted = t.fields.sorted };
-  globals = t.globals;
+  globals = record { holds = t.globals.holds; known = t.globals.known; empty = t.globals.empty };
   clear = t.clear;
   fragments = t.fragments;
   buffers = t.buffers;
@@ -110,7 +110,7 @@ offsets_both g b offset register d o entry here there = put-all (λ r e. StandsA
 
 -- nothing stands new, and no header was about to be written
 pub no_heads : (w : Words) (g : Graph) (b : Book) (mid : Mid) (v : Words) (h : Graph) (c : Book) (next_mid : Mid) →
-    ((n : ℕ) → c.stands n ≡ true → b.stands n ≡ true) → ((x : ℕ) → IsHeading x mid → ⊥) → Heads w g b mid v h c next_mid
+    ((n : ℕ) → c.stands n ≡ true → b.stands n ≡ true) → ((x : ℕ) → WritesHeader x mid → ⊥) → Heads w g b mid v h c next_mid
 no_heads w g b mid v h c next_mid back none = record { begun = λ n q. inl (back n q); done = λ n q m. absurd (none (b.address n) m) }
 
 -- who has a statement before it hasn't ended
@@ -141,7 +141,7 @@ module _ (p : Program) (lay : Constants) (w : Words) (g : Graph) (b : Book) (sai
   silent mid v h c ch eh ec a heads s = record { h = h; c = c; said' = said; owner = ch.owner; moves = (eh, ec, refl); later = ch.later; heads = heads; ground = ch.ground; stands = s }
 
   -- a step that changes nothing but where its mutator stands
-  pub still : (mid : Mid) → ((x : ℕ) → IsHeading x mid → ⊥) → (owner : ℕ → Owner) → Ground p lay w g b owner → (a : Actor) → Stands p lay w g b said k a →
+  pub still : (mid : Mid) → ((x : ℕ) → WritesHeader x mid → ⊥) → (owner : ℕ → Owner) → Ground p lay w g b owner → (a : Actor) → Stands p lay w g b said k a →
       Kept p lay w g b said k mid false w a
   still mid none owner t a s = silent mid w g b (unchanged owner t) refl refl a (no_heads w g b mid w g b a.mid (λ n q. q) none) s
 
@@ -250,7 +250,7 @@ module _ (p : Program) (lay : Constants) (w : Words) (g : Graph) (b : Book) (sai
       }
 
   -- a deciding step with which the statement ends
-  pub decided_with : (mid : Mid) → ((x : ℕ) → IsHeading x mid → ⊥) → (v : Words) (h : Graph) → Change p lay w g b said k v h b →
+  pub decided_with : (mid : Mid) → ((x : ℕ) → WritesHeader x mid → ⊥) → (v : Words) (h : Graph) → Change p lay w g b said k v h b →
       (a : Actor) (s : Statement) (rest : List Statement) (st : Stands p lay w g b said k a)
       (register : ℕ → Entry) (stack : List Entry) (answer : Answer) (areg aoffset : ℕ → ℕ) (slots : List StackWord) (word : Answer) →
       IsMutator g said k st.entry (s ∷ rest) st.answers →
@@ -282,7 +282,7 @@ module _ (p : Program) (lay : Constants) (w : Words) (g : Graph) (b : Book) (sai
       })
 
   -- the same, where the stack and the offsets stay
-  pub decided : (mid : Mid) → ((x : ℕ) → IsHeading x mid → ⊥) → (v : Words) (h : Graph) → (ch : Change p lay w g b said k v h b) →
+  pub decided : (mid : Mid) → ((x : ℕ) → WritesHeader x mid → ⊥) → (v : Words) (h : Graph) → (ch : Change p lay w g b said k v h b) →
       (a : Actor) (s : Statement) (rest : List Statement) (st : Stands p lay w g b said k a)
       (register : ℕ → Entry) (answer : Answer) (areg : ℕ → ℕ) (word : Answer) →
       IsMutator g said k st.entry (s ∷ rest) st.answers →

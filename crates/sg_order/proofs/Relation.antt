@@ -3,6 +3,7 @@ use Rattle.std.proofs.Common.{◌≡◌, ◌≢◌, ℕ, ◌+◌, ◌<◌, ◌�
 use Rattle.std.specs.List.{AllByRecursion}
 use Rattle.sg_words.specs.Address.{byte_at}
 use Rattle.sg_words.specs.Words.{put, Words}
+use Rattle.sg_words.specs.Sections.{nursery_base}
 use Rattle.sg_program.specs.declared.program.Statement.{Statement}
 use Rattle.sg_program.specs.declared.program.Statement.TheVariants.{New, NewV, Hide, Collect}
 use Rattle.sg_program.specs.declared.program.Program.{Program}
@@ -18,7 +19,8 @@ use Rattle.sg_graph.specs.Epoch.{Turn, by_address}
 use Rattle.sg_words.specs.Lists.{Pairwise}
 use Rattle.sg_graph.specs.Invariants.{IsPlain}
 use Rattle.sg_graph.specs.Heap.{Owner, IsHeaded, IsKnown, IsKnownEntry, IsLaid}
-use Rattle.sg_rules.specs.Rules.{Constants, StackWord, Mid, Idle, TestTag, TestLength, Access, Look, Claim, StoreLength, StoreTag, HideLength, Ask, Left, Actor}
+use Rattle.sg_rules.specs.Rules.{Constants, StackWord, Mid, Idle, TestTag, TestLength, Access, AccessGlobal, Look, Claim, StoreLength, StoreTag, HideLength, Ask, Left, Yielded, Actor, IsGlobal}
+use Rattle.sg_rules.specs.Sane.{IsHeading}
 use Rattle.sg_order.specs.Rest.{kinds_in, Holds}
 use Rattle.sg_rules.specs.Resting.{IsRunnable}
 use Rattle.sg_order.specs.Rest.{StandsAt}
@@ -81,7 +83,7 @@ pub record Tested (p : Program) (g : Graph) (entry : ℕ → Entry) (s : Stateme
   pub some : name ≢ 0
   pub finds : has_field test.sort (kind_of p (g.class name)) (g.size name) test.field ≡ true
 
--- the new object with this name has its place, and mutator k of the graph is ahead: it has its answer
+-- the new object with this name has its place in the nursery, and mutator k of the graph is ahead: it has its answer
 pub record Placed (p : Program) (g : Graph) (b : Book) (said : ℕ → List Answer) (k : ℕ) (entry : ℕ → Entry) (answers : List Answer) (rest : List Statement)
     (s : Statement) (x : ℕ) : Type 0 where
   pub name : ℕ
@@ -90,6 +92,7 @@ pub record Placed (p : Program) (g : Graph) (b : Book) (said : ℕ → List Answ
   pub address : b.address name ≡ x
   pub size : g.size name ≡ made_fields p s
   pub class_is : g.class name ≡ made_class s
+  pub heading : IsHeading p s x
   pub ahead : IsMutator g said k (put entry (made_in s) (Ref name)) rest (answers ++ At name ∷ [])
 
 -- The graph's mutator, by where the mutator of the program stands in its statement. From the deciding step on it is ahead.
@@ -99,15 +102,18 @@ AtMid p lay w g b said k entry answers rest (TestTag s test) = Testing entry s t
 AtMid p lay w g b said k entry answers rest (TestLength s test class) =
     (t : Testing entry s test) × (class ≡ g.class t.name) × IsMutator g said k entry (s ∷ rest) answers
 AtMid p lay w g b said k entry answers rest (Access s) = (test : Test) × Tested p g entry s test × IsMutator g said k entry (s ∷ rest) answers
+AtMid p lay w g b said k entry answers rest (AccessGlobal s) = IsGlobal s × IsMutator g said k entry (s ∷ rest) answers
 AtMid p lay w g b said k entry answers rest (Look s f) =
     IsMaking s × (f < lay.fragments) × Tight b k (made_words p s) f × IsMutator g said k entry (s ∷ rest) answers
 AtMid p lay w g b said k entry answers rest (Claim s f next) =
     IsMaking s × (f < lay.fragments) × Tight b k (made_words p s) f × (next + made_words p s ≤ lay.limit f) × IsMutator g said k entry (s ∷ rest) answers
+    × (next ≤ b.next f) × (nursery_base ≤ next)
 AtMid p lay w g b said k entry answers rest (StoreLength s x) = Placed p g b said k entry answers rest s x
 AtMid p lay w g b said k entry answers rest (StoreTag s x) = Placed p g b said k entry answers rest s x × (w.word (x + 1) ≡ made_fields p s)
 AtMid p lay w g b said k entry answers rest (HideLength d s offset) =
     (name : ℕ) × (entry s ≡ Ref name) × (name ≢ 0) × IsMutator g said k entry (Hide d s offset ∷ rest) answers
 AtMid p lay w g b said k entry answers rest (Ask s) = AsksForRoom p lay b k s × IsMutator g said k entry (s ∷ rest) answers
+AtMid p lay w g b said k entry answers rest Yielded = IsMutator g said k entry rest answers
 AtMid p lay w g b said k entry answers rest (Left s) = AsksForRoom p lay b k s × IsMutator g said k entry (s ∷ rest) answers
 
 -- the word and the offset are those of the entry, which is known
@@ -155,16 +161,16 @@ Moves p g b said k true h c said' = (answer : Answer) × Turn p g b (record { by
 Moves p g b said k false h c said' = (h ≡ g) × (c ≡ b) × (said' ≡ said)
 
 -- the mutator is about to write the header of the new object at x
-abbrev pub IsHeading : ℕ → Mid → Type 0
-IsHeading x (StoreLength s y) = x ≡ y
-IsHeading x (StoreTag s y) = x ≡ y
-IsHeading x mid = ⊥
+abbrev pub WritesHeader : ℕ → Mid → Type 0
+WritesHeader x (StoreLength s y) = x ≡ y
+WritesHeader x (StoreTag s y) = x ≡ y
+WritesHeader x mid = ⊥
 
 -- What a step of a mutator leaves to do: what stands new is about to get its header, and what was about to get it has it or is
 -- still about to.
 pub record Heads (w : Words) (g : Graph) (b : Book) (mid : Mid) (v : Words) (h : Graph) (c : Book) (mid' : Mid) : Type 0 where
-  pub begun : (n : ℕ) → c.stands n ≡ true → (b.stands n ≡ true) ⊎ IsHeading (c.address n) mid'
-  pub done : (n : ℕ) → b.stands n ≡ true → IsHeading (b.address n) mid → IsHeaded v.word h c n ⊎ IsHeading (c.address n) mid'
+  pub begun : (n : ℕ) → c.stands n ≡ true → (b.stands n ≡ true) ⊎ WritesHeader (c.address n) mid'
+  pub done : (n : ℕ) → b.stands n ≡ true → WritesHeader (b.address n) mid → IsHeaded v.word h c n ⊎ WritesHeader (c.address n) mid'
 
 -- what a step of mutator k, which stood at `mid`, gives
 pub record Kept (p : Program) (lay : Constants) (w : Words) (g : Graph) (b : Book) (said : ℕ → List Answer) (k : ℕ) (mid : Mid) (decides : Bool) (v : Words)
@@ -184,4 +190,4 @@ pub record World (p : Program) (lay : Constants) (w : Words) (g : Graph) (b : Bo
   pub owner : ℕ → Owner
   pub ground : Ground p lay w g b owner
   pub stands : (k : ℕ) → Stands p lay w g b said k (actors k)
-  pub headed : (n : ℕ) → 1 ≤ n → b.stands n ≡ true → IsHeaded w.word g b n ⊎ ((k : ℕ) × IsHeading (b.address n) (actors k).mid)
+  pub headed : (n : ℕ) → 1 ≤ n → b.stands n ≡ true → IsHeaded w.word g b n ⊎ ((k : ℕ) × WritesHeader (b.address n) (actors k).mid)

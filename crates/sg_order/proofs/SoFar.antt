@@ -5,12 +5,19 @@ use Rattle.std.proofs.lemmas.List.{append-nil}
 use Rattle.sg_words.specs.declared.steps.Tick.{Tick}
 use Rattle.sg_words.specs.Words.{Words, after_step, after, Legal}
 use Rattle.sg_words.specs.Events.{Event, ticks, part, by_one}
+use Rattle.sg_program.specs.declared.answers.Answer.{Answer}
+use Rattle.sg_graph.specs.Graph.{Graph}
+use Rattle.sg_graph.specs.Book.{Book}
 use Rattle.sg_program.specs.declared.program.Program.{Program}
 use Rattle.sg_rules.specs.Rules.{Constants, Actor, Follows}
-use Rattle.sg_order.specs.OneOrder.{IsOneOrder, OpensSoFar, GoesSoFar, OrdersSoFar}
+use Rattle.sg_order.specs.OneOrder.{IsOneOrder, OpensSoFar, GoesSoFar, IsSoFar, OrdersSoFar, AreGoing, GoesAlways}
 use Rattle.sg_words.proofs.Puts.{put-all}
 use Rattle.sg_order.proofs.Events.{part-own, part-none, ticks-own}
-use Rattle.sg_order.proofs.Law.{is_one_order}
+use Rattle.sg_order.proofs.Relation.{World}
+use Rattle.sg_order.proofs.Whole.{Explained, one_by_one}
+use Rattle.sg_order.proofs.Sanity.{is_sane}
+use Rattle.sg_order.proofs.Progress.{goes_on}
+use Rattle.sg_order.proofs.Law.{at_opening, is_one_order}
 
 after_more : (w : Words) (ss ts : List Tick) → after w (ss ++ ts) ≡ after (after w ss) ts
 after_more w [] ts = refl
@@ -64,3 +71,22 @@ goes_so_far p lay g b w actors k a v so went =
 pub orders_so_far : OrdersSoFar
 orders_so_far p lay g b w actors so = subst (λ v. IsOneOrder p lay g b so.events v actors) so.is
     (is_one_order p lay so.opened g b so.events so.first actors so.opening so.legal so.follows)
+
+-- in the midst of an epoch one order explains what came so far, and the words and the mutators stand to the graph after it
+pub explained_so_far : (p : Program) (lay : Constants) (g : Graph) (b : Book) (w : Words) (actors : ℕ → Actor) → (so : IsSoFar p lay g b w actors) →
+    Explained p lay so.events so.opened g b (λ _. []) actors
+explained_so_far p lay g b w actors so =
+    one_by_one p lay so.events so.opened g b (λ _. []) so.first actors (at_opening p lay so.opened g b so.first so.opening) so.legal so.follows
+
+going : (p : Program) (lay : Constants) (w : Words) (g : Graph) (b : Book) (said : ℕ → List Answer) (actors : ℕ → Actor) →
+    World p lay w g b said actors → AreGoing p lay w actors
+going p lay w g b said actors wo = record {
+  sane = λ k. is_sane p lay w g b said wo.owner wo.ground k (actors k) (wo.stands k);
+  goes_on = λ k step a other acts e saw.
+      goes_on p lay w g b said k wo.owner wo.ground (actors k) step acts.0 a acts.1 (wo.stands k) other e saw;
+}
+
+pub goes_always : GoesAlways
+goes_always p lay g b w actors so =
+    let x = explained_so_far p lay g b w actors so in
+    subst (λ v. AreGoing p lay v actors) so.is (going p lay (after so.opened (ticks so.events)) x.graph x.book x.says actors x.world)

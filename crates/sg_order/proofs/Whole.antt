@@ -12,15 +12,17 @@ use Rattle.sg_graph.specs.Book.{Book}
 use Rattle.sg_graph.specs.Epoch.{Said, Explains, answers_of}
 use Rattle.sg_graph.specs.Heap.{Owner, IsHeaded}
 use Rattle.sg_rules.specs.Rules.{Constants, Actor, Comes, Follows}
-use Rattle.sg_rules.specs.Rules.Comes.{test_null, test_begins, loads_tag, loads_length, test_fails, put_stores, putd_stores, get_loads, getd_loads, num_sets, drop_clears, move_sets, push_sets, pop_sets, hide_null, hide_begins, hide_fits, hide_misses, unhide_sets, same_tells, new_bumps, new_looks, look_finds, look_goes_on, minor_asks, asks, claim_wins, stores_length, stores_tag}
+use Rattle.sg_rules.specs.Rules.Comes.{test_null, test_begins, loads_tag, loads_length, test_fails, put_stores, putd_stores, get_loads, getd_loads, global_begins, gput_stores, gget_loads, num_sets, drop_clears, move_sets, push_sets, pop_sets, hide_null, hide_begins, hide_fits, hide_misses, unhide_sets, same_tells, new_bumps, new_looks, look_finds, look_goes_on, minor_asks, asks, yields, claim_wins, claim_moves, claim_goes_on, stores_length, stores_tag}
 use Rattle.sg_words.proofs.Puts.{put-at, put-same, put-other, put-all}
 use Rattle.sg_order.proofs.Events.{part-same, part-other}
-use Rattle.sg_order.proofs.Relation.{Ground, Stands, Moves, IsHeading, Kept, World}
+use Rattle.sg_order.proofs.Relation.{Ground, Stands, Moves, WritesHeader, Kept, World}
 use Rattle.sg_order.proofs.Frame.{stands_later}
-use Rattle.sg_order.proofs.Loads.{nulls, begins, fails, sees_tag, sees_length, sets_number, clears, searches, finds_room, finds_small, wants, leaves}
+use Rattle.sg_order.proofs.Loads.{nulls, begins, fails, sees_tag, sees_length, sets_number, clears, searches, finds_room, finds_small, claims_again, claims_on, wants, gives_way, leaves}
 use Rattle.sg_order.proofs.Registers.{moves_over, pushes, takes_top, hides_nothing, begins_hiding, hides, hides_no_byte, unhides, compares}
 use Rattle.sg_order.proofs.Accesses.{puts, puts_number, gets, gets_number}
-use Rattle.sg_order.proofs.Places.{bumps, claims, writes_length, writes_tag}
+use Rattle.sg_order.proofs.Globals.{begins_global, puts_global, gets_global}
+use Rattle.sg_order.proofs.Claims.{bumps, claims}
+use Rattle.sg_order.proofs.Headers.{writes_length, writes_tag}
 
 module _ (p : Program) (lay : Constants) (w : Words) (g : Graph) (b : Book) (said : ℕ → List Answer) (k : ℕ) (owner : ℕ → Owner)
     (t : Ground p lay w g b owner) where
@@ -29,13 +31,16 @@ module _ (p : Program) (lay : Constants) (w : Words) (g : Graph) (b : Book) (sai
       Kept p lay w g b said k a.mid d (after_step w e) a'
   kept _ _ _ _ (test_null a s rest test e z) saw st = nulls p lay w g b said k owner t a rest s test e z st
   kept _ _ _ _ (test_begins a s rest test e z) saw st = begins p lay w g b said k owner t a rest s test e z st
-  kept _ _ _ _ (loads_tag a s rest test class) saw st = sees_tag p lay w g b said k owner t a rest s test class saw st
-  kept _ _ _ _ (loads_length a s rest test class len f) saw st = sees_length p lay w g b said k owner t a rest s test class len f saw st
-  kept _ _ _ _ (test_fails a s rest test class len f) saw st = fails p lay w g b said k owner t a rest s test class len f saw st
+  kept _ _ _ _ (loads_tag a s rest test class there) saw st = sees_tag p lay w g b said k owner t a rest s test class saw st
+  kept _ _ _ _ (loads_length a s rest test class len short f) saw st = sees_length p lay w g b said k owner t a rest s test class len f saw st
+  kept _ _ _ _ (test_fails a s rest test class len short f) saw st = fails p lay w g b said k owner t a rest s test class len f saw st
   kept _ _ _ _ (put_stores a rest r i s) saw st = puts p lay w g b said k owner t a rest r i s st
   kept _ _ _ _ (putd_stores a rest r i s) saw st = puts_number p lay w g b said k owner t a rest r i s st
-  kept _ _ _ _ (get_loads a rest d r i v) saw st = gets p lay w g b said k owner t a rest d r i v saw st
+  kept _ _ _ _ (get_loads a rest d r i v ref) saw st = gets p lay w g b said k owner t a rest d r i v saw st
   kept _ _ _ _ (getd_loads a rest d r i v) saw st = gets_number p lay w g b said k owner t a rest d r i v saw st
+  kept _ _ _ _ (global_begins a s rest is) saw st = begins_global p lay w g b said k owner t a rest s is st
+  kept _ _ _ _ (gput_stores a rest x r) saw st = puts_global p lay w g b said k owner t a rest x r st
+  kept _ _ _ _ (gget_loads a rest r x v ref) saw st = gets_global p lay w g b said k owner t a rest r x v saw st
   kept _ _ _ _ (num_sets a rest d n) saw st = sets_number p lay w g b said k owner t a rest d n st
   kept _ _ _ _ (drop_clears a rest r) saw st = clears p lay w g b said k owner t a rest r st
   kept _ _ _ _ (move_sets a rest d s) saw st = moves_over p lay w g b said k owner t a rest d s st
@@ -43,17 +48,20 @@ module _ (p : Program) (lay : Constants) (w : Words) (g : Graph) (b : Book) (sai
   kept _ _ _ _ (pop_sets a rest r top stack e) saw st = takes_top p lay w g b said k owner t a rest r top stack e st
   kept _ _ _ _ (hide_null a rest d s offset z) saw st = hides_nothing p lay w g b said k owner t a rest d s offset z st
   kept _ _ _ _ (hide_begins a rest d s offset z) saw st = begins_hiding p lay w g b said k owner t a rest d s offset z st
-  kept _ _ _ _ (hide_fits a rest d s offset len f) saw st = hides p lay w g b said k owner t a rest d s offset len f saw st
-  kept _ _ _ _ (hide_misses a rest d s offset len f) saw st = hides_no_byte p lay w g b said k owner t a rest d s offset len f saw st
+  kept _ _ _ _ (hide_fits a rest d s offset len short f) saw st = hides p lay w g b said k owner t a rest d s offset len f saw st
+  kept _ _ _ _ (hide_misses a rest d s offset len short f) saw st = hides_no_byte p lay w g b said k owner t a rest d s offset len f saw st
   kept _ _ _ _ (unhide_sets a rest d s) saw st = unhides p lay w g b said k owner t a rest d s st
   kept _ _ _ _ (same_tells a rest r s) saw st = compares p lay w g b said k owner t a rest r s st
   kept _ _ _ _ (new_bumps a s rest making l) saw st = bumps p lay w g b said k owner t a rest s making l st
   kept _ _ _ _ (new_looks a s rest making l) saw st = searches p lay w g b said k owner t a rest s making l st
-  kept _ _ _ _ (look_finds a s rest f next l) saw st = finds_room p lay w g b said k owner t a rest s f next l st
+  kept _ _ _ _ (look_finds a s rest f next l) saw st = finds_room p lay w g b said k owner t a rest s f next l saw st
   kept _ _ _ _ (look_goes_on a s rest f next l) saw st = finds_small p lay w g b said k owner t a rest s f next l saw st
   kept _ _ _ _ (minor_asks a rest) saw st = wants p lay w g b said k owner t a rest st
   kept _ _ _ _ (asks a rest s) saw st = leaves p lay w g b said k owner t a rest s st
+  kept _ _ _ _ (yields a s rest word set) saw st = gives_way p lay w g b said k owner t a rest s st
   kept _ _ _ _ (claim_wins a s rest f next) saw st = claims p lay w g b said k owner t a rest s f next saw st
+  kept _ _ _ _ (claim_moves a s rest f seen next later l) saw st = claims_again p lay w g b said k owner t a rest s f seen next l saw.0 st
+  kept _ _ _ _ (claim_goes_on a s rest f seen next later l) saw st = claims_on p lay w g b said k owner t a rest s f seen next l saw.0 st
   kept _ _ _ _ (stores_length a s rest x) saw st = writes_length p lay w g b said k owner t a rest s x st
   kept _ _ _ _ (stores_tag a s rest x) saw st = writes_tag p lay w g b said k owner t a rest s x st
 
@@ -114,22 +122,22 @@ more p lay k tick es w g b said last h c said1 m x = go tick.decides m
 -- after a step each object is headed, or a mutator is about to write its header
 headed_later : (p : Program) (lay : Constants) (w : Words) (g : Graph) (b : Book) (said : ℕ → List Answer) (actors : ℕ → Actor) (k : ℕ) (d : Bool) (v : Words)
     (a : Actor) →
-    ((n : ℕ) → 1 ≤ n → b.stands n ≡ true → IsHeaded w.word g b n ⊎ ((j : ℕ) × IsHeading (b.address n) (actors j).mid)) →
+    ((n : ℕ) → 1 ≤ n → b.stands n ≡ true → IsHeaded w.word g b n ⊎ ((j : ℕ) × WritesHeader (b.address n) (actors j).mid)) →
     (step : Kept p lay w g b said k (actors k).mid d v a) →
-    (n : ℕ) → 1 ≤ n → step.c.stands n ≡ true → IsHeaded v.word step.h step.c n ⊎ ((j : ℕ) × IsHeading (step.c.address n) (put actors k a j).mid)
+    (n : ℕ) → 1 ≤ n → step.c.stands n ≡ true → IsHeaded v.word step.h step.c n ⊎ ((j : ℕ) × WritesHeader (step.c.address n) (put actors k a j).mid)
 headed_later p lay w g b said actors k d v a before step n l q =
-    let here : IsHeading (step.c.address n) a.mid →
-    IsHeading (step.c.address n) (put actors k a k).mid = λ m. subst (λ (x : Actor). IsHeading (step.c.address n) x.mid) (sym (put-same actors k a)) m in
+    let here : WritesHeader (step.c.address n) a.mid →
+    WritesHeader (step.c.address n) (put actors k a k).mid = λ m. subst (λ (x : Actor). WritesHeader (step.c.address n) x.mid) (sym (put-same actors k a)) m in
     elim (step.heads.begun n q) [
       | inr m ↦ inr (k, here m)
       | inl old ↦ elim (before n l old) [
         | inl h ↦ elim (step.later.known n (old, inr h)).1 [ inl z ↦ absurd (omega arith) | inr h ↦ inl h ]
         | inr m ↦ elim (cases_eq m.0 k) [
-          | inl e ↦ elim (step.heads.done n old (subst (λ j. IsHeading (b.address n) (actors j).mid) e m.1)) [ inl h ↦ inl h | inr m ↦ inr (k, here m) ]
+          | inl e ↦ elim (step.heads.done n old (subst (λ j. WritesHeader (b.address n) (actors j).mid) e m.1)) [ inl h ↦ inl h | inr m ↦ inr (k, here m) ]
           | inr o ↦ inr (
             m.0,
-            subst (λ (x : Actor). IsHeading (step.c.address n) x.mid) (sym (put-other actors k a m.0 o))
-                (subst (λ x. IsHeading x (actors m.0).mid) (sym (step.later.address n old)) m.1),
+            subst (λ (x : Actor). WritesHeader (step.c.address n) x.mid) (sym (put-other actors k a m.0 o))
+                (subst (λ x. WritesHeader x (actors m.0).mid) (sym (step.later.address n old)) m.1),
           )
         ]
       ]
@@ -153,7 +161,7 @@ one_by_one p lay [] w g b said actors last wo legal follows = record {
     headed = λ n l q. elim (wo.headed n l q) [
       | inl h ↦ inl h
       | inr m ↦ inr
-          (m.0, subst (λ (a : Actor). IsHeading (b.address n) a.mid) (sym (follows m.0)) m.1)
+          (m.0, subst (λ (a : Actor). WritesHeader (b.address n) a.mid) (sym (follows m.0)) m.1)
     ];
   };
 }

@@ -1,21 +1,36 @@
 -- The law of one order: what the atomic steps of any number of mutators, in any legal list, say of whole statements.
-use Rattle.std.specs.Prelude.{◌≡◌, ℕ, List, ◌∷◌, map}
-use Rattle.sg_words.specs.Words.{put, Words, after, Legal}
+use Rattle.std.specs.Prelude.{◌≡◌, ℕ, ◌<◌, ◌≤◌, List, ◌∷◌, map}
+use Rattle.sg_words.specs.Address.{byte_at}
+use Rattle.sg_words.specs.declared.steps.Step.{Step}
+use Rattle.sg_words.specs.Calls.{call_of}
+use Rattle.sg_words.specs.Words.{put, Words, Saw, after, Legal}
 use Rattle.sg_words.specs.Events.{Event, ticks, part, order_of}
 use Rattle.sg_program.specs.declared.program.Statement.{Statement}
 use Rattle.sg_program.specs.declared.program.Program.{Program}
 use Rattle.sg_graph.specs.Graph.{Graph}
 use Rattle.sg_program.specs.Scripts.{IsMaking, made_words}
-use Rattle.sg_graph.specs.Book.{Book, HasNoPlace, IsApart}
+use Rattle.sg_graph.specs.Book.{Book, IsShort, LacksRoom, HasNoPlace, IsApart}
 use Rattle.sg_graph.specs.Epoch.{Said, Explains, answers_of, by_address}
-use Rattle.sg_rules.specs.Rules.{Constants, Actor, Idle, Left, Follows, Went}
-use Rattle.sg_rules.specs.Resting.{MayDo}
-use Rattle.sg_order.specs.Rest.{IsReady, IsHeld, IsEpochOpening, before_it, IsOver}
+use Rattle.sg_rules.specs.Rules.{Constants, Actor, Claim, Left, Yielded, Follows, Went}
+use Rattle.sg_rules.specs.Sane.{IsSane}
+use Rattle.sg_rules.specs.Acting.{Acts}
+use Rattle.sg_order.specs.Rest.{IsReady, IsHeld, IsEpochOpening, before_it, IsOver, IsWanted}
 
--- Whole statements, in the order of the deciding steps of the list, lead to a graph and a book; the standing objects are apart.
--- A mutator that is between two statements may do the next one. One that is, or has left, has the answers of the graph, read
--- through the book, and stands where the graph's mutator stands; who left with a new object had no room in its buffer and in no
--- fragment. Where all are so, the words v, to which the list led, hold the graph by the book.
+-- Mutator k, which is a, has prepared the exchange of the next word of fragment f, which it saw: the statement s makes an object, for
+-- which its buffer and the fragments below f are too short.
+pub record HasPrepared (p : Program) (g : Graph) (b : Book) (k : ℕ) (a : Actor) (s : Statement) (f seen : ℕ) : Type 0 where
+  pub makes : IsMaking s
+  pub script : (g.mutator k).script ≡ s ∷ a.script
+  pub short : IsShort b k (made_words p s)
+  pub there : f < b.fragments
+  pub below : (j : ℕ) → j < f → LacksRoom b (made_words p s) j
+  pub behind : seen ≤ b.next f
+
+-- Whole statements, in the order of the deciding steps of the list, lead to a graph and a book; the standing objects are apart, and
+-- the fragments of the words v, to which the list led, are the book's. A mutator that is between two statements, or has left, has the
+-- answers of the graph, read through the book, and stands where the graph's mutator stands; who left with a new object had no room in
+-- its buffer and in no fragment, and who left without a statement did so since another one asked for a stop. Where all are so, the
+-- words v hold the graph by the book.
 pub record IsOneOrder (p : Program) (lay : Constants) (g : Graph) (b : Book) (es : List Event) (v : Words) (last : ℕ → Actor) : Type 0 where
   pub order : List Said
   pub graph : Graph
@@ -23,10 +38,14 @@ pub record IsOneOrder (p : Program) (lay : Constants) (g : Graph) (b : Book) (es
   pub explains : Explains p g b order graph book
   pub deciding : map (λ (s : Said). s.by) order ≡ order_of es
   pub apart : IsApart p graph book
-  pub may : (k : ℕ) (s : Statement) (rest : List Statement) → (last k).mid ≡ Idle → (last k).script ≡ s ∷ rest → MayDo p lay v (last k) s
+  pub fragments : book.fragments ≡ lay.fragments
+  pub limits : (f : ℕ) → f < book.fragments → book.limit f ≡ lay.limit f
+  pub nexts : (f : ℕ) → f < book.fragments → v.next f ≡ byte_at (book.next f)
   pub answers : (k : ℕ) → IsOver (last k).mid → (last k).told ≡ map (by_address book) (answers_of k order)
   pub ready : (k : ℕ) → IsOver (last k).mid → IsReady p graph book k (last k) (before_it (last k).mid (last k).script)
   pub tight : (k : ℕ) (s : Statement) → IsMaking s → (last k).mid ≡ Left s → HasNoPlace book k (made_words p s)
+  pub prepared : (k : ℕ) (s : Statement) (f seen : ℕ) → (last k).mid ≡ Claim s f seen → HasPrepared p graph book k (last k) s f seen
+  pub yielded : (k : ℕ) → (last k).mid ≡ Yielded → IsWanted last
   pub held : ((k : ℕ) → IsOver (last k).mid) → IsHeld p lay v graph book
 
 -- every legal list of steps of mutators that follow their programs from an epoch's opening on has one order
@@ -63,3 +82,13 @@ abbrev pub OrdersSoFar : Type 0
 OrdersSoFar =
     (p : Program) (lay : Constants) (g : Graph) (b : Book) (w : Words) (actors : ℕ → Actor) → (so : IsSoFar p lay g b w actors) →
     IsOneOrder p lay g b so.events w actors
+
+-- In the midst of an epoch each mutator is sane, and whatever a call for a next step of it sees then, a step comes next.
+pub record AreGoing (p : Program) (lay : Constants) (w : Words) (actors : ℕ → Actor) : Type 0 where
+  pub sane : (k : ℕ) → IsSane p lay (actors k)
+  pub goes_on : (k : ℕ) (step : Step) (a : Actor) (other : Step) → Acts p lay (actors k) step a → call_of other ≡ call_of step → Saw w other →
+      (b : Actor) × Acts p lay (actors k) other b
+
+abbrev pub GoesAlways : Type 0
+GoesAlways =
+    (p : Program) (lay : Constants) (g : Graph) (b : Book) (w : Words) (actors : ℕ → Actor) → IsSoFar p lay g b w actors → AreGoing p lay w actors

@@ -13,7 +13,7 @@ use Rattle.sg_graph.specs.Book.{Book, word_of}
 use Rattle.sg_words.specs.Lists.{Pairwise}
 use Rattle.sg_graph.specs.Invariants.{IsPlain}
 use Rattle.sg_graph.specs.Heap.{Owner, IsHeap}
-use Rattle.sg_rules.specs.Rules.{Constants, StackWord, Actor, Mid, Idle, Left}
+use Rattle.sg_rules.specs.Rules.{Constants, StackWord, Actor, Mid, Idle, Left, Yielded}
 use Rattle.sg_rules.specs.Resting.{IsRunnable}
 
 abbrev pub kind_of_entry : Entry → Kind
@@ -64,6 +64,7 @@ pub record IsEpochOpening (p : Program) (lay : Constants) (w : Words) (g : Graph
   pub held : IsHeld p lay w g b
   pub ready : (k : ℕ) → IsReady p g b k (actors k) (actors k).script
   pub idle : (k : ℕ) → (actors k).mid ≡ Idle
+  pub going : w.stop ≡ 0
   pub untold : (k : ℕ) → (actors k).told ≡ []
 
 -- the statements that a mutator has before it: one that has left has the statement with which it left
@@ -71,6 +72,10 @@ abbrev pub before_it : Mid → List Statement → List Statement
 before_it (Left s) script = s ∷ script
 before_it mid script = script
 
--- the mutator is between two statements, or has left
+-- the mutator is between two statements, or has left with one or without
 abbrev pub IsOver : Mid → Type 0
-IsOver mid = (mid ≡ Idle) ⊎ ((s : Statement) × (mid ≡ Left s))
+IsOver mid = (mid ≡ Idle) ⊎ (((s : Statement) × (mid ≡ Left s)) ⊎ (mid ≡ Yielded))
+
+-- some mutator has left with a statement, and waits for its answer
+abbrev pub IsWanted : (ℕ → Actor) → Type 0
+IsWanted actors = (k : ℕ) × (s : Statement) × ((actors k).mid ≡ Left s)

@@ -5,6 +5,6 @@
 mod order;
 
 pub use order::{
-    first_opening, goes_so_far, held_is_sound, held_whoever, one_order, opens_so_far,
+    first_opening, goes_always, goes_so_far, held_is_sound, held_whoever, one_order, opens_so_far,
     orders_so_far, runnable_makes, serves_ready, stays_ready,
 };

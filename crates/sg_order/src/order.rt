@@ -1,4 +1,4 @@
-ghost use Rattle.sg_order.specs.OneOrder.{OneOrder, OpensSoFar, GoesSoFar, OrdersSoFar};
+ghost use Rattle.sg_order.specs.OneOrder.{OneOrder, OpensSoFar, GoesSoFar, OrdersSoFar, GoesAlways};
 ghost use Rattle.sg_order.specs.Opening.{FirstOpening};
 ghost use Rattle.sg_order.specs.Held.{HeldIsSound, HeldWhoever, RunnableMakes};
 ghost use Rattle.sg_order.specs.Serving.{StaysReady, ServesReady};
@@ -19,9 +19,15 @@ pub fn goes_so_far()
     ensures { GoesSoFar }
 {}
 
-/// The midst of an epoch has one order of whole statements, and tells what each mutator's next statement may rest on.
+/// The midst of an epoch has one order of whole statements.
 pub fn orders_so_far()
     ensures { OrdersSoFar }
+{}
+
+/// In the midst of an epoch no mutator is ever stuck: whatever its next call sees, a rule goes on; and each mutator is sane by
+/// itself.
+pub fn goes_always()
+    ensures { GoesAlways }
 {}
 
 /// The first epoch of a program opens from words that are all zero, with no object.

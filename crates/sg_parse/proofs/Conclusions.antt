@@ -121,9 +121,7 @@ module _ (bytes numbers : List ℕ) (s : List Sentence) (short : length bytes �
         }
 
         pub known : ItemsUnfold → IsWithinLimits p → IsReadProgram p
-        known law limits =
-            let run = run_now law s p is (said_each _ numbers s read) now in
-            record { limits = limits; alone = let most = run.1 in let least = limits.mutators_least in omega arith; run = run.0 }
+        known law limits = record { limits = limits; run = run_now law s p is (said_each _ numbers s read) now }
 
 -- each sentence has a number
 pub number-there : (text : List (List ℕ)) (numbers : List ℕ) (s : List Sentence) (i : ℕ) {line : Sentence} → AreRead text numbers s → slice_get s i ≡ Some line → i < length numbers

@@ -1,16 +1,14 @@
 -- The first sentence with a fault, line after line.
-use Rattle.std.proofs.Common.{◌≡◌, ℕ, ◌+◌, ◌<◌, ◌≤◌, inl, inr, ◌↔◌, IsTrue, Bool, true, false, ◌||◌, Some, List, [], ◌∷◌, ◌++◌, map, length, take, get_or, slice_get, refl, sym, ap, subst, ◌∙◌, arith}
-use Rattle.std.specs.List.{count_by}
+use Rattle.std.proofs.Common.{◌≡◌, ℕ, ◌+◌, ◌<◌, ◌≤◌, inl, inr, Some, List, [], ◌∷◌, ◌++◌, map, length, take, get_or, slice_get, sym, ap, subst, ◌∙◌, arith}
 use Rattle.std.specs.Option.{option_map}
 use Rattle.std.proofs.lemmas.Bool.{cases_lt}
 use Rattle.std.proofs.lemmas.Grind.{flat_map-append}
 use Rattle.std.proofs.lemmas.List.{append-nil, take_more, take_all, length-map}
-use Rattle.std.proofs.lemmas.List.Sums.{count_by_more_yes, count_by_more_no}
 use Rattle.std.proofs.lemmas.Option.{slice_get-map, slice_get_within, slice_get-get_or, same_Some, get_or_from_slice_get}
 use Rattle.sg_program.specs.declared.program.Class.{Class}
 use Rattle.sg_text.specs.declared.line.Line.{Line}
 use Rattle.sg_text.specs.Lines.{Sentence}
-use Rattle.sg_limits.specs.Faults.{class_in, classes_in, is_begin, IsMisnamed}
+use Rattle.sg_limits.specs.Faults.{class_in, classes_in, IsMisnamed}
 use Rattle.sg_parse.specs.Names.{Misnames}
 use Rattle.sg_text.specs.Reading.{sentence_of}
 use Rattle.sg_parse.specs.Indices.{IsFirstIn, HasNoneIn}
@@ -44,25 +42,6 @@ first_here Fault lines i line below at fault = ((line, at, fault), below)
 pub classes_next : (lines : List Sentence) (i : ℕ) (line : Sentence) (classes after : List Class) → classes ≡ classes_in (take i lines) → slice_get lines i ≡ Some line → after ≡ classes ++ class_in line → after ≡ classes_in (take (i + 1) lines)
 classes_next lines i line classes after same at e =
     e ∙ ap (λ (cs : List Class). cs ++ class_in line) same ∙ ap (λ (cs : List Class). classes_in (take i lines) ++ cs) (sym (append-nil (class_in line))) ∙ sym (flat_map-append class_in (take i lines) (line ∷ [])) ∙ ap classes_in (sym (take_next lines i line at))
-
--- some line before i begins a mutator
-abbrev pub Begun : Bool → List Sentence → Type 0
-Begun begun before = IsTrue begun ↔ (1 ≤ count_by is_begin before)
-
-or_true : (b : Bool) → IsTrue (b || true)
-or_true true = refl
-or_true false = refl
-
-pub begun_next : (lines : List Sentence) (i : ℕ) (line : Sentence) (begun is : Bool) → Begun begun (take i lines) → slice_get lines i ≡ Some line → is ≡ is_begin line → Begun (begun || is) (take (i + 1) lines)
-begun_next lines i line begun true so_far at e =
-    let more = count_by_more_yes is_begin lines i line (slice_get_within lines i line at) (ap is_begin (get_or_from_slice_get lines i line line at) ∙ sym e) in
-    (λ h. omega (arith, more), λ h. or_true begun)
-begun_next lines i line true false so_far at e =
-    let more = count_by_more_no is_begin lines i line (slice_get_within lines i line at) (ap is_begin (get_or_from_slice_get lines i line line at) ∙ sym e) in
-    (λ h. let n = so_far.0 refl in omega (arith, more), λ h. refl)
-begun_next lines i line false false so_far at e =
-    let more = count_by_more_no is_begin lines i line (slice_get_within lines i line at) (ap is_begin (get_or_from_slice_get lines i line line at) ∙ sym e) in
-    (λ h. let n = so_far.0 h in omega (arith, more), λ h. so_far.1 (omega (arith, more)))
 
 -- ---- the names of lines
 

@@ -1,5 +1,5 @@
 -- Names in lines of which none misnames a class, and the lines that aren't run yet.
-use Rattle.std.proofs.Common.{◌≡◌, ℕ, zero, suc, ◌+◌, ◌<◌, ◌≤◌, ◌⊎◌, inl, inr, ◌↔◌, IsTrue, Bool, true, false, ◌||◌, Some, List, [], ◌∷◌, ◌++◌, map, length, take, drop, get_or, slice_get, refl, sym, ap, subst, ◌∙◌, arith, append_assoc, nat_eq}
+use Rattle.std.proofs.Common.{◌≡◌, ℕ, zero, suc, ◌+◌, ◌<◌, ◌≤◌, ◌⊎◌, inl, inr, ◌↔◌, IsTrue, Bool, true, false, Some, List, [], ◌∷◌, ◌++◌, map, length, take, drop, get_or, slice_get, refl, sym, ap, subst, ◌∙◌, arith, append_assoc, nat_eq}
 use Rattle.std.specs.Cmp.Lexicographic.{pointwise, same_text, other_text}
 use Rattle.std.proofs.lemmas.Grind.{flat_map-append}
 use Rattle.std.proofs.lemmas.List.{append-nil, map-append, take-append-drop, length-map}
@@ -7,16 +7,16 @@ use Rattle.std.proofs.lemmas.Option.{same_Some}
 use Rattle.sg_desc.specs.Shapes.{is_vector}
 use Rattle.sg_program.specs.declared.program.Class.{Class}
 use Rattle.sg_program.specs.declared.program.Statement.{Statement}
-use Rattle.sg_program.specs.declared.program.Statement.TheVariants.{GPut, GGet, WSet, WGet, Final, NextFin, Collect, Sections}
+use Rattle.sg_program.specs.declared.program.Statement.TheVariants.{WSet, WGet, Final, NextFin, Collect, Sections}
 use Rattle.sg_text.specs.declared.line.Line.{Line}
 use Rattle.sg_text.specs.Lines.{Maker, AsNew, AsVector, AsMature, Sentence, Heads, Sets, Declares, Begins, Repeats, Ends, Makes, Says}
 use Rattle.sg_grammar.specs.Text.{IsClassName, StandsFor}
-use Rattle.sg_limits.specs.Faults.{class_in, classes_in, is_begin, wants_vector, IsFit, IsMisnamed, IsPairClass, IsLater, Another, GlobalPut, GlobalGet, Old, Major, Told, Wide, LinkSet, LinkGet, Registers, Ready, PairOf}
+use Rattle.sg_limits.specs.Faults.{class_in, classes_in, wants_vector, IsFit, IsMisnamed, IsPairClass, IsLater, Old, Major, Told, Wide, LinkSet, LinkGet, Registers, Ready, PairOf}
 use Rattle.sg_parse.specs.Names.{HaveOwnNames, IsMadeLater, IsDoneLater, IsLaterBy}
 use Rattle.sg_text.specs.Reading.{sentence_of}
 use Rattle.sg_parse.specs.Indices.{HasNoneIn, IsFirstIn}
 use Rattle.sg_parse.proofs.Naming.{class_name, name_of_class}
-use Rattle.sg_parse.proofs.Firsts.{HasNoneBelow, Begun, sentence_at, none_more, none_all, first_here, begun_next}
+use Rattle.sg_parse.proofs.Firsts.{HasNoneBelow, sentence_at, none_more, none_all, first_here}
 
 -- ---- lists
 
@@ -143,8 +143,6 @@ pair_above lines i r name named at pair =
     (fit.0, fit.2.class, fit.2.there, fit.2.named, sym (ap (λ (d : Class). d.shape.kind) class) ∙ pair.4)
 
 done_later : (before : List Sentence) (s : Statement) → IsDoneLater s → IsLater before (Says s)
-done_later before (GPut g r) h = GlobalPut g r
-done_later before (GGet r g) h = GlobalGet r g
 done_later before (WSet w r long) h = LinkSet w r long
 done_later before (WGet r w) h = LinkGet r w
 done_later before (Final r) h = Registers r
@@ -159,29 +157,24 @@ made_later lines i AsNew r name named at h = PairOf r name (pair_above lines i r
 made_later lines i (AsVector count) r name named at h = Wide count r name h
 made_later lines i AsMature r name named at h = Old r name
 
-later_is : (lines : List Sentence) (i : ℕ) (line : Sentence) (begun : Bool) → HasNoneIn IsMisnamed lines → slice_get lines i ≡ Some line → Begun begun (take i lines) → IsLaterBy (classes_in lines) begun line → IsLater (take i lines) line
-later_is lines i Begins begun named at so_far h = Another (so_far.0 h)
-later_is lines i (Makes maker r name) begun named at so_far h = made_later lines i maker r name named at h
-later_is lines i (Says statement) begun named at so_far h = done_later (take i lines) statement h
-later_is lines i line begun named at so_far h = absurd h
+later_is : (lines : List Sentence) (i : ℕ) (line : Sentence) → HasNoneIn IsMisnamed lines → slice_get lines i ≡ Some line → IsLaterBy (classes_in lines) line → IsLater (take i lines) line
+later_is lines i (Makes maker r name) named at h = made_later lines i maker r name named at h
+later_is lines i (Says statement) named at h = done_later (take i lines) statement h
+later_is lines i line named at h = absurd h
 
-later_by : (before : List Sentence) (classes : List Class) (line : Sentence) (begun : Bool) → ((name : List ℕ) → IsPairClass (classes_in before) name → IsPairClass classes name) → Begun begun before → IsLater before line → IsLaterBy classes begun line
-later_by before classes line begun pairs so_far (Another more) = so_far.1 more
-later_by before classes line begun pairs so_far (GlobalPut g r) = tt
-later_by before classes line begun pairs so_far (GlobalGet r g) = tt
-later_by before classes line begun pairs so_far (Old r name) = tt
-later_by before classes line begun pairs so_far Major = refl
-later_by before classes line begun pairs so_far Told = tt
-later_by before classes line begun pairs so_far (Wide count r name wide) = wide
-later_by before classes line begun pairs so_far (LinkSet w r long) = tt
-later_by before classes line begun pairs so_far (LinkGet r w) = tt
-later_by before classes line begun pairs so_far (Registers r) = tt
-later_by before classes line begun pairs so_far (Ready r) = tt
-later_by before classes line begun pairs so_far (PairOf r name pair) = pairs name pair
+later_by : (before : List Sentence) (classes : List Class) (line : Sentence) → ((name : List ℕ) → IsPairClass (classes_in before) name → IsPairClass classes name) → IsLater before line → IsLaterBy classes line
+later_by before classes line pairs (Old r name) = tt
+later_by before classes line pairs Major = refl
+later_by before classes line pairs Told = tt
+later_by before classes line pairs (Wide count r name wide) = wide
+later_by before classes line pairs (LinkSet w r long) = tt
+later_by before classes line pairs (LinkGet r w) = tt
+later_by before classes line pairs (Registers r) = tt
+later_by before classes line pairs (Ready r) = tt
+later_by before classes line pairs (PairOf r name pair) = pairs name pair
 
 -- where the classes above the line have these in front
-pub later_front : (before : List Sentence) (classes : List Class) (line : Sentence) → ((name : List ℕ) → IsPairClass classes name → IsPairClass (classes_in before) name) → IsLaterBy classes false line → IsLater before line
-later_front before classes Begins pairs h = absurd cc
+pub later_front : (before : List Sentence) (classes : List Class) (line : Sentence) → ((name : List ℕ) → IsPairClass classes name → IsPairClass (classes_in before) name) → IsLaterBy classes line → IsLater before line
 later_front before classes (Makes AsNew r name) pairs h = PairOf r name (pairs name h)
 later_front before classes (Makes (AsVector count) r name) pairs h = Wide count r name h
 later_front before classes (Makes AsMature r name) pairs h = Old r name
@@ -190,24 +183,21 @@ later_front before classes line pairs h = absurd h
 
 -- ---- the loop over the lines
 
-pub later_stop : (lines : List Line) (i : ℕ) (d : Line) (classes : List Class) (begun b : Bool) → classes ≡ classes_in (map sentence_of lines) → HasNoneIn IsMisnamed (map sentence_of lines)
-    → Begun begun (take i (map sentence_of lines)) → HasNoneBelow IsLater (map sentence_of lines) i → i < length lines → IsTrue b ↔ IsLaterBy classes begun (sentence_of (get_or lines i d)) → b ≡ true → IsFirstIn IsLater (map sentence_of lines) i
-later_stop lines i d classes begun b same named so_far below within told y =
+pub later_stop : (lines : List Line) (i : ℕ) (d : Line) (classes : List Class) (b : Bool) → classes ≡ classes_in (map sentence_of lines) → HasNoneIn IsMisnamed (map sentence_of lines)
+    → HasNoneBelow IsLater (map sentence_of lines) i → i < length lines → IsTrue b ↔ IsLaterBy classes (sentence_of (get_or lines i d)) → b ≡ true → IsFirstIn IsLater (map sentence_of lines) i
+later_stop lines i d classes b same named below within told y =
     let all = map sentence_of lines in
     let line = sentence_of (get_or lines i d) in
     let at = sentence_at lines i d within in
-    first_here IsLater all i line below at (later_is all i line begun named at so_far (subst (λ (cs : List Class). IsLaterBy cs begun line) same (told.0 y)))
+    first_here IsLater all i line below at (later_is all i line named at (subst (λ (cs : List Class). IsLaterBy cs line) same (told.0 y)))
 
-pub later_more : (lines : List Line) (i : ℕ) (d : Line) (classes : List Class) (begun b : Bool) → classes ≡ classes_in (map sentence_of lines)
-    → Begun begun (take i (map sentence_of lines)) → HasNoneBelow IsLater (map sentence_of lines) i → i < length lines → IsTrue b ↔ IsLaterBy classes begun (sentence_of (get_or lines i d)) → b ≡ false → HasNoneBelow IsLater (map sentence_of lines) (i + 1)
-later_more lines i d classes begun b same so_far below within told n =
+pub later_more : (lines : List Line) (i : ℕ) (d : Line) (classes : List Class) (b : Bool) → classes ≡ classes_in (map sentence_of lines)
+    → HasNoneBelow IsLater (map sentence_of lines) i → i < length lines → IsTrue b ↔ IsLaterBy classes (sentence_of (get_or lines i d)) → b ≡ false → HasNoneBelow IsLater (map sentence_of lines) (i + 1)
+later_more lines i d classes b same below within told n =
     let all = map sentence_of lines in
     let line = sentence_of (get_or lines i d) in
     none_more IsLater all i line below (sentence_at lines i d within)
-    (λ fault. let yes : IsTrue b = told.1 (subst (λ (cs : List Class). IsLaterBy cs begun line) (sym same) (later_by (take i all) (classes_in all) line begun (pair_front all i) so_far fault)) in absurd cc)
-
-pub later_begun : (lines : List Line) (i : ℕ) (d : Line) (begun is : Bool) → Begun begun (take i (map sentence_of lines)) → i < length lines → is ≡ is_begin (sentence_of (get_or lines i d)) → Begun (begun || is) (take (i + 1) (map sentence_of lines))
-later_begun lines i d begun is so_far within e = begun_next (map sentence_of lines) i (sentence_of (get_or lines i d)) begun is so_far (sentence_at lines i d within) e
+    (λ fault. let yes : IsTrue b = told.1 (subst (λ (cs : List Class). IsLaterBy cs line) (sym same) (later_by (take i all) (classes_in all) line (pair_front all i) fault)) in absurd cc)
 
 pub later_end : (lines : List Line) (i : ℕ) → HasNoneBelow IsLater (map sentence_of lines) i → length lines ≤ i → HasNoneIn IsLater (map sentence_of lines)
 later_end lines i below all = none_all IsLater (map sentence_of lines) i below (omega (arith, length-map lines sentence_of))

@@ -1,14 +1,13 @@
--- A program that is read from lines of which none isn't run yet: all its statements are run, and it has one mutator at most.
-use Rattle.std.proofs.Common.{◌≡◌, ℕ, ◌≤◌, inl, inr, true, false, cond, Option, Some, List, [], ◌∷◌, ◌++◌, length, take, slice_get, refl, sym, ap, subst, ◌∙◌, arith, append_assoc}
-use Rattle.std.specs.List.{AllByRecursion, count_by}
+-- A program that is read from lines of which none isn't run yet: all its statements are run.
+use Rattle.std.proofs.Common.{◌≡◌, ℕ, inl, inr, true, false, Option, Some, List, [], ◌∷◌, ◌++◌, length, take, slice_get, refl, sym, ap, subst, ◌∙◌, append_assoc}
+use Rattle.std.specs.List.{AllByRecursion}
 use Rattle.std.proofs.lemmas.Bool.{cases_lt}
 use Rattle.std.proofs.lemmas.Grind.{flat_map-append}
 use Rattle.std.proofs.lemmas.List.{append-nil}
-use Rattle.std.proofs.lemmas.List.Sums.{sum_by-cons}
 use Rattle.std.proofs.Math.Seq.{take-append_seam}
 use Rattle.sg_program.specs.declared.program.Class.{Class}
 use Rattle.sg_program.specs.declared.program.Statement.{Statement}
-use Rattle.sg_program.specs.declared.program.Statement.TheVariants.{New, NewV, Mature, GPut, GGet, WSet, WGet, Final, NextFin, Collect, Sections}
+use Rattle.sg_program.specs.declared.program.Statement.TheVariants.{New, NewV, Mature, WSet, WGet, Final, NextFin, Collect, Sections}
 use Rattle.sg_program.specs.declared.program.Item.{Item}
 use Rattle.sg_program.specs.declared.program.Script.{Script}
 use Rattle.sg_program.specs.declared.program.Program.{Program}
@@ -18,7 +17,7 @@ use Rattle.sg_program.specs.Laws.{ItemsUnfold}
 use Rattle.sg_words.proofs.Everywhere.{all_append, all_front, all_back}
 use Rattle.sg_text.specs.Lines.{Maker, AsNew, AsVector, AsMature, made_by, Sentence, Heads, Begins, Repeats, Ends, Makes, Says, IsLine}
 use Rattle.sg_grammar.specs.Text.{AreItems, NoItem, OneSays, OneMakes, NoRepeat, OneRepeat, AreScripts, IsClass, IsSetting, IsProgram, StandsFor}
-use Rattle.sg_limits.specs.Faults.{class_in, classes_in, is_begin, IsPairClass, IsLater, Another}
+use Rattle.sg_limits.specs.Faults.{class_in, classes_in, IsPairClass, IsLater}
 use Rattle.sg_program.specs.Invariants.{IsBuilt}
 use Rattle.sg_parse.specs.Names.{IsLaterBy}
 use Rattle.sg_parse.specs.Indices.{HasNoneIn}
@@ -45,14 +44,12 @@ IsSaid line = (words : List (List ℕ)) × IsLine words line
 
 -- the sentence is some line's, and it is run where the classes are these
 abbrev IsFine : Program → Sentence → Type 0
-IsFine p line = IsSaid line × ¬ IsLaterBy p.classes false line
+IsFine p line = IsSaid line × ¬ IsLaterBy p.classes line
 
 run_says : (p : Program) (s : Statement) → IsFine p (Says s) → IsBuilt p s
 run_says p (New r class) fine = absurd fine.0.1
 run_says p (NewV r class count) fine = absurd fine.0.1
 run_says p (Mature r class) fine = absurd fine.0.1
-run_says p (GPut g r) fine = absurd (fine.1 tt)
-run_says p (GGet r g) fine = absurd (fine.1 tt)
 run_says p (WSet w r long) fine = absurd (fine.1 tt)
 run_says p (WGet r w) fine = absurd (fine.1 tt)
 run_says p (Final r) fine = absurd (fine.1 tt)
@@ -127,36 +124,12 @@ fine_from p lines before (line ∷ after) none said e more classes =
           (flat_map-append class_in before (line ∷ []) ∙ ap (λ (cs : List Class). cs ++ classes_in (line ∷ [])) classes ∙ append_assoc p.classes more (classes_in (line ∷ []))),
     )
 
--- ---- how many mutators there are
-
-abbrev begins : Sentence → ℕ
-begins line = cond (is_begin line) 1 0
-
-begins_at : (before after : List Sentence) → 1 ≤ count_by is_begin (before ++ Begins ∷ after)
-begins_at [] after = omega (arith, sum_by-cons begins Begins after)
-begins_at (line ∷ before) after = omega (arith, begins_at before after, sum_by-cons begins line (before ++ Begins ∷ after))
-
--- a second mutator would be another one
-alone : (names : List ℕ → ℕ → Type 0) (lines before scripts : List Sentence) (mutators : List Script) → lines ≡ before ++ scripts → AreScripts names scripts mutators → HasNoneIn IsLater lines → length mutators ≤ 1
-alone names lines before scripts [] e h none = omega arith
-alone names lines before scripts (one ∷ []) e h none = omega arith
-alone names lines before scripts (one ∷ two ∷ more) e h none =
-    let body = h.0 in
-    let rest = h.1 in
-    let second = h.4 in
-    let front : List Sentence = before ++ (Begins ∷ body ++ Ends ∷ []) in
-    let after : List Sentence = second.0 ++ Ends ∷ second.1 in
-    let begun : 1 ≤ count_by is_begin front = begins_at before (body ++ Ends ∷ []) in
-    let whole : lines ≡ front ++ Begins ∷ after =
-    e ∙ ap (λ (l : List Sentence). before ++ l) (h.2 ∙ ap (λ (l : List Sentence). Begins ∷ body ++ Ends ∷ l) second.2 ∙ sym (append_assoc (Begins ∷ body) (Ends ∷ []) (Begins ∷ after))) ∙ sym (append_assoc before (Begins ∷ body ++ Ends ∷ []) (Begins ∷ after)) in
-    absurd (none_split IsLater lines front after Begins none whole (Another begun))
-
 -- The sentences have to be those of lines: no line says a statement that makes an object of a class by its number.
 pub run_now : (unfolds : ItemsUnfold) → (lines : List Sentence) (p : Program) → IsProgram (StandsFor p.classes) lines p → AllByRecursion IsSaid lines → HasNoneIn IsLater lines
-    → AllByRecursion (λ (script : Script). AllByRecursion (IsBuilt p) (written script.items)) p.mutators × (length p.mutators ≤ 1)
+    → AllByRecursion (λ (script : Script). AllByRecursion (IsBuilt p) (written script.items)) p.mutators
 run_now unfolds lines p program said none =
     let before : List Sentence = head_of program.settings program.classes in
     let told : AllByRecursion IsSaid (before ++ program.scripts) = subst (AllByRecursion IsSaid) program.in_order said in
     let classes : classes_in before ≡ p.classes ++ [] = classes_of_head program.settings program.classes p.classes program.are_settings.settings program.are_classes ∙ sym (append-nil p.classes) in
     let fine = fine_from p lines before program.scripts none (all_back IsSaid before program.scripts told) program.in_order [] classes in
-    (run_scripts unfolds p program.scripts p.mutators program.are_scripts fine, alone (StandsFor p.classes) lines before program.scripts p.mutators program.in_order program.are_scripts none)
+    run_scripts unfolds p program.scripts p.mutators program.are_scripts fine

@@ -1,5 +1,4 @@
 -- What is known of programs that are read and accepted: no promise rests on these alone.
-use Rattle.std.specs.Prelude.{◌≡◌, length}
 use Rattle.std.specs.List.{AllByRecursion}
 use Rattle.sg_program.specs.declared.program.Script.{Script}
 use Rattle.sg_program.specs.declared.program.Program.{Program}
@@ -10,7 +9,6 @@ use Rattle.sg_program.specs.Invariants.{IsWithinLimits, IsBuilt}
 -- what is known of a program that was read
 pub record IsReadProgram (p : Program) : Type 0 where
   pub limits : IsWithinLimits p
-  pub alone : length p.mutators ≡ 1
   pub run : AllByRecursion (λ (script : Script). AllByRecursion (IsBuilt p) (written script.items)) p.mutators
 
 -- what is known of a program that is accepted

@@ -1,13 +1,13 @@
 -- The classes of a text by their names, as the code holds them.
-use Rattle.std.specs.Prelude.{◌≡◌, ℕ, ◌<◌, ◌⊎◌, Bool, IsTrue, Some, List, map, slice_get}
+use Rattle.std.specs.Prelude.{◌≡◌, ℕ, ◌<◌, ◌⊎◌, IsTrue, Some, List, map, slice_get}
 use Rattle.sg_program.specs.Limits.{most_fields}
 use Rattle.sg_desc.specs.declared.shapes.Shape.{Shape}
 use Rattle.sg_program.specs.declared.program.Class.{Class}
 use Rattle.sg_program.specs.declared.program.Statement.{Statement}
-use Rattle.sg_program.specs.declared.program.Statement.TheVariants.{GPut, GGet, WSet, WGet, Final, NextFin, Collect, Sections}
+use Rattle.sg_program.specs.declared.program.Statement.TheVariants.{WSet, WGet, Final, NextFin, Collect, Sections}
 use Rattle.sg_text.specs.declared.line.Form.{Form}
 use Rattle.sg_parse.specs.declared.names.Names.{Names}
-use Rattle.sg_text.specs.Lines.{Maker, AsNew, AsVector, AsMature, Sentence, Declares, Begins, Makes, Says}
+use Rattle.sg_text.specs.Lines.{Maker, AsNew, AsVector, AsMature, Sentence, Declares, Makes, Says}
 use Rattle.sg_grammar.specs.Text.{IsClassName, StandsFor}
 use Rattle.sg_parse.specs.declared.names.Named.{Named}
 use Rattle.sg_parse.specs.declared.names.Named.TheVariants.{Classes, Misnamed}
@@ -54,8 +54,6 @@ IsMadeLater classes AsMature name = Unit {0}
 
 -- a statement that names no class isn't run yet
 abbrev pub IsDoneLater : Statement → Type 0
-IsDoneLater (GPut g r) = Unit {0}
-IsDoneLater (GGet r g) = Unit {0}
 IsDoneLater (WSet w r long) = Unit {0}
 IsDoneLater (WGet r w) = Unit {0}
 IsDoneLater (Final r) = Unit {0}
@@ -64,9 +62,8 @@ IsDoneLater (Collect major) = IsTrue major
 IsDoneLater Sections = Unit {0}
 IsDoneLater statement = ⊥
 
--- the line isn't run yet, where the classes are these, and a line above it begins a mutator or none does
-abbrev pub IsLaterBy : List Class → Bool → Sentence → Type 0
-IsLaterBy classes begun Begins = IsTrue begun
-IsLaterBy classes begun (Makes maker r name) = IsMadeLater classes maker name
-IsLaterBy classes begun (Says statement) = IsDoneLater statement
-IsLaterBy classes begun line = ⊥
+-- the line isn't run yet, where the classes are these
+abbrev pub IsLaterBy : List Class → Sentence → Type 0
+IsLaterBy classes (Makes maker r name) = IsMadeLater classes maker name
+IsLaterBy classes (Says statement) = IsDoneLater statement
+IsLaterBy classes line = ⊥

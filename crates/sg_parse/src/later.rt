@@ -1,15 +1,14 @@
 //! What is of the language and isn't run yet.
-ghost use Rattle.std.specs.Prelude.{◌≡◌, ◌↔◌, ℕ, IsTrue, true, false, map, IfSome, IfNone};
-ghost use Rattle.std.specs.List.{count_by};
+ghost use Rattle.std.specs.Prelude.{◌≡◌, ◌↔◌, IsTrue, map, IfSome, IfNone};
 ghost use Rattle.sg_desc.specs.declared.shapes.Descriptor.TheVariants.{Ephemeron};
-ghost use Rattle.sg_limits.specs.Faults.{is_begin, classes_in, IsLater, IsMisnamed, IsPairClass};
+ghost use Rattle.sg_limits.specs.Faults.{classes_in, IsLater, IsMisnamed, IsPairClass};
 ghost use Rattle.sg_parse.specs.Names.{classes_of, AreNames, IsMadeLater, IsDoneLater, IsLaterBy};
 ghost use Rattle.sg_text.specs.Reading.{maker_of, shape_in, sentence_of};
 ghost use Rattle.sg_parse.specs.Indices.{HasNoneIn, IsFirstIn};
 
 use crate::names::Names;
 use sg_program::{Statement, limits};
-use sg_text::{Form, Line, Maker};
+use sg_text::{Cell, Form, Line, Maker};
 
 /// Whether a class of this form is one of pairs.
 fn has_pairs(form: &Form<'_>) -> bool
@@ -49,9 +48,7 @@ fn is_done_later(statement: &Statement) -> bool
     ensures { IsTrue result ↔ IsDoneLater statement.now }
 {
     match statement {
-        Statement::GPut { .. }
-        | Statement::GGet { .. }
-        | Statement::WSet { .. }
+        Statement::WSet { .. }
         | Statement::WGet { .. }
         | Statement::Final { .. }
         | Statement::NextFin { .. }
@@ -61,25 +58,17 @@ fn is_done_later(statement: &Statement) -> bool
     }
 }
 
-/// Whether the line isn't run yet; `begun` says whether one above it begins a mutator.
-fn is_later(line: &Line<'_>, names: &Names<'_>, begun: bool) -> bool
-    ensures { IsTrue result ↔ IsLaterBy (classes_of names.now) begun (sentence_of line.now) }
+/// Whether the line isn't run yet.
+fn is_later(line: &Line<'_>, names: &Names<'_>) -> bool
+    ensures { IsTrue result ↔ IsLaterBy (classes_of names.now) (sentence_of line.now) }
 {
     match line {
-        Line::Mutator => begun,
         Line::Make { maker, name, .. } => is_made_later(maker, *name, names),
-        Line::At { .. } => true,
+        Line::At {
+            cell: Cell::WSet { .. } | Cell::WGet,
+            ..
+        } => true,
         Line::Do(statement) => is_done_later(statement),
-        _ => false,
-    }
-}
-
-/// Whether the line begins a mutator.
-fn is_begin(line: &Line<'_>) -> bool
-    ensures { result ≡ is_begin (sentence_of line.now) }
-{
-    match line {
-        Line::Mutator => true,
         _ => false,
     }
 }
@@ -91,12 +80,10 @@ pub(crate) fn later(lines: &[Line<'_>], names: &Names<'_>) -> Option<usize>
     ensures found { IfSome result (IsFirstIn IsLater (map sentence_of lines.now)) }
     ensures none { IfNone result (HasNoneIn IsLater (map sentence_of lines.now)) }
 {
-    let mut begun = false;
     for (index, line) in lines.iter().enumerate() {
-        if is_later(line, names, begun) {
+        if is_later(line, names) {
             return Some(index);
         }
-        begun = begun | is_begin(line);
     }
     None
 }
@@ -122,6 +109,10 @@ mod tests {
         Line::Make { maker, r: 0, name }
     }
 
+    fn at<'a>(cell: Cell, place: u64) -> Line<'a> {
+        Line::At { cell, r: 0, place }
+    }
+
     #[test]
     fn first_lines_that_are_refused(rt: HostRuntime) -> Result<(), AllocError> {
         let plain = Line::Class {
@@ -142,6 +133,10 @@ mod tests {
         let major = Line::Do(Statement::Collect { major: true });
         let minor = Line::Do(Statement::Collect { major: false });
         let begin = Line::Mutator;
+        let put = at(Cell::GPut, 63);
+        let get = at(Cell::GGet, 0);
+        let link = at(Cell::WSet { long: true }, 63);
+        let read = at(Cell::WGet, 0);
         let table = [
             (
                 &[plain, refs, pair, begin, fixed, vector, minor][..],
@@ -167,7 +162,14 @@ mod tests {
                 Some(2),
             ),
             (&[refs, begin, vector, wide, major], None, Some(3)),
-            (&[begin, minor, Line::End, begin, major], None, Some(3)),
+            (&[begin, minor, Line::End, begin, major], None, Some(4)),
+            (
+                &[begin, put, get, Line::End, begin, get, put, minor],
+                None,
+                None,
+            ),
+            (&[begin, put, get, link], None, Some(3)),
+            (&[begin, get, read, link], None, Some(2)),
         ];
         for (lines, misnamed, late) in table {
             assert!(rt; told(rt.alloc(), lines)? == (misnamed, late));

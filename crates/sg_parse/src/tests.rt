@@ -15,7 +15,7 @@ fn told(alloc: Global, text: &str) -> Result<String, AllocError> {
 // The words of the nursery and the statements of a text, or how it is refused.
 #[test]
 fn texts_are_read_or_refused(rt: HostRuntime) -> Result<(), Fail> {
-    let rows: [(&str, &str); 20] = [
+    let rows: [(&str, &str); 24] = [
         ("sgen 1\nmutator\nend\n", "4096 0"),
         (
             "sgen 1\nnursery 512\nclass A plain 2\nmutator\nnew r0 A\nrepeat 3\ndrop r3\nrepeat 3\nend\nend\nend\n",
@@ -50,12 +50,16 @@ fn texts_are_read_or_refused(rt: HostRuntime) -> Result<(), Fail> {
             "Later { line: 4 }",
         ),
         (
-            "sgen 1\nmutator\ngput 63 r1\nend\nmutator\nend\n",
-            "Later { line: 3 }",
+            "sgen 1\nmutator\ngput 63 r1\ngget r2 0\nend\nmutator\ngget r3 63\nend\n",
+            "4096 3",
+        ),
+        (
+            "sgen 1\nmutator\ngput 0 r1\nwset 0 r1 short\nend\n",
+            "Later { line: 4 }",
         ),
         (
             "sgen 1\nmutator\nend\nmutator\ncollect major\nend\n",
-            "Later { line: 4 }",
+            "Later { line: 5 }",
         ),
         ("sgen 1\n", "Limit { line: 2, which: Mutators }"),
         (
@@ -78,6 +82,18 @@ fn texts_are_read_or_refused(rt: HostRuntime) -> Result<(), Fail> {
             "sgen 1\nmutator\nrepeat 1048576\ndrop r3\nend\ndrop r3\nend\nmutator\nrepeat 0\nend\nend\n",
             "Limit { line: 7, which: Statements }",
         ),
+        (
+            "sgen 1\nmutator\nrepeat 1048575\ndrop r3\nend\nend\nmutator\ndrop r3\nend\n",
+            "4096 1048576",
+        ),
+        (
+            "sgen 1\nmutator\nrepeat 1048575\ndrop r3\nend\nend\nmutator\ndrop r3\ndrop r3\nend\n",
+            "Limit { line: 10, which: Statements }",
+        ),
+        (
+            "sgen 1\nmutator\nrepeat 1024\nfinal r1\nend\nend\nmutator\nfinal r1\nend\n",
+            "Limit { line: 9, which: Finals }",
+        ),
     ];
     for (text, answer) in rows {
         let read = told(rt.alloc(), text)?;
@@ -89,7 +105,7 @@ fn texts_are_read_or_refused(rt: HostRuntime) -> Result<(), Fail> {
 // Texts of one line behind the head, each of which breaks one limit alone: the line is told with it.
 #[test]
 fn each_limit_is_told(rt: HostRuntime) -> Result<(), Fail> {
-    let rows: [(&str, &str); 12] = [
+    let rows: [(&str, &str); 13] = [
         ("nursery 65600", "Limit { line: 2, which: Nursery }"),
         ("nursery 257", "Limit { line: 2, which: Nursery }"),
         ("blocks 0", "Limit { line: 2, which: Blocks }"),
@@ -101,6 +117,10 @@ fn each_limit_is_told(rt: HostRuntime) -> Result<(), Fail> {
         (
             "class V refs\nmutator\nnewv r0 V 131071\nend",
             "Limit { line: 4, which: Vector }",
+        ),
+        (
+            "mutator\ngput 64 r1\nend",
+            "Limit { line: 3, which: Global }",
         ),
         (
             "mutator\ngget r1 64\nend",
@@ -129,9 +149,11 @@ fn told_many(alloc: Global, start: &str, line: &str, many: usize) -> Result<Stri
     told(alloc, text.as_str())
 }
 
-// A seventeenth mutator.
+// Sixteen mutators, and a seventeenth one.
 #[test]
 fn mutators_are_limited(rt: HostRuntime) -> Result<(), Fail> {
+    let most = told_many(rt.alloc(), "sgen 1\n", "mutator\ndrop r0\nend\n", 16)?;
+    assert_eq!(rt; most.as_str(), "4096 16");
     let mutators = told_many(rt.alloc(), "sgen 1\n", "mutator\nend\n", 17)?;
     assert_eq!(rt; mutators.as_str(), "Limit { line: 34, which: Mutators }");
     Ok(())

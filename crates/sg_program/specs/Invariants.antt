@@ -115,8 +115,6 @@ abbrev pub IsBuilt : Program → Statement → Type 0
 IsBuilt p (New r class) = kind_of p class ≢ Ephemeron
 IsBuilt p (NewV r class count) = count ≤ most_fields
 IsBuilt p (Mature r class) = ⊥
-IsBuilt p (GPut g r) = ⊥
-IsBuilt p (GGet r g) = ⊥
 IsBuilt p (WSet w r long) = ⊥
 IsBuilt p (WGet r w) = ⊥
 IsBuilt p (Final r) = ⊥

@@ -37,6 +37,8 @@ pub enum Request {
 pub enum Leave {
     /// No statement is left.
     Ended,
+    /// A statement is left, and another mutator asks for a stop.
+    Yield,
     /// It asks for this.
     Wants(Request),
 }

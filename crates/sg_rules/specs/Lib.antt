@@ -1,3 +1,5 @@
 pub mod Rules
 pub mod Resting
 pub mod Runnable
+pub mod Sane
+pub mod Acting

@@ -1,15 +1,17 @@
 -- The private state of a mutator, and its program: which atomic step comes next, whether that step decides the statement,
 -- and what the mutator is after it.
-use Rattle.std.specs.Prelude.{◌≡◌, ◌≢◌, ℕ, ◌+◌, ◌-◌, ◌<◌, ◌≤◌, ◌==◌, if◌then◌else◌, nat_lt, min, max, Bool, true, false, Some, List, [], ◌∷◌, ◌++◌}
+use Rattle.std.specs.Prelude.{◌≡◌, ◌≢◌, ℕ, ◌+◌, ◌-◌, ◌%◌, ◌^◌, ◌<◌, ◌≤◌, ◌==◌, ◌⊎◌, if◌then◌else◌, nat_lt, min, max, Bool, true, false, Some, List, [], ◌∷◌, ◌++◌, length}
 use Rattle.sg_words.specs.Address.{byte_at, word_at}
 use Rattle.sg_words.specs.Tags.{plain_word}
 use Rattle.sg_words.specs.declared.steps.Place.TheVariants.{Stop, Next, Word}
 use Rattle.sg_words.specs.declared.steps.Step.{Step}
-use Rattle.sg_words.specs.declared.steps.Step.TheVariants.{Load, Store, Won}
+use Rattle.sg_words.specs.declared.steps.Step.TheVariants.{Load, Store, Won, Lost}
 use Rattle.sg_words.specs.declared.steps.Tick.{Tick}
 use Rattle.sg_words.specs.Words.{put, Words, after, Legal}
+use Rattle.sg_words.specs.Sections.{nursery_base, large_base, globals_base}
+use Rattle.sg_words.specs.declared.layout.Layout.{Layout}
 use Rattle.sg_program.specs.declared.program.Statement.{Statement}
-use Rattle.sg_program.specs.declared.program.Statement.TheVariants.{Put, Get, PutD, GetD, Num, Move, Hide, Unhide, Drop, Push, Pop, Same, Collect}
+use Rattle.sg_program.specs.declared.program.Statement.TheVariants.{Put, Get, PutD, GetD, Num, Move, Hide, Unhide, Drop, Push, Pop, GPut, GGet, Same, Collect}
 use Rattle.sg_program.specs.declared.program.Program.{Program}
 use Rattle.sg_program.specs.declared.answers.Answer.{Answer}
 use Rattle.sg_program.specs.declared.answers.Answer.TheVariants.{At, Nil, Null, Number, Fine, Yes, No, Field}
@@ -22,6 +24,34 @@ pub record Constants : Type 0 where
   pub fragments : ℕ
   pub limit : ℕ → ℕ
 
+-- the sizes of the sections that a program's settings make
+abbrev pub sections_of : Program → Layout
+sections_of p = record { nursery = p.config.nursery; blocks = p.config.blocks; pages = p.config.pages }
+
+-- the byte address of a word of the nursery or of the major heap
+pub record IsInHeap (p : Program) (a : ℕ) : Type 0 where
+  pub above : byte_at nursery_base ≤ a
+  pub below : a < byte_at (large_base (sections_of p))
+  pub whole : a % 8 ≡ 0
+
+-- the word of a reference: no object, or the address of one
+abbrev pub IsReference : Program → ℕ → Type 0
+IsReference p v = (v ≡ 0) ⊎ IsInHeap p v
+
+-- the number of the word of a global
+abbrev pub global_word : Program → ℕ → ℕ
+global_word p x = globals_base (sections_of p) + x
+
+-- a number of fields that an object can have: its length word holds no greater one
+abbrev pub IsLength : ℕ → Type 0
+IsLength len = len < 2 ^ 32
+
+-- the statement stores or loads a global
+abbrev pub IsGlobal : Statement → Type 0
+IsGlobal (GPut x r) = Unit {0}
+IsGlobal (GGet r x) = Unit {0}
+IsGlobal s = ⊥
+
 -- Where in a statement a mutator stands: what its next step is for.
 pub data Mid : Type 0 where
   -- between two statements
@@ -31,6 +61,8 @@ pub data Mid : Type 0 where
   TestLength : (s : Statement) (test : Test) (class : ℕ) → Mid
   -- the test is passed: next comes the load or the store of the field
   Access : (s : Statement) → Mid
+  -- next comes the load or the store of the statement's global
+  AccessGlobal : (s : Statement) → Mid
   -- the statement makes an object: next comes the load of a fragment's next word, or the exchange of it
   Look : (s : Statement) (f : ℕ) → Mid
   Claim : (s : Statement) (f seen : ℕ) → Mid
@@ -43,6 +75,8 @@ pub data Mid : Type 0 where
   Ask : (s : Statement) → Mid
   -- the mutator has left the epoch, and this statement waits for its answer
   Left : (s : Statement) → Mid
+  -- it has left, since another one asked for a stop
+  Yielded : Mid
 
 -- a place of the stack: its word, and the offset that stands beside it where the word is an address inside an object
 pub record StackWord : Type 0 where
@@ -115,19 +149,20 @@ unhidden a s = if a.reg s == 0 then 0 else a.reg s - a.offset s
 abbrev pub looking : Constants → Statement → ℕ → Mid
 looking lay s f = if nat_lt f lay.fragments then Look s f else Ask s
 
--- this step comes next, it decides the statement or not, and then the mutator is so
+-- This step comes next, it decides the statement or not, and then the mutator is so. The rules say of a load what can be seen: a
+-- header's words are those of an object, and a field or a global for references holds the address of one or nothing.
 pub data Comes (p : Program) (lay : Constants) : Actor → Step → Bool → Actor → Type 0 where
   -- the object test: no object, or else the loads of its tag and of its length; with the length the object has such a field or it hasn't
   test_null : (a : Actor) (s : Statement) (rest : List Statement) (test : Test) → test_of s ≡ Some test → a.reg test.register ≡ 0 →
       Comes p lay (before a s rest) (Load Stop 0) true (over a rest (cleared s a.reg) Null)
   test_begins : (a : Actor) (s : Statement) (rest : List Statement) (test : Test) → test_of s ≡ Some test → a.reg test.register ≢ 0 →
       Comes p lay (before a s rest) (Load Stop 0) false (within a rest (TestTag s test))
-  loads_tag : (a : Actor) (s : Statement) (rest : List Statement) (test : Test) (class : ℕ) →
+  loads_tag : (a : Actor) (s : Statement) (rest : List Statement) (test : Test) (class : ℕ) → class < length p.classes →
       Comes p lay (within a rest (TestTag s test)) (Load (Word (object_in a test.register)) (plain_word class)) false (within a rest (TestLength s test class))
-  loads_length : (a : Actor) (s : Statement) (rest : List Statement) (test : Test) (class len : ℕ) →
+  loads_length : (a : Actor) (s : Statement) (rest : List Statement) (test : Test) (class len : ℕ) → IsLength len →
       has_field test.sort (kind_of p class) len test.field ≡ true →
       Comes p lay (within a rest (TestLength s test class)) (Load (Word (object_in a test.register + 1)) len) false (within a rest (Access s))
-  test_fails : (a : Actor) (s : Statement) (rest : List Statement) (test : Test) (class len : ℕ) →
+  test_fails : (a : Actor) (s : Statement) (rest : List Statement) (test : Test) (class len : ℕ) → IsLength len →
       has_field test.sort (kind_of p class) len test.field ≡ false →
       Comes p lay (within a rest (TestLength s test class)) (Load (Word (object_in a test.register + 1)) len) true (over a rest (cleared s a.reg) Field)
   -- the load or the store of the field
@@ -135,10 +170,17 @@ pub data Comes (p : Program) (lay : Constants) : Actor → Step → Bool → Act
       Comes p lay (within a rest (Access (Put r i s))) (Store (Word (object_in a r + 2 + i)) (a.reg s)) true (over a rest a.reg Fine)
   putd_stores : (a : Actor) (rest : List Statement) (r i s : ℕ) →
       Comes p lay (within a rest (Access (PutD r i s))) (Store (Word (object_in a r + 2 + i)) (a.reg s)) true (over a rest a.reg Fine)
-  get_loads : (a : Actor) (rest : List Statement) (d r i v : ℕ) →
+  get_loads : (a : Actor) (rest : List Statement) (d r i v : ℕ) → IsReference p v →
       Comes p lay (within a rest (Access (Get d r i))) (Load (Word (object_in a r + 2 + i)) v) true (over a rest (put a.reg d v) (reference_answer v))
   getd_loads : (a : Actor) (rest : List Statement) (d r i v : ℕ) →
       Comes p lay (within a rest (Access (GetD d r i))) (Load (Word (object_in a r + 2 + i)) v) true (over a rest (put a.reg d v) (Number v))
+  -- a global is stored or loaded
+  global_begins : (a : Actor) (s : Statement) (rest : List Statement) → IsGlobal s →
+      Comes p lay (before a s rest) (Load Stop 0) false (within a rest (AccessGlobal s))
+  gput_stores : (a : Actor) (rest : List Statement) (x r : ℕ) →
+      Comes p lay (within a rest (AccessGlobal (GPut x r))) (Store (Word (global_word p x)) (a.reg r)) true (over a rest a.reg Fine)
+  gget_loads : (a : Actor) (rest : List Statement) (r x v : ℕ) → IsReference p v →
+      Comes p lay (within a rest (AccessGlobal (GGet r x))) (Load (Word (global_word p x)) v) true (over a rest (put a.reg r v) (reference_answer v))
   -- a number
   num_sets : (a : Actor) (rest : List Statement) (d n : ℕ) → Comes p lay (before a (Num d n) rest) (Load Stop 0) true (over a rest (put a.reg d n) Fine)
   -- no object
@@ -155,10 +197,10 @@ pub data Comes (p : Program) (lay : Constants) : Actor → Step → Bool → Act
       Comes p lay (before a (Hide d s offset) rest) (Load Stop 0) true (hides_none a rest d Null)
   hide_begins : (a : Actor) (rest : List Statement) (d s offset : ℕ) → a.reg s ≢ 0 →
       Comes p lay (before a (Hide d s offset) rest) (Load Stop 0) false (within a rest (HideLength d s offset))
-  hide_fits : (a : Actor) (rest : List Statement) (d s offset len : ℕ) → offset < byte_at (words_for len) →
+  hide_fits : (a : Actor) (rest : List Statement) (d s offset len : ℕ) → IsLength len → offset < byte_at (words_for len) →
       Comes p lay (within a rest (HideLength d s offset)) (Load (Word (object_in a s + 1)) len) true
       (over_with a rest (put a.reg d (a.reg s + offset)) (put a.offset d offset) a.stack Fine)
-  hide_misses : (a : Actor) (rest : List Statement) (d s offset len : ℕ) → byte_at (words_for len) ≤ offset →
+  hide_misses : (a : Actor) (rest : List Statement) (d s offset len : ℕ) → IsLength len → byte_at (words_for len) ≤ offset →
       Comes p lay (within a rest (HideLength d s offset)) (Load (Word (object_in a s + 1)) len) true (hides_none a rest d Field)
   -- and back
   unhide_sets : (a : Actor) (rest : List Statement) (d s : ℕ) →
@@ -179,9 +221,18 @@ pub data Comes (p : Program) (lay : Constants) : Actor → Step → Bool → Act
   minor_asks : (a : Actor) (rest : List Statement) → Comes p lay (before a (Collect false) rest) (Load Stop 0) false (within a rest (Ask (Collect false)))
   -- who asks sets the stop word and leaves
   asks : (a : Actor) (rest : List Statement) (s : Statement) → Comes p lay (within a rest (Ask s)) (Store Stop 1) false (within a rest (Left s))
+  -- who finds the stop word set as a statement begins leaves, and the statement stays before it
+  yields : (a : Actor) (s : Statement) (rest : List Statement) (saw : ℕ) → saw ≢ 0 → Comes p lay (before a s rest) (Load Stop saw) false (within a (s ∷ rest) Yielded)
   claim_wins : (a : Actor) (s : Statement) (rest : List Statement) (f next : ℕ) →
       Comes p lay (within a rest (Claim s f next)) (Won (Next f) (byte_at next) (byte_at (next + taken p lay f next (made_words p s)))) true
       (within (owning a (next + made_words p s) (next + taken p lay f next (made_words p s))) rest (StoreLength s next))
+  -- an exchange that is lost found a next word further on: the fragment still has room, or the search goes on behind it
+  claim_moves : (a : Actor) (s : Statement) (rest : List Statement) (f seen next : ℕ) → seen < next → next + made_words p s ≤ lay.limit f →
+      Comes p lay (within a rest (Claim s f seen)) (Lost (Next f) (byte_at seen) (byte_at (seen + taken p lay f seen (made_words p s))) (byte_at next)) false
+      (within a rest (Claim s f next))
+  claim_goes_on : (a : Actor) (s : Statement) (rest : List Statement) (f seen next : ℕ) → seen < next → lay.limit f < next + made_words p s →
+      Comes p lay (within a rest (Claim s f seen)) (Lost (Next f) (byte_at seen) (byte_at (seen + taken p lay f seen (made_words p s))) (byte_at next)) false
+      (within a rest (looking lay s (f + 1)))
   stores_length : (a : Actor) (s : Statement) (rest : List Statement) (x : ℕ) →
       Comes p lay (within a rest (StoreLength s x)) (Store (Word (x + 1)) (made_fields p s)) false (within a rest (StoreTag s x))
   stores_tag : (a : Actor) (s : Statement) (rest : List Statement) (x : ℕ) →

@@ -1,44 +1,19 @@
--- What the code asks of a program holds of an accepted one: its settings and its classes fit a space, its statements are run
--- now and find the kinds that they need, and there are few of them.
-use Rattle.std.proofs.Common.{◌≡◌, ℕ, zero, suc, ◌-◌, ◌^◌, ◌≤◌, min, List, [], ◌∷◌, length, map, slice_get, refl, subst, arith}
-use Rattle.std.proofs.lemmas.List.{length-map}
-use Rattle.std.proofs.lemmas.List.Elements.{All-nil, All-cons}
-use Rattle.std.specs.List.{All, AllByRecursion, Contains, sum_by}
-use Rattle.sg_desc.specs.declared.shapes.Descriptor.{Descriptor}
-use Rattle.sg_desc.specs.declared.shapes.Descriptor.TheVariants.{PtrFree, Run, Bitmap, VectorRefs, VectorPlain, Ephemeron}
-use Rattle.sg_desc.specs.declared.shapes.Shape.{Shape}
-use Rattle.sg_program.specs.declared.program.Class.{Class}
+-- What a world asks of a program holds of an accepted one: it is within the limits, and its statements are run now and find the kinds
+-- that they need.
+use Rattle.std.proofs.Common.{◌≡◌, ℕ, zero, suc, List, [], ◌∷◌, slice_get, refl, subst, arith}
+use Rattle.std.specs.List.{AllByRecursion, Contains}
 use Rattle.sg_program.specs.declared.program.Script.{Script}
 use Rattle.sg_program.specs.declared.program.Statement.{Statement}
 use Rattle.sg_program.specs.declared.program.Program.{Program}
-use Rattle.sg_program.specs.Scripts.{written, written_out, statements_at, script_of, statements_in}
+use Rattle.sg_program.specs.Scripts.{written, written_out, statements_at}
 use Rattle.sg_program.specs.Kinds.{first_kinds, HasNoMisuse}
-use Rattle.sg_program.specs.Invariants.{FindKinds, IsSmallClass, HasOperands, IsGood, IsBuilt, IsGoodScript}
-use Rattle.sg_program.specs.Limits.{MayHave}
+use Rattle.sg_program.specs.Invariants.{FindKinds, HasOperands, IsGood, IsBuilt, IsGoodScript}
 use Rattle.sg_program.specs.Laws.{ItemsDoWhatIsWritten}
-use Rattle.sg_space.specs.Space.{AreShapes}
 use Rattle.sg_parse.specs.Invariants.{IsAcceptedProgram}
 use Rattle.sg_rules.specs.Resting.{IsRunnable}
 use Rattle.sg_rules.specs.Runnable.{BuiltRuns}
 use Rattle.sg_order.specs.Opening.{AreFirstScripts}
-
-small_kind : (kind : Descriptor) (n : ℕ) → MayHave kind n → n ≤ 62
-small_kind PtrFree n l = l
-small_kind (Run first count) n l = l.2
-small_kind (Bitmap bits) n l = omega arith
-small_kind VectorRefs n l = omega arith
-small_kind VectorPlain n l = omega arith
-small_kind Ephemeron n l = omega arith
-
-small_shapes : (classes : List Class) → AllByRecursion IsSmallClass classes → All (λ (shape : Shape). shape.fields ≤ 62) (map (λ (class : Class). class.shape) classes)
-small_shapes [] q = All-nil (λ (shape : Shape). shape.fields ≤ 62)
-small_shapes (class ∷ classes) q = All-cons (λ (shape : Shape). shape.fields ≤ 62) class.shape _ (small_kind class.shape.kind class.shape.fields q.0) (small_shapes classes q.1)
-
-pub accepted_shapes : (p : Program) → IsAcceptedProgram p → AreShapes (map (λ (class : Class). class.shape) p.classes)
-accepted_shapes p a = record {
-  classes = omega (arith, length-map p.classes (λ (class : Class). class.shape), a.read.limits.classes);
-  fields = small_shapes p.classes a.read.limits.fields;
-}
+use Rattle.sg_world.specs.Worlds.{CanRun}
 
 -- what is known of a script, once for all: its statements as they are written are good and run now, and it misuses nothing
 record IsKnownScript (p : Program) (script : Script) : Type 0 where
@@ -86,17 +61,6 @@ first_scripts items runs p a = record {
       tt p.mutators k (all_known p a);
 }
 
-pub one_mutator : (p : Program) → IsAcceptedProgram p → length p.mutators ≡ 1
-one_mutator p a = a.read.alone
-
--- the statements of the program's one script are all that it does
-counted_in : (scripts : List Script) → length scripts ≡ 1 → sum_by (λ (script : Script). length (written_out script.items)) scripts ≡ length (statements_at (slice_get scripts 0))
-counted_in [] l = absurd (omega arith)
-counted_in (script ∷ []) l = omega arith
-counted_in (script ∷ other ∷ scripts) l = absurd (omega arith)
-
-pub statements_counted : (p : Program) → IsAcceptedProgram p → statements_in p ≡ length (script_of p 0)
-statements_counted p a = counted_in p.mutators (one_mutator p a)
-
-pub few_statements : (p : Program) → IsAcceptedProgram p → length (script_of p 0) ≤ 1048576
-few_statements p a = let e = statements_counted p a in let l = a.read.limits.statements in omega arith
+-- a world can run it
+pub can_run : ItemsDoWhatIsWritten → BuiltRuns → (p : Program) → IsAcceptedProgram p → CanRun p
+can_run items runs p a = record { limits = a.read.limits; scripts = first_scripts items runs p a }

@@ -1,20 +1,22 @@
 -- What is promised of a job is promised of the words that ask for it.
-use Rattle.std.proofs.Common.{◌≡◌, ◌≢◌, ℕ, ◌⊎◌, ◌≤◌, inl, inr, List, refl, sym, ◌∙◌, subst, arith}
+use Rattle.std.specs.Prelude.{Option, Some, None, IfSome}
+use Rattle.std.proofs.Common.{[], ◌≡◌, ◌≢◌, ℕ, ◌⊎◌, ◌≤◌, inl, inr, List, refl, sym, ◌∙◌, subst, arith}
 use Rattle.std.specs.Io.KnownBytes.{Appends, Keeps}
 use Rattle.sg_io.specs.Progress.{TakesSome}
-use Rattle.sg_run.specs.declared.command.Job.{Job}
-use Rattle.sg_run.specs.declared.command.Job.TheVariants.{Run}
-use Rattle.sg_run.specs.Command.{IsCommand, IsAnyCommand, usage_line}
+use Rattle.sg_command.specs.declared.job.Job.{Job}
+use Rattle.sg_command.specs.declared.job.Job.TheVariants.{Run, Replay}
+use Rattle.sg_command.specs.Command.{IsCommand, IsAnyCommand, usage_lines, HasOneJob}
 use Rattle.sg_run.specs.Ends.{Ends, WriteFails, Gives}
 use Rattle.sg_run.specs.Top.{IsCutShort, Promises}
-use Rattle.sg_run.specs.Performing.{Performs}
+use Rattle.sg_graph.specs.Laws.{RunsByTurns}
+use Rattle.sg_trace.specs.Trace.{text}
+use Rattle.sg_run.specs.Jobs.{turns_of}
+use Rattle.sg_run.specs.Performing.{Performs, RunsBy}
+use Rattle.sg_run.proofs.Fronts.{took_nothing, empty_run, performs}
 
--- words ask for one job at most
-one_job : (words : List (List ℕ)) (job other : Job) → IsCommand words job → IsCommand words other → job ≡ other
-one_job words Run Run is also = refl
-
-pub promises_of : (words : List (List ℕ)) (job : Job) (old new : Ends) (status : ℕ) → IsCommand words job → Performs job old new status → Promises words old new status
-promises_of words job old new status is h = record {
+pub promises_of : HasOneJob → (words : List (List ℕ)) (job : Job) (old new : Ends) (status : ℕ) → IsCommand words job → Performs job old new status →
+    Promises words old new status
+promises_of one_job words job old new status is h = record {
   headline = record {
     command = λ _. (job, is);
     written = λ other also. (there other also).written;
@@ -59,7 +61,7 @@ no_other old new status (inr (inr e)) = (λ z. omega arith, λ z. omega arith, �
 
 -- what is promised where the words ask for no job
 pub promises_usage : (words : List (List ℕ)) (old new : Ends) (status : ℕ) → ¬ IsAnyCommand words → Gives 1 old new status → Keeps old.left new.left →
-    (status ≡ 1 → Appends old.taken new.taken usage_line) → (IsCutShort status → TakesSome old.taken new.taken usage_line) → Promises words old new status
+    (status ≡ 1 → Appends old.taken new.taken usage_lines) → (IsCutShort status → TakesSome old.taken new.taken usage_lines) → Promises words old new status
 promises_usage words old new status none gives unread line front =
     let o = no_other old new status gives in record {
       headline = record {
@@ -89,3 +91,67 @@ promises_usage words old new status none gives unread line front =
       complete = λ job is. absurd (none (job, is));
       known = o.4;
     }
+
+keeps_same : (a : Option (List ℕ)) → Keeps a a
+keeps_same None = tt
+keeps_same (Some xs) = refl
+
+told : (left : Option (List ℕ)) (P : List ℕ → Type 0) → ((input : List ℕ) → P input) → IfSome left P
+told None P f = tt
+told (Some input) P f = f input
+
+-- memory ran out before anything was read or written
+nothing_done : (turns : List ℕ) (old : Ends) → RunsBy turns old old 5
+nothing_done turns old = record {
+  written = λ e. absurd (omega arith);
+  whole_input = λ e. absurd (omega arith);
+  understood = λ e. omega arith;
+  only = λ e. absurd (omega arith);
+  always = told old.left _ (λ input none. inl (inr (inr refl)));
+  line = λ e. absurd (omega arith);
+  rose = λ e. absurd (omega arith);
+  untouched = λ e. absurd (omega arith);
+  write_fault = λ e. absurd (omega arith);
+  front_of_line = λ cut. told old.left _ (λ input none. inl (took_nothing old.taken []));
+  front = λ cut. told old.left _ (λ input a. (a.0, [], a.1, empty_run a.0 turns, took_nothing old.taken (text [])));
+  complete = told old.left _ (λ input a reads writes. inr refl);
+  known = omega arith;
+}
+
+pub promises_nothing : RunsByTurns → (words : List (List ℕ)) (old : Ends) → Promises words old old 5
+promises_nothing law words old = record {
+  headline = record {
+    command = λ e. absurd (omega arith);
+    written = λ job is. (there job).written;
+    whole_input = λ job is. (there job).whole_input;
+  };
+  usage = record {
+    only = λ e. absurd (omega arith);
+    always = λ none. inr (inr refl);
+    line = λ e. absurd (omega arith);
+    unread = λ none. keeps_same old.left;
+  };
+  refusal = record {
+    command = λ e. absurd (omega arith);
+    only = λ job is. (there job).only;
+    always = λ job is. (there job).always;
+    line = λ e. absurd (omega arith);
+  };
+  read_fault = record {
+    command = λ e. absurd (omega arith);
+    reads = λ job is. (there job).reads;
+    rose = λ e. absurd (omega arith);
+    untouched = λ e. absurd (omega arith);
+  };
+  write_fault = λ e. absurd (omega arith);
+  front = record {
+    usage = λ cut none. took_nothing old.taken usage_lines;
+    refusal = λ job is. (there job).front_of_line;
+    written = λ job is. (there job).front;
+  };
+  complete = λ job is. (there job).complete;
+  known = omega arith;
+}
+  where
+    there : (job : Job) → Performs job old old 5
+    there job = performs law job old old 5 (nothing_done (turns_of job) old)

@@ -2,14 +2,16 @@
 use Rattle.std.specs.Prelude.{◌≡◌, ℕ, Bool, true, false, IsTrue, Option, Some, List, [], if◌then◌else◌}
 use Rattle.sg_program.specs.declared.program.Program.{Program}
 use Rattle.sg_graph.specs.Run.{Phase, IsRun, IsWholeRun}
+use Rattle.sg_graph.specs.Follows.{IsRunBy, IsWholeRunBy}
 use Rattle.sg_trace.specs.Trace.{text}
 use Rattle.sg_parse.specs.Accepted.{IsAcceptedAs, IsAccepted}
-use Rattle.sg_run.specs.declared.command.Job.{Job}
-use Rattle.sg_run.specs.declared.command.Job.TheVariants.{Run}
+use Rattle.sg_command.specs.declared.job.Job.{Job}
+use Rattle.sg_command.specs.declared.job.Job.TheVariants.{Run, Replay}
 
 -- whether the job reads a program from the source
 abbrev pub reads_input : Job → Bool
 reads_input Run = true
+reads_input (Replay turns) = true
 
 abbrev pub ReadsInput : Job → Type 0
 ReadsInput job = IsTrue (reads_input job)
@@ -27,10 +29,22 @@ Where false P = Unit {0}
 abbrev pub IsTakenBy : Job → List ℕ → Type 0
 IsTakenBy job input = Where (reads_input job) (IsAccepted input)
 
--- what the job writes, whole: a run writes the text of a whole run of the program as which the input is accepted
+-- What the job writes, whole: the text of a whole run of the program as which the input is accepted; a replay's run follows the list of
+-- turns, and each of its pauses copies in order.
 abbrev pub Writes : Job → List ℕ → List ℕ → Type 0
 Writes Run input bytes = (p : Program) × (phases : List Phase) × IsAcceptedAs input p × IsWholeRun p phases × (bytes ≡ text phases)
+Writes (Replay turns) input bytes = (p : Program) × (phases : List Phase) × IsAcceptedAs input p × IsWholeRun p phases × IsWholeRunBy p turns phases × (bytes ≡ text phases)
 
 -- what it writes as far as it goes: the text of a run as far as that went
 abbrev pub MayWrite : Job → List ℕ → List ℕ → Type 0
 MayWrite Run input bytes = (p : Program) × (phases : List Phase) × IsAcceptedAs input p × IsRun p phases × (bytes ≡ text phases)
+MayWrite (Replay turns) input bytes = (p : Program) × (phases : List Phase) × IsAcceptedAs input p × IsRun p phases × IsRunBy p turns phases × (bytes ≡ text phases)
+
+-- one input and one list of turns have one text
+abbrev pub HasOneText : Type 0
+HasOneText = (turns : List ℕ) (input bytes bytes' : List ℕ) → Writes (Replay turns) input bytes → Writes (Replay turns) input bytes' → bytes ≡ bytes'
+
+-- the list of turns by which a job's run goes: without one the turns go round
+abbrev pub turns_of : Job → List ℕ
+turns_of Run = []
+turns_of (Replay turns) = turns

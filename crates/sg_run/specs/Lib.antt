@@ -1,4 +1,3 @@
-pub mod Command
 pub mod Jobs
 pub mod Causes
 pub mod Ends
@@ -8,5 +7,3 @@ pub mod Status
 pub mod Refusing
 pub mod Top
 pub mod Performing
-pub mod Worlds
-pub mod Stopping

@@ -3,7 +3,8 @@ use Rattle.std.specs.Prelude.{ℕ, Option, List, ◌++◌}
 use Rattle.sg_io.specs.Faults.{Rose}
 use Rattle.sg_io.specs.Progress.{TakesSome}
 use Rattle.sg_program.specs.declared.program.Program.{Program}
-use Rattle.sg_graph.specs.Run.{Phase, IsRun}
+use Rattle.sg_graph.specs.Run.{Phase}
+use Rattle.sg_graph.specs.Follows.{IsRunBy}
 use Rattle.sg_trace.specs.Trace.{text}
 use Rattle.sg_run.specs.declared.execution.RunError.{RunError}
 use Rattle.sg_run.specs.declared.execution.RunError.TheVariants.{Sink, Memory}
@@ -14,5 +15,5 @@ StopsRunning Sink before now = Rose before now
 StopsRunning Memory before now = Unit {0}
 
 -- behind these phases the run went on as far as some more, possibly none, and a front of the text of those was taken
-abbrev pub BreaksOff : Program → List Phase → Option (List ℕ) → Option (List ℕ) → Type 0
-BreaksOff p phases old new = (more : List Phase) × IsRun p (phases ++ more) × TakesSome old new (text more)
+abbrev pub BreaksOff : Program → List ℕ → List Phase → Option (List ℕ) → Option (List ℕ) → Type 0
+BreaksOff p turns phases old new = (more : List Phase) × IsRunBy p turns (phases ++ more) × TakesSome old new (text more)

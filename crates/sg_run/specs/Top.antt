@@ -4,10 +4,10 @@ use Rattle.std.specs.Prelude.{◌≡◌, ◌≢◌, ℕ, ◌≤◌, ◌⊎◌, O
 use Rattle.std.specs.Io.KnownBytes.{Appends, Keeps, IsAtEnd}
 use Rattle.sg_io.specs.Progress.{TakesSome}
 use Rattle.sg_parse.specs.declared.refusal.Refusal.TheVariants.{Memory}
-use Rattle.sg_run.specs.declared.command.Job.{Job}
+use Rattle.sg_command.specs.declared.job.Job.{Job}
 use Rattle.sg_run.specs.declared.refusal.Cause.{Cause}
 use Rattle.sg_run.specs.declared.refusal.Cause.TheVariants.{Refused}
-use Rattle.sg_run.specs.Command.{IsCommand, IsAnyCommand, usage_line}
+use Rattle.sg_command.specs.Command.{IsCommand, IsAnyCommand, usage_lines}
 use Rattle.sg_run.specs.Jobs.{ReadsInput, input_of, IsTakenBy, Writes, MayWrite}
 use Rattle.sg_run.specs.Causes.{IsCause, refusal_line}
 use Rattle.sg_run.specs.Ends.{Ends, ReadFails, WriteFails, Gives}
@@ -26,11 +26,11 @@ pub record Headline (words : List (List ℕ)) (old new : Ends) (status : ℕ) : 
   pub written : (job : Job) → IsCommand words job → status ≡ 0 → IfSome (input_of job old.left) (λ input. WritesWhole job input old new)
   pub whole_input : (job : Job) → IsCommand words job → ReadsInput job → status ≡ 0 → IsAtEnd new.left
 
--- status 1: exactly where the words are no command, with the usage line; nothing is read then
+-- status 1: exactly where the words are no command, with the usage lines; nothing is read then
 pub record Usage (words : List (List ℕ)) (old new : Ends) (status : ℕ) : Type 0 where
   pub only : status ≡ 1 → ¬ IsAnyCommand words
   pub always : ¬ IsAnyCommand words → Gives 1 old new status
-  pub line : status ≡ 1 → Appends old.taken new.taken usage_line
+  pub line : status ≡ 1 → Appends old.taken new.taken usage_lines
   pub unread : ¬ IsAnyCommand words → Keeps old.left new.left
 
 -- the sink took exactly the line that tells why the input isn't accepted, and so it is where the input is told
@@ -68,7 +68,7 @@ TakesFront input old new =
 
 -- statuses 4 and 5: the sink took a front of what would have been written
 pub record Front (words : List (List ℕ)) (old new : Ends) (status : ℕ) : Type 0 where
-  pub usage : IsCutShort status → ¬ IsAnyCommand words → TakesSome old.taken new.taken usage_line
+  pub usage : IsCutShort status → ¬ IsAnyCommand words → TakesSome old.taken new.taken usage_lines
   pub refusal : (job : Job) → IsCommand words job → IsCutShort status
       → IfSome (input_of job old.left) (λ input. ¬ IsTakenBy job input → TakesFront input old new)
   pub written : (job : Job) → IsCommand words job → IsCutShort status

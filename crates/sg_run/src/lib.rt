@@ -3,18 +3,16 @@
 //! The top call is [`run`], whose contract is the repository's main promise.
 #![tactic(auto)]
 
-mod command;
 mod execution;
-mod gate;
 mod input;
 mod output;
 mod refusal;
-mod stop;
+mod replay;
 mod top;
-mod world;
 
-pub use gate::{Gate, OpenGate};
 pub use refusal::one_cause;
+pub use replay::one_text;
+pub use sg_cells::{Gate, OpenGate};
 pub use top::run;
 
 #[cfg(test)]

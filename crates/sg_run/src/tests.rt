@@ -16,7 +16,7 @@ const STOPPING: &str =
 const STOPPED: &str =
     "epoch 0\n0 0 4096\n0 1 4128\n0 2 ok\n0 3 ok\n0 collect minor\nstop 0\nminor\npin 4096\nmove 4128 6144\nspares 0\nfrag 4128 252\nserve 0 4 ok\nepoch 1\n0 5 6144\n0 done\nend\n";
 
-const USAGE: &str = "usage: sgenlab run\n";
+const USAGE: &str = "usage: sgenlab run\nusage: sgenlab replay N,N,N\n";
 
 const EMPTY: &str = "refused syntax 1\n";
 
@@ -93,8 +93,14 @@ fn each_cause(rt: HostRuntime) -> Result<(), Fail> {
             "sgen 1\nmutator\nrepeat 1025\nfinal r0\nend\nend\n",
             "refused limit 6 finals\n",
         ),
-        ("sgen 1\nmutator\ngput 63 r0\nend\n", "refused later 3\n"),
-        ("sgen 1\nmutator\nend\nmutator\nend\n", "refused later 4\n"),
+        (
+            "sgen 1\nmutator\nwset 63 r0 short\nend\n",
+            "refused later 3\n",
+        ),
+        (
+            "sgen 1\nmutator\nend\nmutator\nend\nmutator\nend\nmutator\nend\nmutator\nend\nmutator\nend\nmutator\nend\nmutator\nend\nmutator\nend\nmutator\nend\nmutator\nend\nmutator\nend\nmutator\nend\nmutator\nend\nmutator\nend\nmutator\nend\nmutator\nend\n",
+            "refused limit 34 mutators\n",
+        ),
         (
             "sgen 1\nmutator\nnum r0 1\nsame r0 r1\nend\n",
             "refused kind 0 1\n",
@@ -294,6 +300,61 @@ fn worked_programs(rt: HostRuntime) -> Result<(), Fail> {
         );
         assert_eq!(rt; answer, 0, "of {rest}");
         assert_eq!(rt; sink.taken(), trace.as_bytes(), "of {rest}");
+    }
+    Ok(())
+}
+
+// Turns by hand. Two mutators whose buffers hold one object each lose to each other in turn; a stop is asked for before and after another
+// one has work to do; a mutator ends before and after another's request; 16 mutators use up the nursery, of which 15 have ended and
+// pin nothing.
+#[test]
+fn each_schedule(rt: HostRuntime) -> Result<(), Fail> {
+    let rows: [(&str, &str, &str); 6] = [
+        (
+            "0,1,1,0,1,0,1,0,0,1,1",
+            "sgen 1\nnursery 256\nclass H plain 38\nmutator\nnew r0 H\nnew r0 H\nend\nmutator\nnew r0 H\nnew r0 H\nend\n",
+            "epoch 0\n0 0 4608\n0 1 5120\n0 done\n1 0 4096\n1 1 5632\n1 done\nend\n",
+        ),
+        (
+            "0",
+            "sgen 1\nnursery 256\nmutator\ncollect minor\nend\nmutator\nnum r0 1\nnum r1 2\nend\n",
+            "epoch 0\n0 collect minor\n1 yield\nstop 0\nminor\nspares 0\nfrag 4096 256\nserve 0 0 ok\nepoch 1\n0 done\n1 0 ok\n1 1 ok\n1 done\nend\n",
+        ),
+        (
+            "3,1,0",
+            "sgen 1\nnursery 256\nmutator\ncollect minor\nend\nmutator\nnum r0 1\nnum r1 2\nnum r1 3\nend\n",
+            "epoch 0\n0 collect minor\n1 0 ok\n1 1 ok\n1 yield\nstop 0\nminor\nspares 0\nfrag 4096 256\nserve 0 0 ok\nepoch 1\n0 done\n1 2 ok\n1 done\nend\n",
+        ),
+        (
+            "1,0,2",
+            "sgen 1\nnursery 256\nmutator\ncollect minor\nend\nmutator\nend\nmutator\nnum r0 1\nend\n",
+            "epoch 0\n0 collect minor\n1 done\n2 yield\nstop 0\nminor\nspares 0\nfrag 4096 256\nserve 0 0 ok\nepoch 1\n0 done\n2 0 ok\n2 done\nend\n",
+        ),
+        (
+            "0,1,1,1,1",
+            "sgen 1\nnursery 256\nmutator\ncollect minor\nend\nmutator\nend\nmutator\nnum r0 1\nend\n",
+            "epoch 0\n0 collect minor\n1 done\n2 yield\nstop 0\nminor\nspares 0\nfrag 4096 256\nserve 0 0 ok\nepoch 1\n0 done\n2 0 ok\n2 done\nend\n",
+        ),
+        (
+            "0",
+            "sgen 1\nnursery 256\nbuffer 16\nclass W plain 14\nmutator\nnew r0 W\nend\nmutator\nnew r0 W\nend\nmutator\nnew r0 W\nend\nmutator\nnew r0 W\nend\nmutator\nnew r0 W\nend\nmutator\nnew r0 W\nend\nmutator\nnew r0 W\nend\nmutator\nnew r0 W\nend\nmutator\nnew r0 W\nend\nmutator\nnew r0 W\nend\nmutator\nnew r0 W\nend\nmutator\nnew r0 W\nend\nmutator\nnew r0 W\nend\nmutator\nnew r0 W\nend\nmutator\nnew r0 W\nend\nmutator\nnew r0 W\nnew r1 W\nend\n",
+            "epoch 0\n0 0 4096\n0 done\n1 0 4224\n1 done\n2 0 4352\n2 done\n3 0 4480\n3 done\n4 0 4608\n4 done\n5 0 4736\n5 done\n6 0 4864\n6 done\n7 0 4992\n7 done\n8 0 5120\n8 done\n9 0 5248\n9 done\n10 0 5376\n10 done\n11 0 5504\n11 done\n12 0 5632\n12 done\n13 0 5760\n13 done\n14 0 5888\n14 done\n15 0 6016\n15 need 16\nstop 0\nminor\npin 6016\nspares 0\nfrag 4096 240\nserve 15 1 4096\nepoch 1\n15 done\nend\n",
+        ),
+    ];
+    for (turns, input, trace) in rows {
+        let words = words_of(rt.alloc(), &["replay", turns])?;
+        let mut source = MemorySource::new(rt.alloc(), input.as_bytes(), &[])?;
+        let mut sink = MemorySink::new(rt.alloc(), 4096, &[])?;
+        let answer = run(
+            &rt,
+            rt.alloc(),
+            words.as_slice(),
+            &mut source,
+            &mut sink,
+            &OpenGate,
+        );
+        assert_eq!(rt; answer, 0, "of {turns} with {input}");
+        assert_eq!(rt; sink.taken(), trace.as_bytes(), "of {turns} with {input}");
     }
     Ok(())
 }

@@ -3,27 +3,29 @@ ghost use Rattle.std.specs.Prelude.{◌≡◌, ◌≢◌, ◌≤◌, List, map, 
 ghost use Rattle.std.specs.Io.KnownBytes.{IsAtEnd};
 ghost use Rattle.sg_parse.specs.declared.refusal.Refusal.{Refusal as AnyRefusal};
 ghost use Rattle.sg_parse.specs.Accepted.{IsAccepted, IsAcceptedAs};
-ghost use Rattle.sg_parse.specs.Invariants.{IsAcceptedProgram};
+ghost use Rattle.sg_world.specs.Worlds.{CanRun};
 ghost use Rattle.sg_run.specs.Ends.{ends_of};
 ghost use Rattle.sg_run.specs.Input.{StopsReading};
-ghost use Rattle.sg_run.specs.declared.command.Job.TheVariants.{Run};
+ghost use Rattle.sg_run.specs.Jobs.{turns_of as turns_in};
 ghost use Rattle.sg_run.specs.declared.refusal.Cause.TheVariants.{Refused};
 ghost use Rattle.sg_run.specs.Causes.{IsCause, refusal_line as line_of};
 ghost use Rattle.sg_run.specs.Refusing.{Refuses};
 ghost use Rattle.sg_run.specs.Status.{status_of};
 ghost use Rattle.sg_run.specs.Top.{Headline, Usage, Refusal as RefusalClause, ReadFault, WriteFault, Front, Complete, Promises};
-ghost use Rattle.sg_run.specs.Performing.{Performs};
+ghost use Rattle.sg_run.specs.Performing.{RunsBy};
 
-use crate::command::{Job, command};
 use crate::execution::{RunError, execute};
-use crate::gate::Gate;
 use crate::input::{ReadError, read_input};
 use crate::output::write_piece;
 use crate::refusal::{Cause, refusal_line};
-use sg_graph::Program;
+use sg_cells::Gate;
+use sg_command::{Job, command, one_job, usage};
+use sg_graph::{Program, runs_by_turns};
 use sg_io::{Failed, Sink, Source};
 use sg_kinds::check;
 use sg_parse::{Refusal, parse};
+use sg_program::items_do_what_is_written;
+use sg_rules::built_runs;
 use std::alloc::{AllocError, Global};
 use std::thread::Threads;
 
@@ -54,10 +56,11 @@ impl Ending {
 }
 
 /// Does what the words after the program's name say: `run` reads a program from the source to its end, runs it, and
-/// writes the trace to the sink as the run goes on: each epoch is a piece, and each stop. The answer is the exit status:
+/// writes the trace to the sink as the run goes on: each epoch is a piece, and each stop; `replay` does the same with the turns
+/// of the mutators in the order of a list. The answer is the exit status:
 ///
 /// - 0: done, the whole trace was written.
-/// - 1: the words are no command; the line `usage: sgenlab run` was written and nothing was read.
+/// - 1: the words are no command; a usage line for each command was written and nothing was read.
 /// - 2: the input isn't accepted; one line was written that tells why: `refused long` where it is longer than 1,048,576 bytes,
 ///   else `refused syntax LINE` at the first line that the grammar refuses, else `refused class LINE` at the first one that
 ///   misnames a class, else `refused limit LINE WHICH` at the first one that breaks a limit, else `refused later LINE` at the
@@ -108,9 +111,16 @@ fn conclude<S: Source, O: Sink>(
     ensures { Promises (map string_bytes words.now) (ends_of S.left S.faults O.taken O.faults source.old sink.old)
         (ends_of S.left S.faults O.taken O.faults source.new sink.new) (status_of result) }
 {
-    match command(words) {
-        Some(Job::Run) => run_program(alloc, source, sink),
-        None => match write_piece(sink, b"usage: sgenlab run\n") {
+    // The laws that it rests on: these calls do nothing.
+    one_job();
+    runs_by_turns();
+    let job = match command(alloc, words) {
+        Ok(job) => job,
+        Err(AllocError) => return Ending::NoMemory,
+    };
+    match job {
+        Some(job) => run_program(alloc, turns_of(&job), source, sink),
+        None => match write_piece(sink, usage()) {
             Ok(()) => Ending::NoCommand,
             Err(Failed) => Ending::SinkFailed,
         },
@@ -118,8 +128,13 @@ fn conclude<S: Source, O: Sink>(
 }
 
 // Reads a program to its end, runs it, and writes its trace; or writes why the input isn't accepted.
-fn run_program<S: Source, O: Sink>(alloc: Global, source: &mut S, sink: &mut O) -> Ending
-    ensures { Performs Run (ends_of S.left S.faults O.taken O.faults source.old sink.old)
+fn run_program<S: Source, O: Sink>(
+    alloc: Global,
+    turns: &[u32],
+    source: &mut S,
+    sink: &mut O,
+) -> Ending
+    ensures { RunsBy turns.now (ends_of S.left S.faults O.taken O.faults source.old sink.old)
         (ends_of S.left S.faults O.taken O.faults source.new sink.new) (status_of result) }
 {
     let program = match read_program(alloc, source) {
@@ -128,10 +143,20 @@ fn run_program<S: Source, O: Sink>(alloc: Global, source: &mut S, sink: &mut O) 
         Err(ReadError::Source) => return Ending::SourceFailed,
         Err(ReadError::Memory) => return Ending::NoMemory,
     };
-    match execute(alloc, &program, sink) {
+    match execute(alloc, &program, turns, sink) {
         Ok(()) => Ending::Done,
         Err(RunError::Sink) => Ending::SinkFailed,
         Err(RunError::Memory) => Ending::NoMemory,
+    }
+}
+
+// The list of turns by which a job's run goes.
+fn turns_of(job: &Job) -> &[u32]
+    ensures { result.now ≡ turns_in job.now }
+{
+    match job {
+        Job::Run => &[],
+        Job::Replay { turns } => turns.as_slice(),
     }
 }
 
@@ -158,7 +183,7 @@ fn read_program<S: Source>(
     ensures cause { IfOk result (λ read. IfErr read (λ cause. IfSome (S.left source.old) (λ input. IsCause input cause))) }
     ensures told { IfOk result (λ read. IfErr read (λ cause. cause ≢ Refused AnyRefusal.Memory)) }
     ensures none { IfOk result (λ read. IfErr read (λ _. IfSome (S.left source.old) (λ input. ¬ IsAccepted input))) }
-    ensures accepted { IfOk result (λ read. IfOk read IsAcceptedProgram) }
+    ensures can { IfOk result (λ read. IfOk read CanRun) }
     ensures at_end { IfOk result (λ read. IfOk read (λ _. IsAtEnd (S.left source.new))) }
     ensures stops { IfErr result (λ error. StopsReading error (S.faults source.old) (S.faults source.new)) }
 {
@@ -175,8 +200,11 @@ fn accept(alloc: Global, bytes: &[u8]) -> Result<Result<Program, Cause>, AllocEr
     ensures cause { IfOk result (λ read. IfErr read (IsCause bytes.now)) }
     ensures told { IfOk result (λ read. IfErr read (λ cause. cause ≢ Refused AnyRefusal.Memory)) }
     ensures none { IfOk result (λ read. IfErr read (λ _. ¬ IsAccepted bytes.now)) }
-    ensures accepted { IfOk result (λ read. IfOk read IsAcceptedProgram) }
+    ensures can { IfOk result (λ read. IfOk read CanRun) }
 {
+    // The laws that it rests on: these calls do nothing.
+    items_do_what_is_written();
+    built_runs();
     let program = match parse(alloc, bytes) {
         Ok(program) => program,
         Err(refusal) => {

@@ -5,7 +5,7 @@ use Rattle.std.specs.Fmt.{decimal}
 use Rattle.sg_program.specs.declared.answers.Answer.{Answer}
 use Rattle.sg_program.specs.declared.answers.Answer.TheVariants.{At, Nil, Null, Number, Fine, Yes, No, Field, Full}
 use Rattle.sg_program.specs.declared.answers.Leave.{Leave}
-use Rattle.sg_program.specs.declared.answers.Leave.TheVariants.{Ended, Wants}
+use Rattle.sg_program.specs.declared.answers.Leave.TheVariants.{Ended, Yield, Wants}
 use Rattle.sg_program.specs.declared.answers.Request.{Request}
 use Rattle.sg_program.specs.declared.answers.Request.TheVariants.{Need, Minor}
 use Rattle.sg_graph.specs.declared.reports.Part.{Part}
@@ -49,9 +49,10 @@ abbrev pub request_text : Request → List ℕ
 request_text (Need words) = codes "need " ++ decimal words
 request_text Minor = codes "collect minor"
 
--- how mutator i left: `I done`, or `I` and what it asks for
+-- how mutator i left: `I done`, `I yield`, or `I` and what it asks for
 abbrev pub leave_line : ℕ → Leave → List ℕ
 leave_line i Ended = decimal i ++ codes " done" ++ line_feed
+leave_line i Yield = decimal i ++ codes " yield" ++ line_feed
 leave_line i (Wants request) = decimal i ++ space ++ request_text request ++ line_feed
 
 abbrev pub part_text : Part → List ℕ

@@ -177,6 +177,7 @@ fn append_leave(out: &mut Vec<u8>, mutator: u32, leave: Leave) -> Result<(), All
     append_number(out, u64::from(mutator))?;
     match leave {
         Leave::Ended => out.extend_from_slice(b" done\n"),
+        Leave::Yield => out.extend_from_slice(b" yield\n"),
         Leave::Wants(request) => {
             out.push(b' ')?;
             append_request(out, request)?;

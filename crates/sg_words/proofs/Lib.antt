@@ -7,3 +7,4 @@ pub mod Numbers
 pub mod Objects
 pub mod Fragments
 pub mod Sorted
+pub mod Programs

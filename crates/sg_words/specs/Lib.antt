@@ -7,4 +7,7 @@ pub mod Lists
 pub mod Reach
 pub mod Sections
 pub mod Objects
+pub mod Calls
+pub mod Programs
+pub mod Schedule
 pub mod Found

@@ -17,7 +17,7 @@ pub use layout::{BLOCK_WORDS, FIRST_WORD, GLOBALS, LINKS, Layout, PAGE_WORDS, RE
 pub use lists::List;
 pub use masks::first_clear;
 pub use pieces::{Move, Piece};
-pub use steps::{BlockStep, BlockWord, Place, Step, Tick};
+pub use steps::{BlockCall, BlockStep, BlockWord, Call, Place, Step, Tick};
 pub use tags::{Tag, forwarded_to, pinned_class, plain_class, read_tag, write_tag};
 
 #[cfg(test)]

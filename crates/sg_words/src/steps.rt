@@ -124,6 +124,57 @@ pub enum Step {
     },
 }
 
+/// A call for a step on a block's words: all of the step but what it sees.
+#[derive(Clone, Copy, Debug, PartialEq, Eq)]
+pub enum BlockCall {
+    LoadsBlock {
+        block: u32,
+    },
+    SwapsBlock {
+        block: u32,
+        seen: BlockWord,
+        new: BlockWord,
+    },
+    StoresBlock {
+        block: u32,
+        new: BlockWord,
+    },
+    LoadsUsed {
+        block: u32,
+    },
+    OrsUsed {
+        block: u32,
+        slot: u32,
+    },
+    StoresUsed {
+        block: u32,
+        new: u64,
+    },
+    LoadsMarks {
+        block: u32,
+    },
+    OrsMarks {
+        block: u32,
+        slot: u32,
+    },
+    StoresMarks {
+        block: u32,
+        new: u64,
+    },
+    Zeroes {
+        number: u64,
+    },
+}
+
+/// A call for a step: all of the step but what it sees.
+#[derive(Clone, Copy, Debug, PartialEq, Eq)]
+pub enum Call {
+    Loads { place: Place },
+    Stores { place: Place, new: u64 },
+    Swaps { place: Place, seen: u64, new: u64 },
+    OnBlocks { call: BlockCall },
+}
+
 /// A step of an actor; `decides` marks the one step of a statement that fixes its place in the order of statements.
 #[derive(Clone, Copy, Debug, PartialEq, Eq)]
 pub struct Tick {

@@ -1,5 +1,6 @@
 //! The program `sgenlab`: `sgenlab run` reads a program from standard input, runs it and writes its trace to standard
-//! output. The exit status tells how it ended.
+//! output; `sgenlab replay N,N,N` does so with the turns of the mutators in the order of a list. The exit status tells how
+//! it ended.
 #![tactic(auto)]
 
 use sg_io::{OutOfMemory, StdSink, StdSource};

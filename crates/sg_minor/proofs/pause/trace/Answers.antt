@@ -1,8 +1,8 @@
-use Rattle.std.proofs.Common.{◌≡◌, ℕ, ◌++◌, List, map, sym, subst}
+use Rattle.std.proofs.Common.{ℕ, ◌++◌, List, map, sym, subst}
 use Rattle.std.specs.List.Sorted.{IsStrictlyIncreasing}
 use Rattle.sg_words.specs.Address.{byte_at, word_at}
 use Rattle.sg_space.specs.declared.objects.Object.{Object}
-use Rattle.sg_space.specs.Standing.{word, TellsYoung}
+use Rattle.sg_space.specs.Standing.{word}
 use Rattle.sg_copy.specs.Copying.{CanCopyFrom, HasCopiedTo, fields_of_all}
 use Rattle.sg_nursery.specs.Parts.{HasTagged, ArePlain}
 use Rattle.sg_minor.proofs.Sound.{sound_of_heap}

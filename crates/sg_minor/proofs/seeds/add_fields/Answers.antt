@@ -1,4 +1,4 @@
-use Rattle.std.proofs.Common.{◌≡◌, ℕ, ◌+◌, ◌<◌, ◌≤◌, ◌++◌, ◌∷◌, [], List, false, map, filter, ap, subst, ◌∙◌, arith}
+use Rattle.std.proofs.Common.{◌≡◌, ℕ, ◌+◌, ◌++◌, ◌∷◌, [], map, filter, subst, ◌∙◌, arith}
 use Rattle.sg_words.specs.Address.{word_at}
 use Rattle.sg_space.specs.Standing.{word}
 use Rattle.sg_copy.specs.Copying.{area_of, strong_of_shape}

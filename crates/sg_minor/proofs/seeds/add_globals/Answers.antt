@@ -1,9 +1,7 @@
 use Rattle.std.proofs.Common.{◌≡◌, ℕ, ◌+◌, ◌∷◌, [], ◌++◌, List, map, filter, sym, subst, ap, ◌∙◌, arith}
-use Rattle.std.proofs.lemmas.List.{map-append}
 use Rattle.sg_words.specs.Address.{word_at}
 use Rattle.sg_words.specs.Sections.{globals_base}
 use Rattle.sg_space.specs.Standing.{word}
-use Rattle.sg_graph.specs.Epoch.{numbers_below}
 use Rattle.sg_copy.specs.Copying.{area_of}
 use Rattle.sg_minor.specs.Joined.{global_slots, holds_young}
 use Rattle.sg_minor.proofs.Added.{adds-none, adds-more, global-more}

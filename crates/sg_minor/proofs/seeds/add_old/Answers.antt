@@ -1,6 +1,5 @@
-use Rattle.std.proofs.Common.{◌≡◌, ◌≢◌, ℕ, ◌+◌, ◌*◌, ◌<◌, ◌≤◌, ap, sym, subst, ◌∙◌, arith}
+use Rattle.std.proofs.Common.{◌≡◌, ◌≢◌, ℕ, ◌+◌, ◌<◌, ◌≤◌, ap, sym, subst, ◌∙◌, arith}
 use Rattle.sg_words.specs.Address.{byte_at, word_at}
-use Rattle.sg_words.specs.Tags.{plain_word}
 use Rattle.sg_words.specs.Sections.{old_base, large_base}
 use Rattle.sg_words.proofs.Numbers.{word_at-byte_at}
 use Rattle.sg_program.specs.declared.program.Program.{Program}

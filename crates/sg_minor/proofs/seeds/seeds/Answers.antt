@@ -1,4 +1,3 @@
-use Rattle.std.proofs.Common.{ℕ, List, map, subst}
 use Rattle.sg_minor.proofs.OldSlots.{are_seeds}
 use Rattle.sg_minor.proofs.seeds.seeds.Goals as goal
 

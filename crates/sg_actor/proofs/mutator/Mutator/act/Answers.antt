@@ -1,0 +1,103 @@
+use Rattle.std.proofs.Common.{◌≡◌, refl, sym, ap, ◌∙◌, subst}
+use Rattle.sg_program.specs.declared.program.Statement.{Statement}
+use Rattle.sg_program.specs.declared.program.Statement.TheVariants.{Collect}
+use Rattle.sg_rules.specs.Rules.{Constants}
+use Rattle.sg_actor.specs.State.{actor_of}
+use Rattle.sg_actor.specs.Turning.{before_this}
+use Rattle.sg_actor.proofs.Ports.{Ports}
+use Rattle.sg_actor.proofs.Turnings.{Ran, ran_at_once}
+use Rattle.sg_actor.proofs.Turnings.{Begun}
+use Rattle.sg_actor.proofs.mutator.Mutator.act.Goals.{in_default-statement-via-in-Collect+then-statement, in_default-statement-via-in_default}
+use Rattle.sg_actor.proofs.mutator.Mutator.act.Given.{Over}
+use Rattle.sg_actor.proofs.mutator.Mutator.act.Goals as goal
+
+abbrev ports : (g : Over) → Ports g.row.P.Denot
+ports g = record {
+  leads = g.P.Port.leads;
+  may = g.P.Port.may;
+  sees = g.P.Port.sees;
+  fragments = g.P.FragPort.fragments;
+  limit = g.P.FragPort.limit;
+  stays = g.P.Port.stays;
+  chains = g.P.Port.chains;
+  fixed = g.met.P.FragPort.fixed;
+}
+
+pub make-requires-clause-begun : goal.make-requires-clause-begun
+make-requires-clause-begun g c =
+    let o = ports g in
+    let m = c.args.self.now in
+    let p = m.program in
+    let s = c.args.statement in
+    let x = c.args.port.now in
+    let is = sym c.making-making.ensures.statement in
+    subst (λ (u : Statement). (lay : Constants) × Begun o p lay x (before_this m u)) is c.requires.begun
+
+pub hide-requires-clause-begun : goal.hide-requires-clause-begun
+hide-requires-clause-begun g c =
+    let o = ports g in
+    let m = c.args.self.now in
+    let p = m.program in
+    let s = c.args.statement in
+    let x = c.args.port.now in
+    let is = c.in-Hide.is in
+    subst (λ (u : Statement). (lay : Constants) × Begun o p lay x (before_this m u)) is c.requires.begun
+
+pub collect-requires-clause-begun : goal.collect-requires-clause-begun
+collect-requires-clause-begun g c =
+    let o = ports g in
+    let m = c.args.self.now in
+    let p = m.program in
+    let s = c.args.statement in
+    let x = c.args.port.now in
+    let is = c.in-Collect-false.is ∙ ap (λ b. Collect b) c.in-Collect-false.major-test in
+    subst (λ (u : Statement). (lay : Constants) × Begun o p lay x (before_this m u)) is c.requires.begun
+
+pub returns-in-New-clause-run : goal.returns-in-New-clause-run
+returns-in-New-clause-run g c lay begun =
+    let o = ports g in
+    let m = c.args.self.now in
+    let p = m.program in
+    let s = c.args.statement in
+    let x = c.args.port.now in
+    let is = sym c.making-making.ensures.statement in
+    subst (λ (u : Statement). Ran o p lay (before_this m u) x (actor_of c.make.new.self) c.make.new.port) (sym is)
+    (c.make.ensures.run lay (subst (λ (u : Statement). Begun o p lay x (before_this m u)) is begun))
+
+pub returns-in-Hide-clause-run : goal.returns-in-Hide-clause-run
+returns-in-Hide-clause-run g c lay begun =
+    let o = ports g in
+    let m = c.args.self.now in
+    let p = m.program in
+    let s = c.args.statement in
+    let x = c.args.port.now in
+    let is = c.in-Hide.is in
+    subst (λ (u : Statement). Ran o p lay (before_this m u) x (actor_of c.hide.new.self) c.hide.new.port) (sym is)
+    (c.hide.ensures.run lay (subst (λ (u : Statement). Begun o p lay x (before_this m u)) is begun))
+
+pub returns-in-Collect-false-clause-run : goal.returns-in-Collect-false-clause-run
+returns-in-Collect-false-clause-run g c lay begun =
+    let o = ports g in
+    let m = c.args.self.now in
+    let p = m.program in
+    let s = c.args.statement in
+    let x = c.args.port.now in
+    let is = c.in-Collect-false.is ∙ ap (λ b. Collect b) c.in-Collect-false.major-test in
+    subst (λ (u : Statement). Ran o p lay (before_this m u) x (actor_of c.collect.new.self) c.collect.new.port) (sym is)
+    (c.collect.ensures.run lay (subst (λ (u : Statement). Begun o p lay x (before_this m u)) is begun))
+
+pub returns-in_default-statement-clause-run : goal.returns-in_default-statement-clause-run
+returns-in_default-statement-clause-run g c lay begun =
+    let o = ports g in
+    let m = c.args.self.now in
+    let p = m.program in
+    let s = c.args.statement in
+    let x = c.args.port.now in
+    let acts = c.direct.ensures.comes lay in
+    let k = actor_of c.direct.new.self in
+    let is : c.in_default-statement.statement ≡ s = elim c.in_default-statement.branch [
+      | in_default-statement-via-in-Collect+then-statement w ↦ cc (w.statement-is)
+      | in_default-statement-via-in_default w ↦ w.statement-is
+    ] in
+    subst (λ (u : Statement). Ran o p lay (before_this m u) x k x) is
+    (ran_at_once o p lay (before_this m c.in_default-statement.statement) k x (subst (λ (u : Statement). Begun o p lay x (before_this m u)) (sym is) begun) acts.0 acts.1 k refl)

@@ -1,0 +1,107 @@
+ghost use Rattle.std.specs.Prelude.{◌≡◌, ◌≢◌, ℕ, ◌%◌, ◌<◌, ◌↔◌, true, List, [], ◌∷◌, ◌++◌, MatchResult};
+ghost use Rattle.sg_words.specs.Address.{byte_at, word_at};
+ghost use Rattle.sg_words.specs.declared.steps.Place.TheVariants.{Stop, Next, Word, Card, Head};
+ghost use Rattle.sg_words.specs.declared.steps.Step.{Step};
+ghost use Rattle.sg_words.specs.declared.steps.Step.TheVariants.{Load, Store, Won, Lost};
+ghost use Rattle.sg_words.specs.declared.steps.Call.{Call};
+ghost use Rattle.sg_words.specs.declared.steps.Call.TheVariants.{Loads, Stores, Swaps};
+
+/// What ports have in common; it has no calls.
+pub trait Port {
+    /// These steps, in this order, lead from one state of the port to another.
+    ghost leads: { Self → List Step → Self → Type 0 };
+
+    /// The port lets its actor make this call.
+    ghost may: { Self → Call → Type 0 };
+
+    /// The port's actor may make this step, with what it saw.
+    ghost sees: { Self → Step → Type 0 };
+
+    ghost stays: { (p : Self) → leads p [] p };
+
+    ghost chains: { (p q r : Self) (es fs : List Step) → leads p es q → leads q fs r → leads p (es ++ fs) r };
+}
+
+/// The words of the heap, the head of the ready row, and the word that asks for a stop. Each call is one step.
+pub trait WordPort: Port {
+    /// The word at this byte address.
+    fn load(&mut self, a: u64) -> u64
+        requires aligned { a % 8 ≡ 0 }
+        requires may { Self.may self.old (Loads (Word (word_at a))) }
+        ensures led { Self.leads self.old (Load (Word (word_at a)) result ∷ []) self.new }
+        ensures seen { Self.sees self.old (Load (Word (word_at a)) result) };
+
+    /// The word at this byte address becomes `w`.
+    fn store(&mut self, a: u64, w: u64)
+        requires aligned { a % 8 ≡ 0 }
+        requires may { Self.may self.old (Stores (Word (word_at a)) w) }
+        ensures led { Self.leads self.old (Store (Word (word_at a)) w ∷ []) self.new }
+        ensures seen { Self.sees self.old (Store (Word (word_at a)) w) };
+
+    /// How many entries of the ready row were taken.
+    fn head(&mut self) -> u64
+        requires may { Self.may self.old (Loads Head) }
+        ensures led { Self.leads self.old (Load Head result ∷ []) self.new }
+        ensures seen { Self.sees self.old (Load Head result) };
+
+    /// That number becomes `new` where it is `seen`; else it stays, and the error is the number found.
+    fn swap_head(&mut self, seen: u64, new: u64) -> Result<(), u64>
+        requires may { Self.may self.old (Swaps Head seen new) }
+        ensures led { MatchResult result (λ _. Self.leads self.old (Won Head seen new ∷ []) self.new)
+            (λ found. Self.leads self.old (Lost Head seen new found ∷ []) self.new) }
+        ensures seen { MatchResult result (λ _. Self.sees self.old (Won Head seen new)) (λ found. Self.sees self.old (Lost Head seen new found)) };
+
+    /// Whether the mutators are asked to stop.
+    fn stop(&mut self) -> bool
+        requires may { Self.may self.old (Loads Stop) }
+        ensures { (saw : ℕ) × ((result ≡ true) ↔ (saw ≢ 0)) × Self.leads self.old (Load Stop saw ∷ []) self.new × Self.sees self.old (Load Stop saw) };
+
+    /// Asks the mutators to stop.
+    fn set_stop(&mut self)
+        requires may { Self.may self.old (Stores Stop 1) }
+        ensures led { Self.leads self.old (Store Stop 1 ∷ []) self.new }
+        ensures seen { Self.sees self.old (Store Stop 1) };
+}
+
+/// The fragments of the nursery, by number. A next word and an end are byte addresses.
+pub trait FragPort: Port {
+    /// How many fragments there are, and before which word each ends: no step changes them.
+    ghost fragments: { Self → ℕ };
+
+    ghost limit: { Self → ℕ → ℕ };
+
+    /// How many fragments there are. No step.
+    fn fragments(&self) -> u32
+        ensures { result ≡ Self.fragments self.now };
+
+    /// The byte address behind the last word of this fragment. No step.
+    fn end(&self, f: u32) -> u64
+        requires { f < Self.fragments self.now }
+        ensures { result ≡ byte_at (Self.limit self.now f) };
+
+    /// The next word of this fragment: one load.
+    fn next(&mut self, f: u32) -> u64
+        requires may { Self.may self.old (Loads (Next f)) }
+        ensures led { Self.leads self.old (Load (Next f) result ∷ []) self.new }
+        ensures seen { Self.sees self.old (Load (Next f) result) };
+
+    /// The next word of this fragment becomes `new` where it is `seen`; else it stays, and the error is the word found. One
+    /// exchange.
+    fn swap_next(&mut self, f: u32, seen: u64, new: u64) -> Result<(), u64>
+        requires may { Self.may self.old (Swaps (Next f) seen new) }
+        ensures led { MatchResult result (λ _. Self.leads self.old (Won (Next f) seen new ∷ []) self.new)
+            (λ found. Self.leads self.old (Lost (Next f) seen new found ∷ []) self.new) }
+        ensures seen { MatchResult result (λ _. Self.sees self.old (Won (Next f) seen new)) (λ found. Self.sees self.old (Lost (Next f) seen new found)) };
+
+    /// No step changes how many fragments there are, nor where they end.
+    ghost fixed: { (p q : Self) (es : List Step) → Self.Port.leads p es q → (fragments q ≡ fragments p) × (limit q ≡ limit p) };
+}
+
+/// The cards of the major heap. A space has none yet, so no port meets it.
+pub trait CardPort: Port {
+    /// This card becomes dirty.
+    fn mark_card(&mut self, card: u32)
+        requires may { Self.may self.old (Stores (Card card) 1) }
+        ensures led { Self.leads self.old (Store (Card card) 1 ∷ []) self.new }
+        ensures seen { Self.sees self.old (Store (Card card) 1) };
+}

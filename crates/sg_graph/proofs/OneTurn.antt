@@ -1,0 +1,51 @@
+-- A mutator's next statement leads to one graph and one book.
+use Rattle.std.proofs.Common.{◌≡◌, ◌≢◌, ℕ, ◌∷◌, sym, ap, ◌∙◌, subst}
+use Rattle.sg_program.specs.declared.program.Statement.{Statement}
+use Rattle.sg_program.specs.declared.program.Statement.TheVariants.{New, NewV, Mature}
+use Rattle.sg_program.specs.declared.program.Program.{Program}
+use Rattle.sg_program.specs.declared.answers.Answer.{Answer}
+use Rattle.sg_program.specs.declared.answers.Answer.TheVariants.{Full}
+use Rattle.sg_graph.specs.Graph.{Graph, Mutator}
+use Rattle.sg_graph.specs.Statements.{Answers}
+use Rattle.sg_graph.specs.Book.{Book, Books}
+use Rattle.sg_graph.specs.Epoch.{Said, Turn}
+use Rattle.sg_graph.specs.Laws.{HasOneTurn}
+use Rattle.sg_graph.proofs.OneAnswer.{the_answer, one_answer}
+use Rattle.sg_graph.proofs.OneReport.{one_turn}
+
+-- a want of room is told at a stop alone
+not_full : (p : Program) (g : Graph) (m : Mutator) (b : Book) (k : ℕ) (s : Statement) (c : Book) → Answers p g m s Full → Books p b k s Full c → ⊥
+not_full p g m b k (New r class) c h x = x
+not_full p g m b k (NewV r class count) c h x = x
+not_full p g m b k (Mature r class) c h x = x
+not_full p g m b k s c h x = h
+
+its_answer : (p : Program) (g : Graph) (b : Book) (said : Said) (h : Graph) (c : Book) (t : Turn p g b said h c) →
+    said.answer ≡ the_answer p g (g.mutator said.by) t.statement
+its_answer p g b said h c t = one_answer p g (g.mutator said.by) t.statement said.answer t.does.0 room
+  where
+    room : said.answer ≢ Full
+    room e = not_full p g (g.mutator said.by) b said.by t.statement c (subst (λ (a : Answer). Answers p g (g.mutator said.by) t.statement a) e t.does.0)
+        (subst (λ (a : Answer). Books p b said.by t.statement a c) e t.books)
+
+pub has_one_turn : HasOneTurn
+has_one_turn p g b said said' h h' c c' t u e = let q = one_turn p g b said h h' c c' t there in (same, q.0, q.1)
+  where
+    both : (t.statement ∷ t.rest) ≡ (u.statement ∷ u.rest)
+    both = sym t.next ∙ subst (λ k. (g.mutator k).script ≡ u.statement ∷ u.rest) (sym e) u.next
+
+    statement : t.statement ≡ u.statement
+    statement = cc both
+
+    answer : said.answer ≡ said'.answer
+    answer =
+        its_answer p g b said h c t
+        ∙ ap (λ s. the_answer p g (g.mutator said.by) s) statement
+        ∙ ap (λ k. the_answer p g (g.mutator k) u.statement) e
+        ∙ sym (its_answer p g b said' h' c' u)
+
+    same : said ≡ said'
+    same = λ i. record { by = e i; answer = answer i }
+
+    there : Turn p g b said h' c'
+    there = subst (λ (z : Said). Turn p g b z h' c') (sym same) u

@@ -1,0 +1,95 @@
+-- Each next step of a sane mutator is one that a port over a space of its program allows.
+use Rattle.std.proofs.Common.{◌≡◌, ℕ, ◌+◌, ◌<◌, ◌≤◌, Bool, Some, length, refl, sym, subst, arith}
+use Rattle.sg_words.specs.Address.{word_at}
+use Rattle.sg_words.specs.Sections.{nursery_base, large_base, words_end}
+use Rattle.sg_words.specs.declared.layout.Layout.{Layout}
+use Rattle.sg_words.specs.declared.steps.Step.{Step}
+use Rattle.sg_words.specs.Calls.{call_of}
+use Rattle.sg_program.specs.declared.program.Statement.{Statement}
+use Rattle.sg_program.specs.declared.program.Statement.TheVariants.{Put, Get, PutD, GetD}
+use Rattle.sg_program.specs.declared.program.Program.{Program}
+use Rattle.sg_program.specs.Tests.{Test, test_of}
+use Rattle.sg_space.specs.Space.{Contents, IsContents}
+use Rattle.sg_frag.specs.Plain.{IsWordOf, MayCall}
+use Rattle.sg_rules.specs.Rules.{Constants, Actor, Access, within, object_in, global_word, sections_of, IsInHeap, Comes}
+use Rattle.sg_rules.specs.Rules.Comes.{test_null, test_begins, loads_tag, loads_length, test_fails, put_stores, putd_stores, get_loads, getd_loads, global_begins, gput_stores, gget_loads, num_sets, drop_clears, move_sets, push_sets, pop_sets, hide_null, hide_begins, hide_fits, hide_misses, unhide_sets, same_tells, new_bumps, new_looks, look_finds, look_goes_on, minor_asks, asks, yields, claim_wins, claim_moves, claim_goes_on, stores_length, stores_tag}
+use Rattle.sg_rules.specs.Sane.{IsAccessing, IsHeading, IsSane}
+
+-- the space has the program's sections, and as many fragments as the constants say
+pub record IsSpaceBy (p : Program) (lay : Constants) (s : Contents) : Type 0 where
+  pub contents : IsContents s
+  pub layout : s.layout ≡ sections_of p
+  pub fragments : length s.ends ≡ lay.fragments
+
+module _ (p : Program) (lay : Constants) (s : Contents) (is : IsSpaceBy p lay s) where
+  word_there : (x : ℕ) → nursery_base ≤ x → x < words_end (sections_of p) → IsWordOf s x
+  word_there x from below =
+      let l : x < words_end s.layout = subst (λ (layout : Layout). x < words_end layout) (sym is.layout) below in
+      let limits = is.contents.layout in
+      let words = is.contents.words in
+      ((from, l), omega arith, omega arith)
+
+  -- a word of an object is one of the space
+  object_word : (v : ℕ) → IsInHeap p v → IsWordOf s (word_at v)
+  object_word v h = word_there (word_at v) (let l = h.above in omega arith) (let l = h.below in omega arith)
+
+  length_word : (v : ℕ) → IsInHeap p v → IsWordOf s (word_at v + 1)
+  length_word v h = word_there (word_at v + 1) (let l = h.above in omega arith) (let l = h.below in omega arith)
+
+  field_word : (a : Actor) (test : Test) → IsInHeap p (a.reg test.register) → object_in a test.register + 2 + test.field < large_base (sections_of p) →
+      IsWordOf s (object_in a test.register + 2 + test.field)
+  field_word a test h l = word_there (object_in a test.register + 2 + test.field) (let m = h.above in omega arith) (omega arith)
+
+  accessed : (a : Actor) (st : Statement) (test : Test) → test_of st ≡ Some test → IsAccessing p a st → IsWordOf s (object_in a test.register + 2 + test.field)
+  accessed a st test e h =
+      let same : h.test ≡ test = let f = h.testing.tests in cc in
+      subst (λ (t : Test). IsWordOf s (object_in a t.register + 2 + t.field)) same (field_word a h.test h.testing.object h.inside)
+
+  global_there : (x : ℕ) → x ≤ 63 → IsWordOf s (global_word p x)
+  global_there x l = word_there (global_word p x) (omega arith) (omega arith)
+
+  fragment_there : (f : ℕ) → f < lay.fragments → (f < length s.next) × (f < length s.ends)
+  fragment_there f l = let e = is.fragments in let n = is.contents.fragments in (omega arith, omega arith)
+
+  head_word : (st : Statement) (x : ℕ) → IsHeading p st x → IsWordOf s x
+  head_word st x h = word_there x h.from (let l = h.inside in omega arith)
+
+  second_word : (st : Statement) (x : ℕ) → IsHeading p st x → IsWordOf s (x + 1)
+  second_word st x h = word_there (x + 1) (let l = h.from in omega arith) (let l = h.inside in omega arith)
+
+  pub may_call : (a : Actor) (step : Step) (d : Bool) (b : Actor) → Comes p lay a step d b → IsSane p lay a → MayCall s (call_of step)
+  may_call _ _ _ _ (test_null a st rest test e z) sane = tt
+  may_call _ _ _ _ (test_begins a st rest test e z) sane = tt
+  may_call _ _ _ _ (loads_tag a st rest test class there) sane = object_word (a.reg test.register) sane.object
+  may_call _ _ _ _ (loads_length a st rest test class len short f) sane = length_word (a.reg test.register) sane.0.object
+  may_call _ _ _ _ (test_fails a st rest test class len short f) sane = length_word (a.reg test.register) sane.0.object
+  may_call _ _ _ _ (put_stores a rest r i v) sane = accessed (within a rest (Access (Put r i v))) (Put r i v) _ refl sane
+  may_call _ _ _ _ (putd_stores a rest r i v) sane = accessed (within a rest (Access (PutD r i v))) (PutD r i v) _ refl sane
+  may_call _ _ _ _ (get_loads a rest d r i u ref) sane = accessed (within a rest (Access (Get d r i))) (Get d r i) _ refl sane
+  may_call _ _ _ _ (getd_loads a rest d r i u) sane = accessed (within a rest (Access (GetD d r i))) (GetD d r i) _ refl sane
+  may_call _ _ _ _ (global_begins a st rest g) sane = tt
+  may_call _ _ _ _ (gput_stores a rest x r) sane = global_there x sane.0.good.operands.0
+  may_call _ _ _ _ (gget_loads a rest r x u ref) sane = global_there x sane.0.good.operands.1
+  may_call _ _ _ _ (num_sets a rest d n) sane = tt
+  may_call _ _ _ _ (drop_clears a rest r) sane = tt
+  may_call _ _ _ _ (move_sets a rest d r) sane = tt
+  may_call _ _ _ _ (push_sets a rest r) sane = tt
+  may_call _ _ _ _ (pop_sets a rest r top stack e) sane = tt
+  may_call _ _ _ _ (hide_null a rest d r offset z) sane = tt
+  may_call _ _ _ _ (hide_begins a rest d r offset z) sane = tt
+  may_call _ _ _ _ (hide_fits a rest d r offset len short f) sane = length_word (a.reg r) sane
+  may_call _ _ _ _ (hide_misses a rest d r offset len short f) sane = length_word (a.reg r) sane
+  may_call _ _ _ _ (unhide_sets a rest d r) sane = tt
+  may_call _ _ _ _ (same_tells a rest r q) sane = tt
+  may_call _ _ _ _ (new_bumps a st rest making l) sane = tt
+  may_call _ _ _ _ (new_looks a st rest making l) sane = tt
+  may_call _ _ _ _ (look_finds a st rest f next l) sane = fragment_there f sane.1
+  may_call _ _ _ _ (look_goes_on a st rest f next l) sane = fragment_there f sane.1
+  may_call _ _ _ _ (minor_asks a rest) sane = tt
+  may_call _ _ _ _ (asks a rest st) sane = refl
+  may_call _ _ _ _ (yields a st rest word set) sane = tt
+  may_call _ _ _ _ (claim_wins a st rest f next) sane = fragment_there f sane.there
+  may_call _ _ _ _ (claim_moves a st rest f seen next later l) sane = fragment_there f sane.there
+  may_call _ _ _ _ (claim_goes_on a st rest f seen next later l) sane = fragment_there f sane.there
+  may_call _ _ _ _ (stores_length a st rest x) sane = second_word st x sane
+  may_call _ _ _ _ (stores_tag a st rest x) sane = head_word st x sane

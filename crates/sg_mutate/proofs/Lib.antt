@@ -1,0 +1,17 @@
+mod Events
+mod Ends
+mod Explained
+mod Standing
+mod Taking
+mod OwedLess
+mod Listed
+mod Numbered
+mod Calls
+mod Guided
+mod Midst
+mod Classed
+mod Next
+mod Turning
+mod Owing
+mod Ending
+mod Rounds

@@ -1,0 +1,5 @@
+use Rattle.sg_order.proofs.SoFar.{goes_always}
+use Rattle.sg_order.proofs.order.goes_always.Goals as goal
+
+pub returns : goal.returns
+returns c = goes_always

@@ -1,0 +1,13 @@
+pub mod Rising
+pub mod Giving
+pub mod Found
+pub mod Turning
+pub mod Playing
+pub mod Keeping
+pub mod Copying
+pub mod Tiling
+pub mod Telling
+pub mod Pausing
+pub mod Serving
+pub mod Stopping
+pub mod Running

@@ -1,9 +1,0 @@
-use Rattle.std.proofs.Common.{List, ℕ, ◌∙◌, subst}
-use Rattle.sg_minor.specs.Law.{HasPaused}
-use Rattle.sg_run.proofs.Stops.{heap_stays}
-use Rattle.sg_run.proofs.stop.pause.Goals as goal
-
-pub returns-clause-paused : goal.returns-clause-paused
-returns-clause-paused c p h b holds plain =
-    subst (λ (words : List ℕ). HasPaused p h b words c.in_ok-space.space c.in_ok-space.report) (c.as_slice.ensures.value ∙ c.in_ok-ambiguous.ensures.words)
-    (c.in_ok-space.ensures.paused p h b (heap_stays p c.args.space c.set_stopping.new.self h b 0 c.set_stopping.ensures holds) plain)

@@ -1,0 +1,114 @@
+-- The space of a world and the heap that it holds.
+use Rattle.std.proofs.Common.{◌≡◌, ℕ, ◌+◌, ◌<◌, ◌≤◌, List, length, get_or, true, inl, inr, refl, ap, sym, ◌∙◌, subst, arith}
+use Rattle.sg_words.specs.Address.{byte_at, word_at}
+use Rattle.sg_words.specs.Sections.{IsLayout, words_end, nursery_base}
+use Rattle.sg_words.specs.declared.layout.Layout.{Layout as Sections}
+use Rattle.sg_program.specs.declared.program.Program.{Program}
+use Rattle.sg_graph.specs.Graph.{Mutator, Graph}
+use Rattle.sg_graph.specs.Book.{Book}
+use Rattle.sg_graph.specs.Invariants.{IsPlain}
+use Rattle.sg_minor.specs.Holding.{HoldsHeap}
+use Rattle.sg_space.specs.Space.{Contents, words_of, AreShapes, IsContents}
+use Rattle.sg_frag.specs.Plain.{KeepsSections}
+use Rattle.sg_rules.specs.Rules.{Constants}
+use Rattle.sg_order.specs.Rest.{IsHeld}
+use Rattle.sg_mutate.specs.Epochs.{constants_of}
+use Rattle.sg_world.specs.Placing.{EndsInside, HasByteAddresses}
+
+pub keeps_then : (s t u : Contents) → KeepsSections s t → KeepsSections t u → KeepsSections s u
+keeps_then s t u f g = record {
+  layout = g.layout ∙ f.layout;
+  shapes = g.shapes ∙ f.shapes;
+  ends = g.ends ∙ f.ends;
+  next = g.next ∙ f.next;
+  words = g.words ∙ f.words;
+}
+
+pub contents_stay : (s t : Contents) → KeepsSections s t → IsContents s → IsContents t
+contents_stay s t keeps c = record {
+  layout = subst IsLayout (sym keeps.layout) c.layout;
+  shapes = subst AreShapes (sym keeps.shapes) c.shapes;
+  words = keeps.words ∙ c.words ∙ ap words_end (sym keeps.layout);
+  fragments = keeps.next ∙ c.fragments ∙ ap length (sym keeps.ends);
+  few = omega (arith, c.few, ap length keeps.ends);
+}
+
+pub constants_stay : (s t : Contents) → KeepsSections s t → constants_of t ≡ constants_of s
+constants_stay s t keeps = ap (λ (e : List ℕ). record { fragments = length e; limit = λ f. word_at (get_or e f 0) }) keeps.ends
+
+-- its words hold the graph as an epoch opens
+pub held_of_heap : (p : Program) (s : Contents) (g : Graph) (b : Book) → IsPlain p g → HoldsHeap p s g b → IsHeld p (constants_of s) (words_of s) g b
+held_of_heap p s g b plain holds = record {
+  owner = holds.1.0;
+  heap = holds.1.1;
+  plain = plain;
+  number = holds.0.fragments;
+  limits = λ f l. omega (arith, holds.0.limit f l);
+  nexts = holds.0.next;
+}
+
+-- and as it ends, the space holds the graph that the words then hold
+pub heap_of_held : (p : Program) (s t : Contents) (g h : Graph) (b c : Book) → KeepsSections s t → HoldsHeap p s g b →
+    IsHeld p (constants_of t) (words_of t) h c → HoldsHeap p t h c
+heap_of_held p s t g h b c keeps holds held = (
+  record {
+    layout = keeps.layout ∙ holds.0.layout;
+    shapes = keeps.shapes ∙ holds.0.shapes;
+    fragments = held.number;
+    same = keeps.next ∙ holds.0.same ∙ sym (ap length keeps.ends);
+    next = held.nexts;
+    limit = λ f l.
+        let there : f < b.fragments = omega (arith, held.number, holds.0.fragments, ap length keeps.ends) in
+        omega (arith, held.limits f l, holds.0.limit f there, ap (λ (ends : List ℕ). get_or ends f 0) keeps.ends);
+  },
+  (held.owner, held.heap),
+)
+
+-- its fragments end in the nursery, and begin at words of it
+pub ends_of_heap : (p : Program) (s : Contents) (g : Graph) (b : Book) → HoldsHeap p s g b → EndsInside s
+ends_of_heap p s g b holds f l =
+    let there : f < b.fragments = omega (arith, holds.0.fragments) in
+    let nursery : s.layout.nursery ≡ p.config.nursery = ap (λ (l : Sections). l.nursery) holds.0.layout in
+    let inside = (holds.1.1.laid.fragments.inside f there).2 in
+    omega (arith, holds.0.limit f there)
+
+pub addresses_of_heap : (p : Program) (s : Contents) (g : Graph) (b : Book) → HoldsHeap p s g b → HasByteAddresses s
+addresses_of_heap p s g b holds f l =
+    let there : f < b.fragments = omega (arith, holds.0.fragments) in
+    let inside = (holds.1.1.laid.fragments.inside f there).0 in
+    (omega (arith, holds.0.next f there), omega (arith, holds.0.next f there))
+
+-- the heap doesn't depend on what mutators have
+pub heap_on : (p : Program) (s : Contents) (g : Graph) (b : Book) (mutator : ℕ → Mutator) → HoldsHeap p s g b → HoldsHeap p s (record g { mutator = mutator }) b
+heap_on p s g b mutator holds = let laid = holds.1.1.laid in (
+  holds.0,
+  (
+    holds.1.0,
+    record {
+      laid = record {
+        nothing = laid.nothing;
+        objects = laid.objects;
+        fields = record { holds = laid.fields.holds; known = laid.fields.known; sorted = laid.fields.sorted };
+        globals = record { holds = laid.globals.holds; known = laid.globals.known; empty = laid.globals.empty };
+        clear = laid.clear;
+        fragments = laid.fragments;
+        buffers = laid.buffers;
+      };
+      headed = holds.1.1.headed;
+    },
+  ),
+)
+
+-- the stop word is no part of the heap
+pub heap_stays : (p : Program) (s t : Contents) (g : Graph) (b : Book) (word : ℕ) → t ≡ record s { stop = word } → HoldsHeap p s g b → HoldsHeap p t g b
+heap_stays p s t g b word e holds = subst (λ u. HoldsHeap p u g b) (sym e) (
+  record { layout = holds.0.layout; shapes = holds.0.shapes; fragments = holds.0.fragments; same = holds.0.same; next = holds.0.next; limit = holds.0.limit },
+  (holds.1.0, holds.1.1),
+)
+
+-- a standing object with a name has an address in the heap
+pub high : (p : Program) (s : Contents) (g : Graph) (b : Book) → HoldsHeap p s g b → (n : ℕ) → 1 ≤ n → b.stands n ≡ true → nursery_base ≤ b.address n
+high p s g b holds n l q = elim (holds.1.1.laid.objects.inside n l q) [
+  | inl i ↦ i.1
+  | inr i ↦ let u = i.1 in omega arith
+]

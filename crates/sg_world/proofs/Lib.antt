@@ -1,0 +1,16 @@
+pub mod AllOnward
+pub mod Begins
+pub mod Behind
+pub mod Epochs
+pub mod Going
+pub mod Halts
+pub mod Heaps
+pub mod Held
+pub mod Lists
+pub mod Onward
+pub mod Opened
+pub mod Parts
+pub mod Paused
+pub mod Placed
+pub mod Turned
+pub mod Yields

@@ -1,0 +1,5 @@
+pub mod Placing
+pub mod Starting
+pub mod Stopping
+pub mod Telling
+pub mod Worlds
