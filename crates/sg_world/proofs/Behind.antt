@@ -334,3 +334,9 @@ module _ (stays : StaysReady) (is_sound : HeldIsSound) (whoever : HeldWhoever) (
     | inl e ↦ (over.order, [], inl (e, whole e))
     | inr e ↦ (over.order, [], inr (e, at_stop e))
   ]
+
+-- an epoch that wasn't the last one: a stop comes next
+pub stops_next : (p : Program) (turns : List ℕ) (phases : List Phase) (report : EpochReport) (world : Worldly) (schedule : Schedule) (comes : ComesTo p turns phases report world schedule) →
+    report.last ≡ false → IsAtStop p turns phases report comes.0 comes.1 world schedule
+stops_next p turns phases report world schedule (order, swept, inl a) e = absurd (let q : true ≡ false = sym a.0 ∙ e in cc q)
+stops_next p turns phases report world schedule (order, swept, inr a) e = a.1

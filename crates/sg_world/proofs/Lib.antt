@@ -2,6 +2,7 @@ pub mod AllOnward
 pub mod Begins
 pub mod Behind
 pub mod Epochs
+pub mod Given
 pub mod Going
 pub mod Halts
 pub mod Heaps

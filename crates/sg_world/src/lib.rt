@@ -7,3 +7,6 @@ mod stop;
 mod world;
 
 pub use world::World;
+
+#[cfg(test)]
+mod tests;
