@@ -143,7 +143,15 @@ fn two_mutators(rt: HostRuntime) -> Result<(), Fail> {
     assert_eq!(rt; first.number, 0);
     let parts = first.parts.into_vec();
     assert_eq!(rt; parts.len(), 2);
-    assert!(rt; tells(&parts[0], 0, 0, Answer::At(front), Leave::Wants(Request::Minor)));
+    assert!(rt;
+        tells(
+            &parts[0],
+            0,
+            0,
+            Answer::At(front),
+            Leave::Wants(Request::Minor)
+        )
+    );
     assert!(rt; tells(&parts[1], 1, 0, Answer::At(middle), Leave::Yield));
     assert_eq!(rt; stop.number, 0);
     let minor = stop.minor.ok_or("a pause")?;

@@ -16,7 +16,7 @@ returns c =
     let classes : c.from_vec-2.result ≡ class ∷ [] = search rules in
     let mutators : c.from_vec-3.result ≡ one ∷ two ∷ [] = search rules in
     let is : record { config = record { nursery = 256; blocks = 1; pages = 0; buffer = 16; workers = 1; cement = 1 }; classes = class ∷ []; mutators = one ∷ two ∷ [] }
-        ≡ record { config = record { nursery = 256; blocks = 1; pages = 0; buffer = 16; workers = 1; cement = 1 }; classes = c.from_vec-2.result; mutators = c.from_vec-3.result } =
+    ≡ record { config = record { nursery = 256; blocks = 1; pages = 0; buffer = 16; workers = 1; cement = 1 }; classes = c.from_vec-2.result; mutators = c.from_vec-3.result } =
     λ i. record { config = record { nursery = 256; blocks = 1; pages = 0; buffer = 16; workers = 1; cement = 1 }; classes = sym classes i; mutators = sym mutators i } in
     let e = c.in_ok-script.ensures in
     let f = c.in_ok-script-2.ensures in
