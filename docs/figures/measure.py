@@ -59,6 +59,14 @@ def empty_repeats():
     return program('', '', 'repeat 1048576\n' * 4 + 'end\n' * 4)
 
 
+def sixteen():
+    """Sixteen scripts, each over global slots of its own."""
+    def script(i):
+        return 'mutator\n' + ''.join(f'new r{k % 3} N\nput r{k % 3} 0 r{(k + 1) % 3}\ngput {4 * i + k % 4} r{k % 3}\ngget r3 {4 * i + k % 4}\n'
+                                     f'num r4 {k}\nputd r3 2 r4\ngetd r5 r3 2\n' for k in range(520)) + 'end\n'
+    return 'sgen 1\nnursery 65536\nblocks 512\n' + NODE + ''.join(script(i) for i in range(16))
+
+
 def nested_repeats():
     return program('', '', 'repeat 1\n' * 70000 + 'end\n' * 70000)
 
@@ -71,53 +79,58 @@ def line_feeds():
     return '\n' * 1048500
 
 
+# Sixty turns that pass over the mutators by sevens.
+TURNS = ','.join(str(7 * k % 16) for k in range(60))
+# What makes the input, what the table says of it, and the command's words where they are not `run`.
 INPUTS = [
-    (pauses, 'a nursery of 4,096 words with 28 objects, and 2,000 `collect minor`'),
-    (statements, '80,002 statements of five sorts, 944,066 bytes'),
-    (promoted, 'a list that is promoted as it grows: 24,000 objects, 48,000 statements'),
-    (news, 'a million `new`s of 5 words by two repeats, over a nursery of 4,096 words'),
-    (one_epoch, 'a million `num`s by two repeats: one epoch'),
-    (long_list, 'a list of 87,000 objects by a repeat, with the largest nursery and major heap'),
-    (wide_objects, '60,000 `new`s of 64 words over the default nursery'),
-    (names, '250 classes with names of 26 bytes, and 26,000 `new`s of them'),
-    (empty_repeats, 'four nested repeats of 1,048,576 over nothing'),
-    (nested_repeats, '70,000 nested repeats: refused, `limit nesting`'),
-    (one_byte_too_long, '1,048,577 bytes: refused, `long`'),
-    (line_feeds, '1,048,500 line feeds: refused, `syntax`'),
+    (pauses, 'a nursery of 4,096 words with 28 objects, and 2,000 `collect minor`', ['run']),
+    (statements, '80,002 statements of five sorts, 944,066 bytes', ['run']),
+    (promoted, 'a list that is promoted as it grows: 24,000 objects, 48,000 statements', ['run']),
+    (news, 'a million `new`s of 5 words by two repeats, over a nursery of 4,096 words', ['run']),
+    (one_epoch, 'a million `num`s by two repeats: one epoch', ['run']),
+    (long_list, 'a list of 87,000 objects by a repeat, with the largest nursery and major heap', ['run']),
+    (wide_objects, '60,000 `new`s of 64 words over the default nursery', ['run']),
+    (names, '250 classes with names of 26 bytes, and 26,000 `new`s of them', ['run']),
+    (empty_repeats, 'four nested repeats of 1,048,576 over nothing', ['run']),
+    (sixteen, 'sixteen mutators with 3,640 statements each', ['run']),
+    (sixteen, 'the same by `replay` with a list of 60 turns', ['replay', TURNS]),
+    (nested_repeats, '70,000 nested repeats: refused, `limit nesting`', ['run']),
+    (one_byte_too_long, '1,048,577 bytes: refused, `long`', ['run']),
+    (line_feeds, '1,048,500 line feeds: refused, `syntax`', ['run']),
 ]
 
 
-def timed(data):
+def timed(words, data):
     best = None
     for _ in range(3):
         with tempfile.TemporaryFile() as f:
             f.write(data)
             f.seek(0)
             begun = time.perf_counter()
-            subprocess.run([PROGRAM, 'run'], stdin=f, stdout=subprocess.DEVNULL)
+            subprocess.run([PROGRAM, *words], stdin=f, stdout=subprocess.DEVNULL)
             gone = time.perf_counter() - begun
         best = gone if best is None else min(best, gone)
     return best
 
 
-def memory(data):
+def memory(words, data):
     # A process that is begun here counts the memory of this one as its own; GNU time begins it from a small one.
     if shutil.which('time') is None:
         return None
     with tempfile.TemporaryFile() as f, tempfile.NamedTemporaryFile('r') as told:
         f.write(data)
         f.seek(0)
-        subprocess.run([shutil.which('time'), '-f', '%M', '-o', told.name, PROGRAM, 'run'], stdin=f, stdout=subprocess.DEVNULL)
+        subprocess.run([shutil.which('time'), '-f', '%M', '-o', told.name, PROGRAM, *words], stdin=f, stdout=subprocess.DEVNULL)
         return int(told.read().split()[-1]) / 1024
 
 
-def counted(data):
+def counted(words, data):
     if shutil.which('valgrind') is None:
         return None
     with tempfile.TemporaryFile() as f:
         f.write(data)
         f.seek(0)
-        ran = subprocess.run(['valgrind', '--tool=callgrind', '--callgrind-out-file=/dev/null', PROGRAM, 'run'],
+        ran = subprocess.run(['valgrind', '--tool=callgrind', '--callgrind-out-file=/dev/null', PROGRAM, *words],
                              stdin=f, stdout=subprocess.DEVNULL, stderr=subprocess.PIPE)
     return int(next(line for line in ran.stderr.decode('latin-1').split('\n') if 'Collected' in line).split()[-1])
 
@@ -125,18 +138,18 @@ def counted(data):
 if __name__ == '__main__':
     args = sys.argv[1:]
     if args and args[0] == '--write':
-        for make, _ in INPUTS:
+        for make, _, _ in INPUTS:
             with open(os.path.join(args[1], make.__name__ + '.sgen'), 'w') as f:
                 f.write(make())
         sys.exit(0)
     if not os.access(PROGRAM, os.X_OK):
         sys.exit('measure.py: the program is missing: ./sgenlab run builds it')
     print('| Input | | Instructions | Seconds | Memory |\n|---|---|---|---|---|')
-    for make, what in INPUTS:
+    for make, what, words in INPUTS:
         if args and make.__name__ not in args:
             continue
         data = make().encode()
-        count, seconds, used = counted(data), timed(data), memory(data)
+        count, seconds, used = counted(words, data), timed(words, data), memory(words, data)
         told = '-' if count is None else f'{count / 1e6:.1f} million'
         held = '-' if used is None else f'{used:.1f} MiB'
         print(f'| `{make.__name__}` | {what} | {told} | {seconds:.2f} s | {held} |')
