@@ -1,5 +1,5 @@
 -- All mutators go on behind a pause.
-use Rattle.std.proofs.Common.{◌≡◌, ◌≢◌, ℕ, zero, suc, ◌+◌, ◌<◌, ◌≤◌, Some, List, [], ◌∷◌, ◌++◌, length, slice_get, get_or, take, drop, set, sym, refl, ap, ◌∙◌, subst, arith, append-nil, append_assoc}
+use Rattle.std.proofs.Common.{◌≡◌, ◌≢◌, ℕ, zero, suc, ◌+◌, ◌<◌, Some, List, [], ◌∷◌, ◌++◌, length, slice_get, get_or, take, drop, set, sym, refl, ap, ◌∙◌, subst, arith, append-nil, append_assoc}
 use Rattle.std.proofs.lemmas.Option.{same_Some}
 use Rattle.sg_words.specs.Lists.{Pairwise}
 use Rattle.sg_program.specs.declared.program.Statement.{Statement}
@@ -14,7 +14,7 @@ use Rattle.sg_order.specs.Rest.{IsReady}
 use Rattle.sg_order.specs.Held.{RunnableMakes}
 use Rattle.sg_order.specs.Serving.{ServesReady}
 use Rattle.sg_actor.specs.declared.mutator.Stage.{Stage}
-use Rattle.sg_actor.specs.declared.mutator.Stage.TheVariants.{Between, Within, Claiming, Ended, Asking, Yielded}
+use Rattle.sg_actor.specs.declared.mutator.Stage.TheVariants.{Between, Ended, Asking, Yielded}
 use Rattle.sg_actor.specs.State.{Mutating}
 use Rattle.sg_mutate.specs.Epochs.{found_at, IsReadyStage}
 use Rattle.sg_world.specs.Stopping.{GoesOn, GoOn}

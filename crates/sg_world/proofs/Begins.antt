@@ -1,5 +1,5 @@
 -- A world before the first epoch.
-use Rattle.std.proofs.Common.{◌≡◌, ◌≢◌, ℕ, zero, suc, ◌+◌, ◌<◌, ◌≤◌, true, false, Some, None, List, [], ◌∷◌, ◌++◌, length, map, replicate, get_or, slice_get, inl, inr, sym, refl, ap, ◌∙◌, subst, arith, length-append}
+use Rattle.std.proofs.Common.{◌≡◌, ℕ, zero, suc, ◌+◌, ◌≤◌, true, false, Some, List, [], ◌∷◌, ◌++◌, length, map, replicate, get_or, slice_get, inl, inr, sym, refl, ap, ◌∙◌, subst, arith, length-append}
 use Rattle.std.specs.List.{All, AllByRecursion}
 use Rattle.std.proofs.lemmas.Bool.{cases_lt}
 use Rattle.std.proofs.lemmas.List.{length-map}
@@ -7,7 +7,6 @@ use Rattle.std.proofs.lemmas.List.Elements.{All-nil, All-cons}
 use Rattle.std.proofs.lemmas.Option.{slice_get_past}
 use Rattle.sg_words.specs.Address.{byte_at}
 use Rattle.sg_words.specs.Sections.{nursery_base, old_base, words_end}
-use Rattle.sg_words.specs.Schedule.{Schedule}
 use Rattle.sg_words.specs.declared.layout.Layout.{Layout}
 use Rattle.sg_desc.specs.declared.shapes.Descriptor.{Descriptor}
 use Rattle.sg_desc.specs.declared.shapes.Descriptor.TheVariants.{PtrFree, Run, Bitmap, VectorRefs, VectorPlain, Ephemeron}
@@ -20,18 +19,17 @@ use Rattle.sg_program.specs.Limits.{MayHave}
 use Rattle.sg_graph.specs.Graph.{no_objects}
 use Rattle.sg_graph.specs.Book.{empty_book}
 use Rattle.sg_graph.specs.Heap.{layout_of as sections_in}
-use Rattle.sg_graph.specs.Follows.{FollowsTo, whole_schedule}
+use Rattle.sg_graph.specs.Follows.{whole_schedule}
 use Rattle.sg_graph.specs.Follows.FollowsTo.{Begins}
 use Rattle.sg_space.specs.Space.{Contents, words_of, AreShapes, IsContents, clear_space}
 use Rattle.sg_rules.specs.Rules.{Actor, fresh}
 use Rattle.sg_order.specs.Rest.{IsEpochOpening}
 use Rattle.sg_order.specs.Opening.{FirstOpening, AreFirstConstants, AreFirstWords}
 use Rattle.sg_actor.specs.declared.mutator.Stage.{Stage}
-use Rattle.sg_actor.specs.declared.mutator.Stage.TheVariants.{Between}
-use Rattle.sg_actor.specs.State.{Mutating, actor_of, waiting, IsCounted}
+use Rattle.sg_actor.specs.State.{Mutating, waiting, IsCounted}
 use Rattle.sg_mutate.specs.Epochs.{constants_of, found_in, found_at, actors_in, IsReadyStage}
 use Rattle.sg_world.specs.Starting.{IsNew, AreNew}
-use Rattle.sg_world.specs.Worlds.{Worldly, CanRun, IsBetween}
+use Rattle.sg_world.specs.Worlds.{CanRun, IsBetween}
 use Rattle.sg_world.proofs.Lists.{at_push, some_at}
 
 pub new_more : (p : Program) (n : ℕ) (ms : List Mutating) (m : Mutating) → AreNew p n ms → IsNew p n m → AreNew p (n + 1) (ms ++ m ∷ [])

@@ -1,6 +1,6 @@
 -- The world behind an epoch: the run is over, or a stop comes next.
-use Rattle.std.proofs.Common.{◌≡◌, ◌≢◌, ℕ, zero, ◌+◌, ◌||◌, ◌<◌, ◌≤◌, ◌↔◌, cond, Bool, true, false, not, IsTrue, filter, Option, Some, None, List, [], ◌∷◌, ◌++◌, length, slice_get, inl, inr, sym, refl, ap, ◌∙◌, subst, arith}
-use Rattle.std.specs.List.{flat_map, sum_by, Contains}
+use Rattle.std.proofs.Common.{◌≡◌, ◌≢◌, ℕ, zero, ◌+◌, ◌||◌, ◌≤◌, ◌↔◌, cond, true, false, not, Option, Some, None, List, [], ◌∷◌, ◌++◌, length, slice_get, inl, inr, sym, refl, ap, ◌∙◌, subst, arith}
+use Rattle.std.specs.List.{flat_map, Contains}
 use Rattle.std.proofs.lemmas.Bool.{cases_Bool}
 use Rattle.std.proofs.lemmas.Option.{same_Some, slice_get_within}
 use Rattle.sg_words.specs.Lists.{Pairwise}
@@ -14,14 +14,13 @@ use Rattle.sg_program.specs.declared.answers.Request.TheVariants.{Need, Minor}
 use Rattle.sg_graph.specs.declared.reports.Part.{Part}
 use Rattle.sg_graph.specs.declared.reports.EpochReport.{EpochReport}
 use Rattle.sg_graph.specs.Graph.{Graph}
-use Rattle.sg_graph.specs.Book.{Book}
-use Rattle.sg_graph.specs.Epoch.{numbers_below, running, is_done, left, parted as parted_in, AllEnded}
+use Rattle.sg_graph.specs.Epoch.{numbers_below, running, is_done, left, parted as parted_in}
 use Rattle.sg_graph.specs.Stop.{Asked, asked_by, requests_in, wants_pause, want_pause}
 use Rattle.sg_graph.specs.Run.{Phase, Epoch}
 use Rattle.sg_graph.specs.Follows.{IsEpochBy, IsWholeRunBy}
 use Rattle.sg_space.specs.Space.{Contents, words_of}
 use Rattle.sg_minor.specs.Holding.{HoldsHeap}
-use Rattle.sg_rules.specs.Rules.{Constants, Mid, Left, Actor, fresh}
+use Rattle.sg_rules.specs.Rules.{Constants, Left, Actor, fresh}
 use Rattle.sg_rules.specs.Resting.{IsRequestOf}
 use Rattle.sg_order.specs.Rest.{IsReady, IsHeld, before_it}
 use Rattle.sg_order.specs.OneOrder.{IsOneOrder}
@@ -336,7 +335,8 @@ module _ (stays : StaysReady) (is_sound : HeldIsSound) (whoever : HeldWhoever) (
   ]
 
 -- an epoch that wasn't the last one: a stop comes next
-pub stops_next : (p : Program) (turns : List ℕ) (phases : List Phase) (report : EpochReport) (world : Worldly) (schedule : Schedule) (comes : ComesTo p turns phases report world schedule) →
+pub stops_next : (p : Program) (turns : List ℕ) (phases : List Phase) (report : EpochReport) (world : Worldly) (schedule : Schedule)
+    (comes : ComesTo p turns phases report world schedule) →
     report.last ≡ false → IsAtStop p turns phases report comes.0 comes.1 world schedule
 stops_next p turns phases report world schedule (order, swept, inl a) e = absurd (let q : true ≡ false = sym a.0 ∙ e in cc q)
 stops_next p turns phases report world schedule (order, swept, inr a) e = a.1

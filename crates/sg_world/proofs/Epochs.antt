@@ -1,36 +1,35 @@
 -- From the end of an epoch, in which each mutator has left, to the epoch's report.
-use Rattle.std.proofs.Common.{◌≡◌, ◌≢◌, ℕ, ◌+◌, ◌<◌, ◌≤◌, ◌↔◌, Bool, true, false, not, IsTrue, filter, Option, Some, None, List, [], ◌∷◌, ◌++◌, map, length, slice_get, inl, inr, sym, refl, ap, ◌∙◌, subst, arith}
+use Rattle.std.proofs.Common.{◌≡◌, ℕ, ◌+◌, ◌<◌, ◌↔◌, Bool, true, false, not, filter, Option, Some, None, List, [], ◌∷◌, length, slice_get, inl, inr, sym, refl, ap, ◌∙◌, subst, arith}
 use Rattle.std.specs.List.{AllByRecursion, Contains}
 use Rattle.std.proofs.lemmas.Bool.{cases_Bool, cases_lt}
-use Rattle.std.proofs.lemmas.Option.{same_Some, slice_get_within, slice_get_past}
+use Rattle.std.proofs.lemmas.Option.{same_Some, slice_get_within}
 use Rattle.sg_words.specs.Lists.{Pairwise}
 use Rattle.sg_words.specs.Schedule.{Schedule}
 use Rattle.sg_program.specs.declared.program.Statement.{Statement}
 use Rattle.sg_program.specs.declared.program.Program.{Program}
 use Rattle.sg_program.specs.declared.answers.Leave.{Leave}
 use Rattle.sg_program.specs.declared.answers.Leave.TheVariants.{Ended as HasEnded, Yield, Wants}
-use Rattle.sg_program.specs.declared.answers.Request.{Request}
 use Rattle.sg_program.specs.Scripts.{script_of}
 use Rattle.sg_graph.specs.declared.reports.Part.{Part}
 use Rattle.sg_graph.specs.declared.reports.EpochReport.{EpochReport}
 use Rattle.sg_graph.specs.Graph.{Graph}
 use Rattle.sg_graph.specs.Book.{Book}
-use Rattle.sg_graph.specs.Epoch.{Explains, IsPart, SomeAsks, numbers_below, running, is_done, left, AllEnded, IsEpoch}
+use Rattle.sg_graph.specs.Epoch.{Explains, IsPart, SomeAsks, numbers_below, running, is_done, left, AllEnded}
 use Rattle.sg_graph.specs.Turns.{HasLeft}
 use Rattle.sg_graph.specs.Follows.{IsEpochBy}
 use Rattle.sg_space.specs.Space.{Contents, words_of}
-use Rattle.sg_rules.specs.Rules.{Constants, Mid, Idle, Left, Yielded as HasYielded, Actor, fresh}
-use Rattle.sg_order.specs.Rest.{IsReady, IsHeld, IsOver as IsBehind, before_it}
+use Rattle.sg_rules.specs.Rules.{Constants, Idle, Left, Yielded as HasYielded, Actor, fresh}
+use Rattle.sg_order.specs.Rest.{IsHeld, IsOver as IsBehind, before_it}
 use Rattle.sg_order.specs.OneOrder.{IsOneOrder}
 use Rattle.sg_order.specs.Held.{HeldIsSound, HeldWhoever}
 use Rattle.sg_actor.specs.declared.mutator.Stage.{Stage}
-use Rattle.sg_actor.specs.declared.mutator.Stage.TheVariants.{Between, Within, Claiming, Ended, Asking, Yielded}
+use Rattle.sg_actor.specs.declared.mutator.Stage.TheVariants.{Between, Ended, Asking, Yielded}
 use Rattle.sg_actor.specs.State.{Mutating, actor_of, leave_of, waiting, IsCounted}
 use Rattle.sg_mutate.specs.Epochs.{constants_of, parted, found_in, found_at, actors_in, IsReadyStage, IsOpened, HasLeftAs, IsOver}
 use Rattle.sg_mutate.specs.Boards.{IsAt}
 use Rattle.sg_world.specs.Telling.{goes, goes_at, going_in, HasLeftAt, HaveEnded, TellsOf, TellsAt}
 use Rattle.sg_world.proofs.Lists.{pairwise_left, pairwise_right, pairwise_under, passing, in_filter, below, all_below, filter_same, all_at, some_at}
-use Rattle.sg_world.proofs.Parts.{IsLeaveOf, leave_at, is_over, left_wants, done_empty, not_done, ended_is, is_part}
+use Rattle.sg_world.proofs.Parts.{IsLeaveOf, leave_at, is_over, left_wants, done_empty, ended_is, is_part}
 use Rattle.sg_world.proofs.Yields.{waiting as waits}
 
 not_ended : (b : Bool) → not b ≡ true → b ≡ false

@@ -1,5 +1,5 @@
 -- The numbers of the mutators that go on.
-use Rattle.std.proofs.Common.{◌≡◌, ℕ, suc, ◌+◌, ◌↔◌, cond, Bool, true, false, filter, Some, List, [], ◌∷◌, ◌++◌, slice_get, sym, refl, ap, ◌∙◌, append-nil, add-one}
+use Rattle.std.proofs.Common.{◌≡◌, ℕ, ◌+◌, ◌↔◌, cond, Bool, true, false, filter, Some, List, [], ◌∷◌, ◌++◌, slice_get, sym, refl, ap, ◌∙◌, append-nil, add-one}
 use Rattle.std.proofs.lemmas.List.Elements.{filter-append}
 use Rattle.sg_graph.specs.Epoch.{numbers_below}
 use Rattle.sg_actor.specs.declared.mutator.Stage.{Stage}

@@ -1,24 +1,21 @@
 -- The stop behind an epoch: the pause, and then the answers to the requests.
-use Rattle.std.proofs.Common.{◌≡◌, ◌≢◌, ℕ, zero, suc, ◌+◌, ◌<◌, ◌≤◌, ◌^◌, Bool, true, false, Some, None, List, [], ◌∷◌, ◌++◌, length, slice_get, inl, inr, sym, refl, ap, ◌∙◌, subst, arith}
-use Rattle.std.specs.List.{sum_by, Contains}
+use Rattle.std.proofs.Common.{◌≡◌, ◌≢◌, ℕ, zero, suc, ◌+◌, ◌≤◌, Bool, true, false, Some, List, [], ◌∷◌, ◌++◌, length, slice_get, inl, inr, sym, refl, ap, ◌∙◌, subst, arith}
+use Rattle.std.specs.List.{sum_by}
 use Rattle.std.proofs.lemmas.Bool.{cases_lt}
-use Rattle.std.proofs.lemmas.Option.{same_Some, slice_get_within, slice_get_past}
+use Rattle.std.proofs.lemmas.Option.{same_Some, slice_get_past}
 use Rattle.std.proofs.lemmas.List.Sums.{sum_by-cons}
 use Rattle.sg_words.specs.Lists.{Pairwise}
 use Rattle.sg_words.specs.Schedule.{Schedule}
 use Rattle.sg_program.specs.declared.program.Script.{Script}
 use Rattle.sg_program.specs.declared.program.Statement.{Statement}
 use Rattle.sg_program.specs.declared.program.Program.{Program}
-use Rattle.sg_program.specs.declared.answers.Request.{Request}
 use Rattle.sg_program.specs.Scripts.{written_out, statements_at, script_of}
 use Rattle.sg_graph.specs.declared.reports.EpochReport.{EpochReport}
 use Rattle.sg_graph.specs.declared.reports.MinorReport.{MinorReport}
 use Rattle.sg_graph.specs.declared.reports.Service.{Service}
-use Rattle.sg_graph.specs.declared.reports.StopReport.{StopReport}
 use Rattle.sg_graph.specs.Graph.{Graph}
-use Rattle.sg_graph.specs.Book.{Book}
 use Rattle.sg_graph.specs.Copies.{CopiesInOrder}
-use Rattle.sg_graph.specs.Epoch.{Said, AllEnded}
+use Rattle.sg_graph.specs.Epoch.{Said}
 use Rattle.sg_graph.specs.Laws.{KeepsPointedInto}
 use Rattle.sg_graph.specs.Minor.{IsMinorPause}
 use Rattle.sg_graph.specs.Pause.{ambiguous_words}
@@ -34,7 +31,7 @@ use Rattle.sg_order.specs.Rest.{IsReady}
 use Rattle.sg_order.specs.Serving.{StaysReady, ServesReady}
 use Rattle.sg_order.specs.Held.{HeldIsSound, RunnableMakes}
 use Rattle.sg_actor.specs.declared.mutator.Stage.{Stage}
-use Rattle.sg_actor.specs.declared.mutator.Stage.TheVariants.{Between, Within, Claiming, Ended, Asking, Yielded}
+use Rattle.sg_actor.specs.declared.mutator.Stage.TheVariants.{Ended, Asking, Yielded}
 use Rattle.sg_actor.specs.State.{Mutating, actor_of, waiting, IsCounted, DropsBuffer}
 use Rattle.sg_mutate.specs.Epochs.{constants_of, parted, found_in, found_at, actors_in, AreMutatorsOf}
 use Rattle.sg_world.specs.Stopping.{held_by, held_in, HaveRegisters, IsOpen, CanGoOn, MayGoOn, GoOn}
@@ -42,7 +39,7 @@ use Rattle.sg_world.specs.Worlds.{Worldly, CanRun, IsWorldOf, IsBetween, HasLeft
 use Rattle.sg_world.proofs.Lists.{pairwise_at, pairwise_at_right, pairwise_length, pairwise_by, joined_pairwise, sums_le, sums_less, some_at, asked_somewhere}
 use Rattle.sg_world.proofs.Heaps.{contents_stay, held_of_heap, ends_of_heap, addresses_of_heap, high}
 use Rattle.sg_world.proofs.Paused.{AreAmong, none_among, own_among, ambiguous_are, ready_paused}
-use Rattle.sg_world.proofs.Onward.{IsHolding, IsReadyNow, IsFurther}
+use Rattle.sg_world.proofs.Onward.{IsReadyNow, IsFurther}
 use Rattle.sg_world.proofs.AllOnward.{HaveGoneOn, all_go}
 
 few_in : (scripts : List Script) (k : ℕ) → length (statements_at (slice_get scripts k)) ≤ sum_by (λ (script : Script). length (written_out script.items))

@@ -1,6 +1,6 @@
 -- The space of a world and the heap that it holds.
-use Rattle.std.proofs.Common.{◌≡◌, ℕ, ◌+◌, ◌<◌, ◌≤◌, List, length, get_or, true, inl, inr, refl, ap, sym, ◌∙◌, subst, arith}
-use Rattle.sg_words.specs.Address.{byte_at, word_at}
+use Rattle.std.proofs.Common.{◌≡◌, ℕ, ◌<◌, ◌≤◌, List, length, get_or, true, inl, inr, ap, sym, ◌∙◌, subst, arith}
+use Rattle.sg_words.specs.Address.{word_at}
 use Rattle.sg_words.specs.Sections.{IsLayout, words_end, nursery_base}
 use Rattle.sg_words.specs.declared.layout.Layout.{Layout as Sections}
 use Rattle.sg_program.specs.declared.program.Program.{Program}
@@ -10,7 +10,6 @@ use Rattle.sg_graph.specs.Invariants.{IsPlain}
 use Rattle.sg_minor.specs.Holding.{HoldsHeap}
 use Rattle.sg_space.specs.Space.{Contents, words_of, AreShapes, IsContents}
 use Rattle.sg_frag.specs.Plain.{KeepsSections}
-use Rattle.sg_rules.specs.Rules.{Constants}
 use Rattle.sg_order.specs.Rest.{IsHeld}
 use Rattle.sg_mutate.specs.Epochs.{constants_of}
 use Rattle.sg_world.specs.Placing.{EndsInside, HasByteAddresses}

@@ -1,8 +1,5 @@
 -- Behind a pause one mutator after another goes on: its request is answered, or its next epoch is before it.
-use Rattle.std.proofs.Common.{◌≡◌, ◌≢◌, ℕ, zero, suc, ◌+◌, ◌<◌, ◌≤◌, true, false, Some, List, [], ◌∷◌, ◌++◌, length, slice_get, sym, refl, ap, ◌∙◌, subst, arith, length-set}
-use Rattle.std.specs.List.{flat_map}
-use Rattle.std.proofs.lemmas.Option.{same_Some}
-use Rattle.sg_words.specs.Lists.{Pairwise}
+use Rattle.std.proofs.Common.{◌≡◌, ◌≢◌, ℕ, ◌+◌, false, List, [], ◌∷◌, length, sym, refl, ap, ◌∙◌, subst, arith, length-set}
 use Rattle.sg_program.specs.declared.program.Statement.{Statement}
 use Rattle.sg_program.specs.declared.program.Statement.TheVariants.{New, NewV, Collect}
 use Rattle.sg_program.specs.declared.program.Program.{Program}
@@ -23,13 +20,12 @@ use Rattle.sg_order.specs.Rest.{IsReady}
 use Rattle.sg_order.specs.Held.{RunnableMakes}
 use Rattle.sg_order.specs.Serving.{ServesReady, AreReadyBehind}
 use Rattle.sg_actor.specs.declared.mutator.Stage.{Stage}
-use Rattle.sg_actor.specs.declared.mutator.Stage.TheVariants.{Between, Within, Claiming, Ended, Asking, Yielded}
+use Rattle.sg_actor.specs.declared.mutator.Stage.TheVariants.{Between, Ended, Asking, Yielded}
 use Rattle.sg_actor.specs.State.{Mutating, actor_of, mid_of, waiting, stage_anew, IsCounted}
 use Rattle.sg_mutate.specs.Epochs.{constants_of, parted, found_at, IsReadyStage}
 use Rattle.sg_world.specs.Placing.{IsMade, IsServing}
-use Rattle.sg_world.specs.Stopping.{HasAnswer, HasBegun, GoesOn, GoOn}
-use Rattle.sg_world.specs.Stopping.GoOn.{Nobody, OneMore}
-use Rattle.sg_world.specs.Worlds.{HasLeftReady, asked_of, requests_of}
+use Rattle.sg_world.specs.Stopping.{HasAnswer, HasBegun, GoesOn}
+use Rattle.sg_world.specs.Worlds.{HasLeftReady, asked_of}
 use Rattle.sg_world.proofs.Heaps.{held_of_heap}
 use Rattle.sg_world.proofs.Turned.{HasTurned, turned}
 

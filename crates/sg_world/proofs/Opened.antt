@@ -1,9 +1,8 @@
 -- A space in which objects can be placed stays one as requests are answered.
-use Rattle.std.proofs.Common.{◌≡◌, ℕ, ◌+◌, ◌<◌, ◌≤◌, ◌%◌, false, Some, List, [], ◌∷◌, length, get_or, set, inl, inr, sym, refl, ap, ◌∙◌, subst, arith, length-set, get_or-set_same, get_or-set_other}
+use Rattle.std.proofs.Common.{◌≡◌, ℕ, ◌+◌, false, Some, List, [], ◌∷◌, length, get_or, set, inl, inr, sym, ap, ◌∙◌, subst, arith, get_or-set_same, get_or-set_other}
 use Rattle.std.proofs.lemmas.Bool.{cases_eq}
 use Rattle.std.proofs.lemmas.Option.{same_Some}
 use Rattle.sg_words.specs.Address.{byte_at}
-use Rattle.sg_words.specs.Sections.{nursery_base}
 use Rattle.sg_words.specs.declared.layout.Layout.{Layout}
 use Rattle.sg_program.specs.declared.program.Statement.{Statement}
 use Rattle.sg_program.specs.declared.program.Statement.TheVariants.{New, NewV, Collect}
@@ -12,13 +11,12 @@ use Rattle.sg_program.specs.declared.answers.Answer.{Answer}
 use Rattle.sg_program.specs.declared.answers.Answer.TheVariants.{At, Fine, Full}
 use Rattle.sg_program.specs.declared.answers.Request.{Request}
 use Rattle.sg_program.specs.Scripts.{fields_of, words_for}
-use Rattle.sg_graph.specs.declared.reports.Service.{Service}
 use Rattle.sg_space.specs.Space.{Contents, IsContents}
 use Rattle.sg_frag.specs.Plain.{KeepsSections}
 use Rattle.sg_actor.specs.declared.mutator.Stage.{Stage}
-use Rattle.sg_actor.specs.declared.mutator.Stage.TheVariants.{Between, Within, Claiming, Ended, Asking, Yielded}
+use Rattle.sg_actor.specs.declared.mutator.Stage.TheVariants.{Asking}
 use Rattle.sg_actor.specs.State.{Mutating, asking_of, HasServed}
-use Rattle.sg_world.specs.Placing.{EndsInside, HasByteAddresses, HoldsNew, IsMade, IsServing}
+use Rattle.sg_world.specs.Placing.{HasByteAddresses, HoldsNew, IsMade, IsServing}
 use Rattle.sg_world.specs.Stopping.{IsOpen, GoesOn}
 use Rattle.sg_world.proofs.Heaps.{contents_stay}
 

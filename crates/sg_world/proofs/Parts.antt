@@ -1,5 +1,5 @@
 -- How a mutator has left an epoch, and what its part of the report is then.
-use Rattle.std.proofs.Common.{◌≡◌, ◌≢◌, ℕ, ◌+◌, ◌≤◌, Bool, true, false, not, Some, List, [], ◌∷◌, map, length, inl, inr, sym, refl, ap, ◌∙◌, subst, arith}
+use Rattle.std.proofs.Common.{◌≡◌, ◌≢◌, ℕ, ◌+◌, Bool, true, false, List, [], ◌∷◌, length, inl, inr, sym, refl, ap, ◌∙◌, subst, arith}
 use Rattle.std.specs.List.{AllByRecursion}
 use Rattle.sg_words.specs.Words.{Words}
 use Rattle.sg_words.specs.Events.{Event}
@@ -13,12 +13,12 @@ use Rattle.sg_program.specs.declared.answers.Request.{Request}
 use Rattle.sg_program.specs.declared.answers.Request.TheVariants.{Need, Minor}
 use Rattle.sg_program.specs.Scripts.{script_of, IsSmall, IsMaking, made_words}
 use Rattle.sg_graph.specs.declared.reports.Part.{Part}
-use Rattle.sg_graph.specs.Graph.{Graph, Entry, Ref, Mutator}
+use Rattle.sg_graph.specs.Graph.{Graph, Entry, Mutator}
 use Rattle.sg_graph.specs.Statements.{name_in}
 use Rattle.sg_graph.specs.Book.{Book, HasNoPlace}
 use Rattle.sg_graph.specs.Epoch.{Asks, Leaves, IsPart, is_done, left, parted}
 use Rattle.sg_graph.specs.Turns.{HasLeft}
-use Rattle.sg_rules.specs.Rules.{Constants, StackWord, Mid, Idle, TestTag, TestLength, Access, AccessGlobal, Look, Claim, StoreLength, StoreTag, HideLength, Ask, Left, Yielded, Actor, owning, fresh}
+use Rattle.sg_rules.specs.Rules.{Constants, StackWord, Mid, Idle, Left, Yielded, Actor, owning, fresh}
 use Rattle.sg_rules.specs.Resting.{IsRunnable, IsRequestOf}
 use Rattle.sg_order.specs.Rest.{Holds, IsReady, before_it, IsOver}
 use Rattle.sg_order.specs.OneOrder.{IsOneOrder}

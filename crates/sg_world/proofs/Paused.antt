@@ -1,28 +1,27 @@
 -- A pause: which words it can't tell from addresses, and what it leaves in the hands of the mutators.
-use Rattle.std.proofs.Common.{◌≡◌, ◌≢◌, ℕ, zero, suc, ◌+◌, ◌<◌, ◌≤◌, cond, not, filter, Bool, true, false, Some, List, [], ◌∷◌, ◌++◌, length, map, reverse, get_or, slice_get, inl, inr, sym, refl, ap, ◌∙◌, subst, arith}
+use Rattle.std.proofs.Common.{◌≡◌, ◌≢◌, ℕ, zero, suc, ◌≤◌, cond, not, true, Some, List, [], ◌∷◌, ◌++◌, length, map, reverse, get_or, slice_get, inl, inr, sym, refl, ap, ◌∙◌, subst, arith}
 use Rattle.std.specs.List.{flat_map, Contains, AllByRecursion}
 use Rattle.std.proofs.lemmas.Bool.{cases_eq, cases_lt}
 use Rattle.std.proofs.lemmas.List.{reverse-append}
 use Rattle.std.proofs.lemmas.List.Elements.{Contains-get_or, Contains-append_left, Contains-append_right}
-use Rattle.sg_words.specs.Address.{byte_at}
 use Rattle.sg_words.specs.Lists.{Pairwise}
 use Rattle.sg_words.specs.Sections.{nursery_base}
 use Rattle.sg_program.specs.declared.program.Statement.{Statement}
 use Rattle.sg_program.specs.declared.program.Program.{Program}
 use Rattle.sg_graph.specs.declared.reports.MinorReport.{MinorReport}
-use Rattle.sg_graph.specs.Graph.{Entry, Ref, Int, Inner, Mutator, Graph}
+use Rattle.sg_graph.specs.Graph.{Entry, Ref, Int, Inner, Graph}
 use Rattle.sg_graph.specs.Statements.{name_in}
 use Rattle.sg_graph.specs.Book.{Book, word_of, IsSoundBook}
-use Rattle.sg_graph.specs.Epoch.{numbers_below, running}
+use Rattle.sg_graph.specs.Epoch.{numbers_below}
 use Rattle.sg_graph.specs.Pause.{ambiguous_words, words_in as words_of_graph, PointsInto, IsPointedInto}
 use Rattle.sg_graph.specs.Minor.{IsMinorPause}
 use Rattle.sg_graph.specs.Laws.{KeepsPointedInto}
 use Rattle.sg_rules.specs.Rules.{StackWord, Actor, fresh, owning}
 use Rattle.sg_order.specs.Rest.{Holds, IsReady}
-use Rattle.sg_order.specs.Serving.{StaysPut, HandsStay, HasSameHands, StaysReady}
+use Rattle.sg_order.specs.Serving.{StaysPut, HandsStay, StaysReady}
 use Rattle.sg_actor.specs.declared.mutator.Held.{Held}
 use Rattle.sg_actor.specs.declared.mutator.Stage.{Stage}
-use Rattle.sg_actor.specs.declared.mutator.Stage.TheVariants.{Between, Within, Claiming, Ended, Asking, Yielded}
+use Rattle.sg_actor.specs.declared.mutator.Stage.TheVariants.{Ended, Asking, Yielded}
 use Rattle.sg_actor.specs.State.{Mutating, slot_of, actor_of, words_in}
 use Rattle.sg_world.specs.Telling.{goes}
 use Rattle.sg_world.specs.Stopping.{held_by, held_in, HaveRegisters}

@@ -1,5 +1,5 @@
 -- What the steps of a stop ask for and leave.
-use Rattle.std.specs.Prelude.{◌≡◌, ℕ, ◌+◌, ◌≤◌, ◌^◌, ◌<◌, true, Some, List, [], ◌∷◌, ◌++◌, length, slice_get}
+use Rattle.std.specs.Prelude.{◌≡◌, ℕ, ◌+◌, ◌^◌, ◌<◌, true, Some, List, [], ◌∷◌, ◌++◌, length, slice_get}
 use Rattle.std.specs.List.{flat_map}
 use Rattle.sg_program.specs.declared.program.Statement.{Statement}
 use Rattle.sg_program.specs.declared.program.Program.{Program}
@@ -8,7 +8,7 @@ use Rattle.sg_graph.specs.declared.reports.Service.{Service}
 use Rattle.sg_space.specs.Space.{Contents, IsContents}
 use Rattle.sg_rules.specs.Resting.{IsRunnable, IsRequestOf}
 use Rattle.sg_actor.specs.declared.mutator.Stage.{Stage}
-use Rattle.sg_actor.specs.declared.mutator.Stage.TheVariants.{Between, Within, Claiming, Ended, Asking, Yielded}
+use Rattle.sg_actor.specs.declared.mutator.Stage.TheVariants.{Ended, Asking, Yielded}
 use Rattle.sg_actor.specs.State.{Mutating, words_in, BeginsEpoch, HasServed}
 use Rattle.sg_world.specs.Placing.{EndsInside, HasByteAddresses, IsServing}
 use Rattle.sg_world.specs.Telling.{goes}

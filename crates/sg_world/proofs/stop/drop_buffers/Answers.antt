@@ -1,7 +1,7 @@
 use Rattle.sg_actor.specs.State.{DropsBuffer}
 use Rattle.sg_world.proofs.Lists.{pairwise_more, rest_more}
 use Rattle.sg_world.proofs.stop.drop_buffers.Goals as goal
-use Rattle.std.proofs.Common.{◌≡◌, ◌<◌, length, sym, subst, arith}
+use Rattle.std.proofs.Common.{◌≡◌, ◌<◌, length, arith}
 
 pub loop-k-preserved : goal.loop-k-preserved
 loop-k-preserved c =

@@ -1,5 +1,4 @@
-use Rattle.std.proofs.Common.{◌≡◌, ◌∙◌, ◌+◌, Some, length, sym, ap, subst, List}
-use Rattle.sg_program.specs.declared.answers.Answer.{Answer}
+use Rattle.std.proofs.Common.{◌≡◌, ◌∙◌, ◌+◌, Some, length, sym}
 use Rattle.sg_actor.specs.State.{asking_of}
 use Rattle.sg_world.proofs.Opened.{open_stays, answered_so}
 use Rattle.sg_world.proofs.stop.go_on.Goals as goal

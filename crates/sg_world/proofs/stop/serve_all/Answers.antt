@@ -1,8 +1,6 @@
-use Rattle.std.proofs.Common.{◌≡◌, ◌≤◌, ◌<◌, ◌++◌, ◌∷◌, [], List, Some, length, take, drop, get_or, slice_get, refl, sym, ap, ◌∙◌, subst, arith, append-nil}
+use Rattle.std.proofs.Common.{◌≡◌, ◌<◌, ◌∷◌, [], List, length, get_or, refl, sym, ap, ◌∙◌, subst, arith, append-nil}
 use Rattle.std.proofs.lemmas.Option.{slice_get-get_or}
-use Rattle.sg_frag.specs.Plain.{KeepsSections}
 use Rattle.sg_graph.specs.declared.reports.Service.{Service}
-use Rattle.sg_actor.specs.State.{Mutating}
 use Rattle.sg_world.specs.Stopping.{MayGoOn, GoOn}
 use Rattle.sg_world.specs.Stopping.GoOn.{Nobody}
 use Rattle.sg_world.proofs.AllOnward.{go_step}

@@ -1,11 +1,6 @@
-use Rattle.std.proofs.Common.{◌≡◌, List, [], ◌∷◌, ◌++◌, inl, inr, true, false, sym, ◌∙◌, subst}
+use Rattle.std.proofs.Common.{[], sym, subst}
 use Rattle.sg_words.specs.Schedule.{Schedule}
-use Rattle.sg_program.specs.declared.program.Program.{Program}
-use Rattle.sg_graph.specs.declared.reports.EpochReport.{EpochReport}
-use Rattle.sg_graph.specs.Epoch.{Said}
-use Rattle.sg_graph.specs.Run.{Phase}
-use Rattle.sg_graph.specs.Follows.{whole_schedule}
-use Rattle.sg_world.specs.Worlds.{Worldly, IsBetween, IsAtStop, ComesTo}
+use Rattle.sg_world.specs.Worlds.{IsBetween}
 use Rattle.sg_world.proofs.Behind.{stops_next}
 use Rattle.sg_world.proofs.tests.go_twice.Goals as goal
 
@@ -18,8 +13,17 @@ pub stop-requires : goal.stop-requires
 stop-requires c =
     let p = c.args.program.now in
     let b = subst (λ (s : Schedule). IsBetween p [] [] c.in_ok-world.world s) (sym c.in_ok-order.ensures) (c.in_ok-world.ensures []) in
-    let comes = c.in_ok-world-2.ensures.comes p [] [] b in
-    (p, [], [], c.in_ok-world-2.first, comes.0, comes.1, c.epoch.new.order, stops_next p [] [] c.in_ok-world-2.first c.in_ok-world-2.world c.epoch.new.order comes c.if-first.false)
+    let comes = c.in_ok-world-2.ensures.comes p [] [] b in (
+      p,
+      [],
+      [],
+      c.in_ok-world-2.first,
+      comes.0,
+      comes.1,
+      c.epoch.new.order,
+      stops_next p [] [] c.in_ok-world-2.first c.in_ok-world-2.world c.epoch.new.order
+          comes c.if-first.false,
+    )
 
 pub epoch-requires-2 : goal.epoch-requires-2
 epoch-requires-2 c =

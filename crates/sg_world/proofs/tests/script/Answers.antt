@@ -22,7 +22,8 @@ loop-statement-preserved c =
     let more : take (k + 1) given ≡ take k given ++ s ∷ [] = take_more given k (New 0 0) c.loop-statement-test.true in
     record {
       out = ap (flat_map item_out) items ∙ joined_more item_out old one (take k given) (s ∷ []) i.out (law.out_one one s c.item.ensures.out) ∙ sym more;
-      written = ap (flat_map item_text) items ∙ joined_more item_text old one (take k given) (s ∷ []) i.written (law.text_one one s c.item.ensures.out) ∙ sym more;
+      written = ap (flat_map item_text) items ∙ joined_more item_text old one (take k given) (s ∷ []) i.written (law.text_one one s c.item.ensures.out)
+          ∙ sym more;
       times = ap (flat_map item_times) items ∙ joined_more item_times old one [] [] i.times c.item.ensures.times;
       nesting = subst (AllByRecursion (λ (item : Item). item_depth item ≤ 4)) (sym items)
           (all_more (λ (item : Item). item_depth item ≤ 4) old one i.nesting (let e = c.item.ensures.depth in omega arith));

@@ -1,4 +1,4 @@
-use Rattle.std.proofs.Common.{◌≡◌, ◌≤◌, ℕ, ◌↔◌, Some, List, length, slice_get, true, sym, refl, ap, ◌∙◌, subst, arith}
+use Rattle.std.proofs.Common.{◌≡◌, ℕ, ◌↔◌, List, length, slice_get, true, sym, ap, ◌∙◌, subst, arith}
 use Rattle.sg_words.specs.Lists.{Pairwise}
 use Rattle.sg_actor.specs.State.{Mutating}
 use Rattle.sg_world.specs.Telling.{going_in, HasLeftAt, TellsAt, HaveEnded}

@@ -1,11 +1,8 @@
-use Rattle.std.proofs.Common.{◌≡◌, map, length, ap, sym, ◌∙◌, subst, List}
-use Rattle.sg_words.specs.Schedule.{Schedule}
+use Rattle.std.proofs.Common.{map, length, ap, sym, ◌∙◌, subst, List}
 use Rattle.sg_words.specs.declared.layout.Layout.{Layout}
-use Rattle.sg_desc.specs.declared.shapes.Shape.{Shape}
 use Rattle.sg_program.specs.declared.program.Class.{Class}
 use Rattle.sg_space.specs.Space.{AreShapes, clear_space}
 use Rattle.sg_actor.specs.State.{Mutating}
-use Rattle.sg_graph.specs.Follows.{whole_schedule}
 use Rattle.sg_world.specs.Starting.{AreNew}
 use Rattle.sg_world.proofs.Begins.{shapes_fit, begins}
 use Rattle.sg_world.proofs.world.World.start.Goals as goal

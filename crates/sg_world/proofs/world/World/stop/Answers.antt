@@ -1,9 +1,8 @@
-use Rattle.std.proofs.Common.{◌≡◌, ◌≤◌, ◌<◌, ◌+◌, ◌^◌, ◌++◌, ◌∷◌, [], List, Some, length, take, drop, slice_get, refl, sym, ap, ◌∙◌, subst, arith}
-use Rattle.sg_words.specs.Lists.{Pairwise}
+use Rattle.std.proofs.Common.{◌≡◌, ◌+◌, List, length, slice_get, refl, sym, ap, ◌∙◌, subst, arith}
 use Rattle.sg_program.specs.declared.program.Program.{Program}
 use Rattle.sg_actor.specs.State.{Mutating, DropsBuffer}
 use Rattle.sg_world.specs.Stopping.{MayGoOn, GoOn}
-use Rattle.sg_world.specs.Worlds.{Worldly, IsAtStop, IsBetween}
+use Rattle.sg_world.specs.Worlds.{Worldly, IsAtStop}
 use Rattle.sg_world.proofs.AllOnward.{go_on_length}
 use Rattle.sg_world.proofs.Halts.{may_go_on, is_open, few_epochs, goes_on}
 use Rattle.sg_world.proofs.Lists.{pairwise_length, front_all}
