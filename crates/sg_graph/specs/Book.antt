@@ -1,5 +1,5 @@
--- The book: which objects stand, and where; the fragments; the buffers.
-use Rattle.std.specs.Prelude.{◌≡◌, ℕ, ◌+◌, ◌-◌, ◌*◌, ◌<◌, ◌≤◌, ◌⊎◌, ◌==◌, min, max, Bool, true}
+-- The book: which objects stand, and where; the owed blocks; the fragments; the buffers.
+use Rattle.std.specs.Prelude.{◌≡◌, ◌≢◌, ℕ, ◌+◌, ◌-◌, ◌*◌, ◌<◌, ◌≤◌, ◌⊎◌, ◌==◌, min, max, Bool, true, false}
 use Rattle.sg_words.specs.Words.{put}
 use Rattle.sg_program.specs.declared.program.Statement.{Statement}
 use Rattle.sg_program.specs.declared.program.Statement.TheVariants.{New, NewV, Mature, Collect, Sections}
@@ -9,6 +9,7 @@ use Rattle.sg_program.specs.declared.answers.Answer.TheVariants.{At}
 use Rattle.sg_program.specs.Scripts.{fields_of, words_for, IsSmall}
 use Rattle.sg_words.specs.Address.{byte_at}
 use Rattle.sg_words.specs.Sections.{nursery_base}
+use Rattle.sg_words.specs.Blocks.{slot_size, slots}
 use Rattle.sg_graph.specs.Graph.{Graph, Entry, Ref, Int, Inner}
 
 -- where an object stands: in the nursery, in a block of the major heap, or in pages of its own
@@ -19,12 +20,12 @@ pub data Section : Type 0 where
 
 -- Addresses are numbers of words. The name 0, which stands for no object, always stands, at address 0.
 -- A fragment's words from `next` to before `limit` weren't given away yet. A buffer's words from `from` to before `to`
--- are those that its mutator has taken and not used. The words of the major heap from `fill` on were never given away.
+-- are those that its mutator has taken and not used. The owed blocks are those that are still to be swept.
 pub record Book : Type 0 where
   pub stands : ℕ → Bool
   pub address : ℕ → ℕ
   pub section : ℕ → Section
-  pub fill : ℕ
+  pub owed : ℕ → Bool
   pub fragments : ℕ
   pub next : ℕ → ℕ
   pub limit : ℕ → ℕ
@@ -39,13 +40,24 @@ nursery_end p = nursery_base + p.config.nursery
 abbrev pub old_end : Program → ℕ
 old_end p = nursery_end p + 256 * p.config.blocks
 
--- nothing stands, and the whole nursery is one fragment
+-- the first word of block j, and that of its slot i where its slots have z words
+abbrev pub block_at : Program → ℕ → ℕ
+block_at p j = nursery_end p + 256 * j
+
+abbrev pub slot_at : Program → ℕ → ℕ → ℕ → ℕ
+slot_at p j z i = block_at p j + z * i
+
+-- the words of the slot of an old object with so many fields: the least size class that holds it
+abbrev pub slot_words : ℕ → ℕ
+slot_words fields = slot_size (words_for fields)
+
+-- nothing stands, no block is owed, and the whole nursery is one fragment
 abbrev pub empty_book : Program → Book
 empty_book p = record {
   stands = λ n. n == 0;
   address = λ _. 0;
   section = λ _. Young;
-  fill = nursery_end p;
+  owed = λ _. false;
   fragments = 1;
   next = λ _. nursery_base;
   limit = λ _. nursery_end p;
@@ -105,16 +117,16 @@ abbrev pub IsPlaced : Program → Book → ℕ → ℕ → ℕ → Book → Type
 IsPlaced p b k n name c = IsSmall n × (Bumps b k n name c ⊎ ((f : ℕ) × Claims p b k n name f c))
 
 -- Where the object of a statement of mutator k with this answer stands; no other statement changes the book. A new object's
--- want of room is told at a stop alone, and a pause is made there.
-abbrev pub Books : Program → Book → ℕ → Statement → Answer → Book → Type 0
-Books p b k (New r class) (At name) c = IsPlaced p b k (words_of_class p class) name c
-Books p b k (New r class) answer c = ⊥
-Books p b k (NewV r class count) (At name) c = IsPlaced p b k (words_for count) name c
-Books p b k (NewV r class count) answer c = ⊥
-Books p b k (Mature r class) answer c = ⊥
-Books p b k (Collect major) answer c = ⊥
-Books p b k Sections answer c = ⊥
-Books p b k s answer c = c ≡ b
+-- want of room is told at a stop alone, and a pause is made there. By the graph objects have sizes.
+abbrev pub Books : Program → Graph → Book → ℕ → Statement → Answer → Book → Type 0
+Books p g b k (New r class) (At name) c = IsPlaced p b k (words_of_class p class) name c
+Books p g b k (New r class) answer c = ⊥
+Books p g b k (NewV r class count) (At name) c = IsPlaced p b k (words_for count) name c
+Books p g b k (NewV r class count) answer c = ⊥
+Books p g b k (Mature r class) answer c = ⊥
+Books p g b k (Collect major) answer c = ⊥
+Books p g b k Sections answer c = ⊥
+Books p g b k s answer c = c ≡ b
 
 -- the word of what a register, a place of a stack or a field holds: an object's byte address, or that of a byte of it, 0 for
 -- none, or the number
@@ -130,11 +142,57 @@ pub record IsWordOf (g : Graph) (b : Book) (name x : ℕ) : Type 0 where
   pub above : b.address name ≤ x
   pub below : x < b.address name + words_for (g.size name)
 
+-- the standing old object with this name is in block j
+pub record IsInBlock (p : Program) (b : Book) (name j : ℕ) : Type 0 where
+  pub some : 1 ≤ name
+  pub stands : b.stands name ≡ true
+  pub old : b.section name ≡ Old
+  pub above : block_at p j ≤ b.address name
+  pub below : b.address name < block_at p j + 256
+
+-- the standing old object with this name fills, from the front, slot i of z words of block j
+pub record IsInSlot (p : Program) (g : Graph) (b : Book) (name j z i : ℕ) : Type 0 where
+  pub some : 1 ≤ name
+  pub stands : b.stands name ≡ true
+  pub old : b.section name ≡ Old
+  pub sized : slot_words (g.size name) ≡ z
+  pub there : j < p.config.blocks
+  pub fits : i < slots z
+  pub at : b.address name ≡ slot_at p j z i
+
+-- no word of slot i of z words of block j is a standing object's
+abbrev pub IsEmptySlot : Program → Graph → Book → ℕ → ℕ → ℕ → Type 0
+IsEmptySlot p g b j z i = (name x : ℕ) → IsWordOf g b name x → slot_at p j z i ≤ x → x < slot_at p j z i + z → ⊥
+
+-- Block j may have slots of z words: no object of another size stands in it. A block in which none stands is free for each size.
+abbrev pub IsOfSize : Program → Graph → Book → ℕ → ℕ → Type 0
+IsOfSize p g b j z = (name : ℕ) → IsInBlock p b name j → slot_words (g.size name) ≡ z
+
+-- slot i of z words of block j is the lowest without a standing object of a block that may have such slots
+pub record IsOpenSlot (p : Program) (g : Graph) (b : Book) (j z i : ℕ) : Type 0 where
+  pub there : j < p.config.blocks
+  pub fits : i < slots z
+  pub size : IsOfSize p g b j z
+  pub empty : IsEmptySlot p g b j z i
+  pub lowest : (k : ℕ) → k < i → (name : ℕ) × IsInSlot p g b name j z k
+
+-- block j has no place for an object of z slot words: one of another size stands in it, or one stands in each of its slots
+abbrev pub IsShut : Program → Graph → Book → ℕ → ℕ → Type 0
+IsShut p g b j z = ((name : ℕ) × IsInBlock p b name j × (slot_words (g.size name) ≢ z)) ⊎ ((i : ℕ) → i < slots z → (name : ℕ) × IsInSlot p g b name j z i)
+
+-- the slot is the lowest open one of the lowest block that has one
+pub record IsFirstSlot (p : Program) (g : Graph) (b : Book) (j z i : ℕ) : Type 0 where
+  pub open_slot : IsOpenSlot p g b j z i
+  pub below : (k : ℕ) → k < j → IsShut p g b k z
+
 -- no word is of two standing objects, and each young one lies in the nursery
 pub record IsApart (p : Program) (g : Graph) (b : Book) : Type 0 where
   pub apart : (m n x : ℕ) → IsWordOf g b m x → IsWordOf g b n x → m ≡ n
   pub inside : (n x : ℕ) → IsWordOf g b n x → b.section n ≡ Young → (nursery_base ≤ x) × (x < nursery_end p)
 
--- What holds of the standing objects of a graph by a book, whenever an epoch, a pause or a stop has ended.
+-- What holds of the standing objects of a graph by a book, whenever an epoch, a pause or a stop has ended: no two have a word in
+-- common, each old one fills a slot of its size class from the front, and those of one block have one size.
 pub record IsSoundBook (p : Program) (g : Graph) (b : Book) : Type 0 where
   pub apart : IsApart p g b
+  pub slotted : (name : ℕ) → 1 ≤ name → b.stands name ≡ true → b.section name ≡ Old → (j i : ℕ) × IsInSlot p g b name j (slot_words (g.size name)) i
+  pub one_size : (m n j : ℕ) → IsInBlock p b m j → IsInBlock p b n j → slot_words (g.size m) ≡ slot_words (g.size n)

@@ -1,14 +1,15 @@
 -- In which order a minor pause by one worker copies, and so what moves, what fails, and where each copy stands.
-use Rattle.std.specs.Prelude.{◌≡◌, ◌≢◌, ℕ, zero, suc, ◌+◌, ◌<◌, ◌≤◌, ◌⊎◌, ◌↔◌, Bool, true, if◌then◌else◌, List, [], ◌∷◌, ◌++◌, map}
+use Rattle.std.specs.Prelude.{◌≡◌, ◌≢◌, ℕ, zero, suc, ◌<◌, ◌⊎◌, ◌↔◌, Bool, true, if◌then◌else◌, List, [], ◌∷◌, ◌++◌, map}
 use Rattle.std.specs.List.{flat_map}
 use Rattle.std.specs.List.Sorted.{IsStrictlyIncreasing}
+use Rattle.sg_words.specs.Words.{put}
 use Rattle.sg_words.specs.Lists.{In}
 use Rattle.sg_words.specs.Found.{IsSearched}
 use Rattle.sg_program.specs.declared.program.Program.{Program}
-use Rattle.sg_program.specs.Scripts.{kind_of, words_for}
+use Rattle.sg_program.specs.Scripts.{kind_of}
 use Rattle.sg_desc.specs.Shapes.{is_strong}
 use Rattle.sg_graph.specs.Graph.{Graph, Entry, Ref, Int, Inner}
-use Rattle.sg_graph.specs.Book.{Book, Old, old_end}
+use Rattle.sg_graph.specs.Book.{Book, Old, slot_at, slot_words, IsFirstSlot, IsShut}
 use Rattle.sg_graph.specs.Epoch.{numbers_below}
 use Rattle.sg_graph.specs.Pause.{StandsYoung, IsPinned}
 use Rattle.sg_graph.specs.Minor.{IsStill}
@@ -49,12 +50,18 @@ items_of p g old pinned = map g.global (numbers_below 64) ++ flat_map (targets_o
 abbrev pub leads_of : Program → Graph → List ℕ → List ℕ → List ℕ
 leads_of p g items found = items ++ flat_map (targets_of p g) found
 
--- With the major heap filled to before `at`, each of these objects moves there in turn where it fits, and else fails.
-abbrev pub AreCopied : Program → Graph → Book → Book → ℕ → List ℕ → Type 0
-AreCopied p g b c at [] = c.fill ≡ at
-AreCopied p g b c at (n ∷ found) =
-    ((at + words_for (g.size n) ≤ old_end p) × (c.address n ≡ at) × (c.section n ≡ Old) × AreCopied p g b c (at + words_for (g.size n)) found)
-    ⊎ ((old_end p < at + words_for (g.size n)) × IsStill b c n × AreCopied p g b c at found)
+-- the object with this name is in the major heap, at the word x
+abbrev pub moved_to_slot : Book → ℕ → ℕ → Book
+moved_to_slot d n x = record d { address = put d.address n x; section = put d.section n Old }
+
+-- By the book d of the copies so far each of these objects moves in turn to the first slot for it, and fails where there is none; by c
+-- it is there, or where it was by b.
+abbrev pub AreCopied : Program → Graph → Book → Book → Book → List ℕ → Type 0
+AreCopied p g b c d [] = Unit {0}
+AreCopied p g b c d (n ∷ found) =
+    ((j i : ℕ) × IsFirstSlot p g d j (slot_words (g.size n)) i × (c.address n ≡ slot_at p j (slot_words (g.size n)) i) × (c.section n ≡ Old)
+      × AreCopied p g b c (moved_to_slot d n (slot_at p j (slot_words (g.size n)) i)) found)
+    ⊎ (((j : ℕ) → j < p.config.blocks → IsShut p g d j (slot_words (g.size n))) × IsStill b c n × AreCopied p g b c d found)
 
 -- From the book b to c, one worker finds the movable objects one after another, each as the first new one to which what was found
 -- before it leads, and copies them in this order.
@@ -65,4 +72,4 @@ pub record CopiesInOrder (p : Program) (g : Graph) (b : Book) (ambiguous : List 
   pub old_are : AreByAddress b (StandsOld b) old
   pub pinned_are : AreByAddress b (IsPinned g b ambiguous) pinned
   pub searched : IsSearched (IsMovable g b ambiguous) (leads_of p g (items_of p g old pinned)) found
-  pub copied : AreCopied p g b c b.fill found
+  pub copied : AreCopied p g b c b found

@@ -30,7 +30,7 @@ pub record Turn (p : Program) (g : Graph) (b : Book) (said : Said) (h : Graph) (
   pub rest : List Statement
   pub next : (g.mutator said.by).script ≡ statement ∷ rest
   pub does : Does p g said.by (g.mutator said.by) statement rest said.answer h
-  pub books : Books p b said.by statement said.answer c
+  pub books : Books p g b said.by statement said.answer c
 
 -- whole statements in one order lead from g and b to h and c
 abbrev pub Explains : Program → Graph → Book → List Said → Graph → Book → Type 0

@@ -44,18 +44,15 @@ pub record Nothing (stands : ℕ → Bool) (address size : ℕ → ℕ) : Type 0
   pub at_nil : address 0 ≡ 0
   pub no_size : size 0 ≡ 0
 
--- Each word of a standing object is its own, and no other word is. The object lies in the nursery, or in the filled part of the
--- major heap, in which each word is some object's.
-pub record Objects (p : Program) (count : ℕ) (class size : ℕ → ℕ) (stands : ℕ → Bool) (address : ℕ → ℕ) (section : ℕ → Section) (fill : ℕ) (owner : ℕ → Owner) : Type 0 where
+-- Each word of a standing object is its own, and no other word is. The object lies in the nursery or in the major heap.
+pub record Objects (p : Program) (count : ℕ) (class size : ℕ → ℕ) (stands : ℕ → Bool) (address : ℕ → ℕ) (section : ℕ → Section) (owner : ℕ → Owner) : Type 0 where
   pub given : (n : ℕ) → stands n ≡ true → n ≤ count
   pub shaped : (n : ℕ) → 1 ≤ n → stands n ≡ true → (class n < length p.classes) × IsSizeOf p (class n) (size n)
   pub owns : (n x : ℕ) → stands n ≡ true → address n ≤ x → x < address n + words_for (size n) → owner x ≡ Of n
   pub owned : (n x : ℕ) → owner x ≡ Of n → (stands n ≡ true) × (address n ≤ x) × (x < address n + words_for (size n))
   pub inside : (n : ℕ) → 1 ≤ n → stands n ≡ true →
       ((section n ≡ Young) × (nursery_base ≤ address n) × (address n + words_for (size n) ≤ nursery_end p))
-      ⊎ ((section n ≡ Old) × (nursery_end p ≤ address n) × (address n + words_for (size n) ≤ fill))
-  pub filled : (nursery_end p ≤ fill) × (fill ≤ old_end p)
-  pub packed : (x : ℕ) → nursery_end p ≤ x → x < fill → (n : ℕ) × (owner x ≡ Of n)
+      ⊎ ((section n ≡ Old) × (nursery_end p ≤ address n) × (address n + words_for (size n) ≤ old_end p))
 
 -- each field holds the word of what the graph says, of the sort that the class says, and what it refers to is known
 pub record Fields (p : Program) (w : ℕ → ℕ) (g : Graph) (b : Book) : Type 0 where
@@ -73,9 +70,9 @@ pub record Globals (p : Program) (w : ℕ → ℕ) (g : Graph) (b : Book) : Type
   pub known : (x : ℕ) → x < 64 → IsKnown w g b (g.global x)
   pub empty : (x : ℕ) → ready_base (layout_of p) ≤ x → x < words_end (layout_of p) → w x ≡ 0
 
--- the nursery and the major heap are zero outside of objects
+-- the nursery is zero outside of objects
 pub record Clear (p : Program) (w : ℕ → ℕ) (owner : ℕ → Owner) : Type 0 where
-  pub clear : (x : ℕ) → nursery_base ≤ x → x < old_end p → ((n : ℕ) → owner x ≢ Of n) → w x ≡ 0
+  pub clear : (x : ℕ) → nursery_base ≤ x → x < nursery_end p → ((n : ℕ) → owner x ≢ Of n) → w x ≡ 0
 
 -- the fragments' words are their own, and the fragments stand in the nursery, by address
 pub record Fragments (p : Program) (fragments : ℕ) (next limit : ℕ → ℕ) (owner : ℕ → Owner) : Type 0 where
@@ -91,7 +88,7 @@ pub record Buffers (p : Program) (from to : ℕ → ℕ) (owner : ℕ → Owner)
 -- the words w hold the graph by the book, but that the tag and the length of a new object may lack
 pub record IsLaid (p : Program) (w : ℕ → ℕ) (g : Graph) (b : Book) (owner : ℕ → Owner) : Type 0 where
   pub nothing : Nothing b.stands b.address g.size
-  pub objects : Objects p g.count g.class g.size b.stands b.address b.section b.fill owner
+  pub objects : Objects p g.count g.class g.size b.stands b.address b.section owner
   pub fields : Fields p w g b
   pub globals : Globals p w g b
   pub clear : Clear p w owner

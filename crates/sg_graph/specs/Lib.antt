@@ -10,6 +10,7 @@ pub mod Copies
 pub mod Stop
 pub mod Run
 pub mod Heap
+pub mod Blocks
 pub mod Invariants
 pub mod Laws
 pub mod Turns

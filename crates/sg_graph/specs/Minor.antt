@@ -1,15 +1,16 @@
 -- A minor pause and its report.
-use Rattle.std.specs.Prelude.{◌≡◌, ◌≢◌, ℕ, ◌+◌, ◌<◌, ◌≤◌, ◌⊎◌, ◌↔◌, Bool, true, false, List, map}
-use Rattle.std.specs.List.{Contains}
+use Rattle.std.specs.Prelude.{◌≡◌, ◌≢◌, ℕ, ◌+◌, ◌-◌, ◌*◌, ◌<◌, ◌≤◌, ◌⊎◌, ◌↔◌, Bool, true, false, min, List, length, map}
+use Rattle.std.specs.List.{Contains, AllByRecursion}
 use Rattle.std.specs.List.Sorted.{IsStrictlyIncreasing}
 use Rattle.sg_words.specs.Address.{byte_at}
+use Rattle.sg_words.specs.Blocks.{slots}
+use Rattle.sg_words.specs.Reach.{AreDistinct}
 use Rattle.sg_words.specs.declared.pieces.Move.{Move}
 use Rattle.sg_words.specs.declared.pieces.Piece.{Piece}
 use Rattle.sg_program.specs.declared.program.Program.{Program}
 use Rattle.sg_graph.specs.declared.reports.MinorReport.{MinorReport}
-use Rattle.sg_program.specs.Scripts.{words_for}
 use Rattle.sg_graph.specs.Graph.{Graph}
-use Rattle.sg_graph.specs.Book.{Book, Old, old_end, IsWordOf, IsSoundBook}
+use Rattle.sg_graph.specs.Book.{Book, slot_at, slot_words, IsInBlock, IsInSlot, IsEmptySlot, IsOfSize, IsSoundBook}
 use Rattle.sg_graph.specs.Pause.{IsPause, IsRoot, IsPinned, StandsYoung}
 use Rattle.sg_graph.specs.Tiling.{IsTiled}
 
@@ -19,21 +20,53 @@ pub record IsLoose (g : Graph) (b : Book) (ambiguous : List ℕ) (c : Book) (n :
   pub kept : c.stands n ≡ true
   pub loose : IsPinned g b ambiguous n → ⊥
 
--- where a moved object goes: into the rest of the major heap, which is one run of words that is filled from the front
-pub record HasMoved (g : Graph) (b c : Book) (n : ℕ) : Type 0 where
-  pub section : c.section n ≡ Old
-  pub behind : b.fill ≤ c.address n
-  pub before : c.address n + words_for (g.size n) ≤ c.fill
+-- where a moved object goes: to the front of a slot of its size class in which no object stood
+pub record HasMoved (p : Program) (g : Graph) (b c : Book) (n : ℕ) : Type 0 where
+  pub block : ℕ
+  pub slot : ℕ
+  pub goes : IsInSlot p g c n block (slot_words (g.size n)) slot
+  pub empty : IsEmptySlot p g b block (slot_words (g.size n)) slot
 
 -- the object stays where it is
 pub record IsStill (b c : Book) (n : ℕ) : Type 0 where
   pub address : c.address n ≡ b.address n
   pub section : c.section n ≡ b.section n
 
--- an object fails only where, after the pause, the rest of the major heap has fewer words than it
-pub record HasFailed (p : Program) (g : Graph) (b c : Book) (n : ℕ) : Type 0 where
+-- how many copiers work in a pause: one, as yet
+abbrev pub copiers : Program → ℕ
+copiers p = 1
+
+-- block j is open for an object of z slot words: no object stands in it, or all that do have this size and a slot is without one
+pub record IsOpen (p : Program) (g : Graph) (c : Book) (z j : ℕ) : Type 0 where
+  pub there : j < p.config.blocks
+  pub size : IsOfSize p g c j z
+  pub slot : ℕ
+  pub fits : slot < slots z
+  pub empty : IsEmptySlot p g c j z slot
+
+-- the word x is the front of a slot of z words without a standing object, of a block in which objects of this size stood before
+pub record IsLeftOver (p : Program) (g : Graph) (b c : Book) (z x : ℕ) : Type 0 where
+  pub block : ℕ
+  pub slot : ℕ
+  pub there : block < p.config.blocks
+  pub fits : slot < slots z
+  pub at : x ≡ slot_at p block z slot
+  pub before : (m : ℕ) × IsInBlock p b m block × (slot_words (g.size m) ≡ z)
+  pub empty : IsEmptySlot p g c block z slot
+
+-- There are at most, or fewer than, this many numbers of this sort: so many does each list of different ones have.
+abbrev pub AtMost : ℕ → (ℕ → Type 0) → Type 0
+AtMost most sort = (xs : List ℕ) → AreDistinct xs → AllByRecursion sort xs → length xs ≤ most
+
+abbrev pub FewerThan : ℕ → (ℕ → Type 0) → Type 0
+FewerThan bound sort = (xs : List ℕ) → AreDistinct xs → AllByRecursion sort xs → length xs < bound
+
+-- An object fails only where, after the pause, the blocks that are open for it are at most as many as the slots given back, and fewer
+-- than nine for each copier; and where fewer slots than copiers are free in the blocks that had its size as the pause began.
+pub record HasFailed (p : Program) (g : Graph) (b c : Book) (spares n : ℕ) : Type 0 where
   pub still : IsStill b c n
-  pub full : old_end p < c.fill + words_for (g.size n)
+  pub few_blocks : AtMost (min spares (9 * copiers p - 1)) (IsOpen p g c (slot_words (g.size n)))
+  pub few_slots : FewerThan (copiers p) (IsLeftOver p g b c (slot_words (g.size n)))
 
 -- what is told of an object that moved
 abbrev pub move_of : Book → Book → ℕ → Move
@@ -64,17 +97,16 @@ pub record Telling (p : Program) (g : Graph) (b : Book) (ambiguous : List ℕ) (
   pub pins_in_order : IsStrictlyIncreasing report.pins
   pub pins : (a : ℕ) → Contains report.pins a ↔ ((n : ℕ) × IsPinned g b ambiguous n × (a ≡ byte_at (b.address n)))
   pub moves_in_order : IsStrictlyIncreasing (sources report.moves)
-  pub moves : (move : Move) → Contains report.moves move → (n : ℕ) × IsLoose g b ambiguous c n × HasMoved g b c n × (move ≡ move_of b c n)
+  pub moves : (move : Move) → Contains report.moves move → (n : ℕ) × IsLoose g b ambiguous c n × HasMoved p g b c n × (move ≡ move_of b c n)
   pub fails_in_order : IsStrictlyIncreasing report.fails
-  pub fails : (a : ℕ) → Contains report.fails a → (n : ℕ) × IsLoose g b ambiguous c n × HasFailed p g b c n × (a ≡ byte_at (b.address n))
+  pub fails : (a : ℕ) → Contains report.fails a → (n : ℕ) × IsLoose g b ambiguous c n × HasFailed p g b c report.spares n × (a ≡ byte_at (b.address n))
   pub loose : (n : ℕ) → IsLoose g b ambiguous c n → Contains report.moves (move_of b c n) ⊎ Contains report.fails (byte_at (b.address n))
-  pub spares : report.spares ≡ 0
+  -- a slot is given back only where two copiers raced for an object
+  pub spares : report.spares ≤ (copiers p - 1) * (length report.moves + length report.fails)
 
--- How the sections are left: the filled part of the major heap grows by the objects that moved, the nursery is tiled anew, no
--- mutator has a buffer, and the book is sound.
+-- How the sections are left: no block is owed that wasn't, the nursery is tiled anew, no mutator has a buffer, and the book is sound.
 pub record Tidying (p : Program) (b : Book) (pieces : List Piece) (h : Graph) (c : Book) : Type 0 where
-  pub filled : (b.fill ≤ c.fill) × (c.fill ≤ old_end p)
-  pub packed : (x : ℕ) → b.fill ≤ x → x < c.fill → (n : ℕ) × (c.section n ≡ Old) × IsWordOf h c n x
+  pub owed : c.owed ≡ b.owed
   pub tiled : IsTiled p h c pieces
   pub emptied : (k : ℕ) → (c.from k ≡ 0) × (c.to k ≡ 0)
   pub sound : IsSoundBook p h c
