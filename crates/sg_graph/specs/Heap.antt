@@ -70,8 +70,9 @@ pub record Globals (p : Program) (w : ℕ → ℕ) (g : Graph) (b : Book) : Type
   pub known : (x : ℕ) → x < 64 → IsKnown w g b (g.global x)
   pub empty : (x : ℕ) → ready_base (layout_of p) ≤ x → x < words_end (layout_of p) → w x ≡ 0
 
--- the nursery is zero outside of objects
+-- the nursery is zero outside of objects; there are no large objects yet, so the large space is zero
 pub record Clear (p : Program) (w : ℕ → ℕ) (owner : ℕ → Owner) : Type 0 where
+  pub large : (x : ℕ) → old_end p ≤ x → x < globals_base (layout_of p) → w x ≡ 0
   pub clear : (x : ℕ) → nursery_base ≤ x → x < nursery_end p → ((n : ℕ) → owner x ≢ Of n) → w x ≡ 0
 
 -- the fragments' words are their own, and the fragments stand in the nursery, by address

@@ -1,15 +1,17 @@
 -- A space that holds a graph of named objects, by the book of their addresses.
-use Rattle.std.specs.Prelude.{◌≡◌, ℕ, ◌<◌, map, length, slice_index}
+use Rattle.std.specs.Prelude.{◌≡◌, ℕ, ◌<◌, [], map, length, slice_index}
 use Rattle.sg_words.specs.Address.{byte_at}
 use Rattle.sg_program.specs.declared.program.Class.{Class}
 use Rattle.sg_program.specs.declared.program.Program.{Program}
 use Rattle.sg_graph.specs.Graph.{Graph}
 use Rattle.sg_graph.specs.Book.{Book}
 use Rattle.sg_graph.specs.Heap.{Owner, IsHeap, layout_of}
-use Rattle.sg_space.specs.Space.{Contents}
+use Rattle.sg_graph.specs.Blocks.{AreSettled}
+use Rattle.sg_space.specs.Space.{Contents, words_of}
 use Rattle.sg_space.specs.Standing.{word}
 
--- the space has the program's sections and classes, and the book's fragments
+-- the space has the program's sections and classes, and the book's fragments; no page is taken, nothing is registered or ready, and no
+-- pair stands, since none of these is built yet
 pub record IsSpaceOf (p : Program) (s : Contents) (b : Book) : Type 0 where
   pub layout : s.layout ≡ layout_of p
   pub shapes : s.shapes ≡ map (λ (class : Class). class.shape) p.classes
@@ -17,7 +19,12 @@ pub record IsSpaceOf (p : Program) (s : Contents) (b : Book) : Type 0 where
   pub same : length s.next ≡ length s.ends
   pub next : (f : ℕ) → f < b.fragments → slice_index s.next f ≡ byte_at (b.next f)
   pub limit : (f : ℕ) → f < b.fragments → slice_index s.ends f ≡ byte_at (b.limit f)
+  pub pages : (j : ℕ) → slice_index s.pages j ≡ 0
+  pub head : s.head ≡ 0
+  pub made : s.made ≡ 0
+  pub registered : s.registered ≡ []
+  pub pairs : s.pairs ≡ []
 
--- the space holds the graph by the book
+-- the space holds the graph by the book, and its blocks and cards are as they are between two phases
 abbrev pub HoldsHeap : Program → Contents → Graph → Book → Type 0
-HoldsHeap p s g b = IsSpaceOf p s b × ((owner : ℕ → Owner) × IsHeap p (word s) g b owner)
+HoldsHeap p s g b = IsSpaceOf p s b × ((owner : ℕ → Owner) × IsHeap p (word s) g b owner × AreSettled p (words_of s) g b owner)

@@ -2,6 +2,7 @@
 use Rattle.std.specs.Prelude.{◌≡◌, ℕ}
 use Rattle.std.specs.List.{AllByRecursion}
 use Rattle.sg_words.specs.Address.{byte_at}
+use Rattle.sg_words.specs.declared.steps.BlockWord.TheVariants.{Free}
 use Rattle.sg_words.specs.Words.{Words}
 use Rattle.sg_program.specs.declared.program.Program.{Program}
 use Rattle.sg_program.specs.Scripts.{script_of}
@@ -19,11 +20,13 @@ pub record AreFirstConstants (p : Program) (lay : Constants) : Type 0 where
   pub fragments : lay.fragments ≡ 1
   pub limit : lay.limit 0 ≡ nursery_end p
 
--- all words are zero, and nothing of the fragment was given away
+-- all words are zero, all blocks are free, and nothing of the fragment was given away
 pub record AreFirstWords (w : Words) : Type 0 where
   pub stop : w.stop ≡ 0
   pub next : w.next 0 ≡ byte_at nursery_base
   pub word : (x : ℕ) → w.word x ≡ 0
+  pub block : (c : ℕ) → w.block c ≡ Free
+  pub used : (c : ℕ) → w.used c ≡ 0
 
 -- each script finds the kinds of operands that it needs, and has statements that are run now alone
 pub record AreFirstScripts (p : Program) : Type 0 where

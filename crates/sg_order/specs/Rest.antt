@@ -13,6 +13,7 @@ use Rattle.sg_graph.specs.Book.{Book, word_of}
 use Rattle.sg_words.specs.Lists.{Pairwise}
 use Rattle.sg_graph.specs.Invariants.{IsPlain}
 use Rattle.sg_graph.specs.Heap.{Owner, IsHeap}
+use Rattle.sg_graph.specs.Blocks.{AreSettled}
 use Rattle.sg_rules.specs.Rules.{Constants, StackWord, Actor, Mid, Idle, Left, Yielded}
 use Rattle.sg_rules.specs.Resting.{IsRunnable}
 
@@ -50,10 +51,11 @@ pub record IsReady (p : Program) (g : Graph) (b : Book) (k : ℕ) (a : Actor) (s
   pub kinds : FindKinds (kinds_in (g.mutator k)) script
   pub runnable : AllByRecursion (IsRunnable p) script
 
--- the words hold the graph, and the fragments are the book's
+-- the words hold the graph, blocks and cards are as they are between two phases, and the fragments are the book's
 pub record IsHeld (p : Program) (lay : Constants) (w : Words) (g : Graph) (b : Book) : Type 0 where
   pub owner : ℕ → Owner
   pub heap : IsHeap p w.word g b owner
+  pub settled : AreSettled p w g b owner
   pub plain : IsPlain p g
   pub number : b.fragments ≡ lay.fragments
   pub limits : (f : ℕ) → f < b.fragments → b.limit f ≡ lay.limit f

@@ -4,7 +4,7 @@ use Rattle.sg_words.specs.declared.steps.Step.{Step}
 use Rattle.sg_words.specs.declared.steps.Call.{Call}
 use Rattle.sg_words.specs.Programs.{FollowsBy, Guides, Goes}
 use Rattle.sg_program.specs.declared.program.Program.{Program}
-use Rattle.sg_rules.specs.Rules.{Constants, Mid, Idle, TestTag, TestLength, Access, AccessGlobal, Look, Claim, StoreLength, StoreTag, HideLength, Ask, Left, Yielded, Actor, Comes}
+use Rattle.sg_rules.specs.Rules.{Constants, Mid, Idle, TestTag, TestLength, Access, MarkCard, AccessGlobal, Look, Claim, StoreLength, StoreTag, HideLength, Ask, Left, Yielded, Actor, Comes}
 use Rattle.sg_rules.specs.Sane.{IsSane}
 
 -- this step comes next, whether it decides the statement or not
@@ -17,6 +17,7 @@ RestsAt Idle = Unit {0}
 RestsAt (TestTag s test) = ⊥
 RestsAt (TestLength s test class) = ⊥
 RestsAt (Access s) = ⊥
+RestsAt (MarkCard s card) = ⊥
 RestsAt (AccessGlobal s) = ⊥
 RestsAt (Look s f) = ⊥
 RestsAt (Claim s f seen) = Unit {0}

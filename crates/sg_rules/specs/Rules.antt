@@ -3,12 +3,13 @@
 use Rattle.std.specs.Prelude.{◌≡◌, ◌≢◌, ℕ, ◌+◌, ◌-◌, ◌%◌, ◌^◌, ◌<◌, ◌≤◌, ◌==◌, ◌⊎◌, if◌then◌else◌, nat_lt, min, max, Bool, true, false, Some, List, [], ◌∷◌, ◌++◌, length}
 use Rattle.sg_words.specs.Address.{byte_at, word_at}
 use Rattle.sg_words.specs.Tags.{plain_word}
-use Rattle.sg_words.specs.declared.steps.Place.TheVariants.{Stop, Next, Word}
+use Rattle.sg_words.specs.declared.steps.Place.TheVariants.{Stop, Next, Word, Card}
 use Rattle.sg_words.specs.declared.steps.Step.{Step}
 use Rattle.sg_words.specs.declared.steps.Step.TheVariants.{Load, Store, Won, Lost}
 use Rattle.sg_words.specs.declared.steps.Tick.{Tick}
 use Rattle.sg_words.specs.Words.{put, Words, after, Legal}
 use Rattle.sg_words.specs.Sections.{nursery_base, large_base, globals_base}
+use Rattle.sg_words.specs.Blocks.{card_of, HasCard}
 use Rattle.sg_words.specs.declared.layout.Layout.{Layout}
 use Rattle.sg_program.specs.declared.program.Statement.{Statement}
 use Rattle.sg_program.specs.declared.program.Statement.TheVariants.{Put, Get, PutD, GetD, Num, Move, Hide, Unhide, Drop, Push, Pop, GPut, GGet, Same, Collect}
@@ -61,6 +62,8 @@ pub data Mid : Type 0 where
   TestLength : (s : Statement) (test : Test) (class : ℕ) → Mid
   -- the test is passed: next comes the load or the store of the field
   Access : (s : Statement) → Mid
+  -- a reference was stored into a slot that has a card: next comes the store of that card
+  MarkCard : (s : Statement) (card : ℕ) → Mid
   -- next comes the load or the store of the statement's global
   AccessGlobal : (s : Statement) → Mid
   -- the statement makes an object: next comes the load of a fragment's next word, or the exchange of it
@@ -165,9 +168,14 @@ pub data Comes (p : Program) (lay : Constants) : Actor → Step → Bool → Act
   test_fails : (a : Actor) (s : Statement) (rest : List Statement) (test : Test) (class len : ℕ) → IsLength len →
       has_field test.sort (kind_of p class) len test.field ≡ false →
       Comes p lay (within a rest (TestLength s test class)) (Load (Word (object_in a test.register + 1)) len) true (over a rest (cleared s a.reg) Field)
-  -- the load or the store of the field
-  put_stores : (a : Actor) (rest : List Statement) (r i s : ℕ) →
+  -- the load or the store of the field; behind a store of a reference the slot's card becomes dirty, where it has one
+  put_stores : (a : Actor) (rest : List Statement) (r i s : ℕ) → ¬ HasCard (sections_of p) (object_in a r + 2 + i) →
       Comes p lay (within a rest (Access (Put r i s))) (Store (Word (object_in a r + 2 + i)) (a.reg s)) true (over a rest a.reg Fine)
+  put_stores_old : (a : Actor) (rest : List Statement) (r i s : ℕ) → HasCard (sections_of p) (object_in a r + 2 + i) →
+      Comes p lay (within a rest (Access (Put r i s))) (Store (Word (object_in a r + 2 + i)) (a.reg s)) true
+      (within a rest (MarkCard (Put r i s) (card_of (sections_of p) (object_in a r + 2 + i))))
+  marks_card : (a : Actor) (rest : List Statement) (s : Statement) (card : ℕ) →
+      Comes p lay (within a rest (MarkCard s card)) (Store (Card card) 1) false (over a rest a.reg Fine)
   putd_stores : (a : Actor) (rest : List Statement) (r i s : ℕ) →
       Comes p lay (within a rest (Access (PutD r i s))) (Store (Word (object_in a r + 2 + i)) (a.reg s)) true (over a rest a.reg Fine)
   get_loads : (a : Actor) (rest : List Statement) (d r i v : ℕ) → IsReference p v →

@@ -7,7 +7,7 @@ use Rattle.sg_program.specs.declared.program.Statement.TheVariants.{New, NewV, P
 use Rattle.sg_program.specs.declared.program.Program.{Program}
 use Rattle.sg_program.specs.Scripts.{IsMaking, made_words}
 use Rattle.sg_program.specs.Tests.{Test, test_of}
-use Rattle.sg_rules.specs.Rules.{Constants, Mid, Idle, TestTag, TestLength, Access, AccessGlobal, Look, Claim, StoreLength, StoreTag, HideLength, Ask, Left, Yielded, Actor, sections_of, IsInHeap, IsReference, IsGlobal, object_in}
+use Rattle.sg_rules.specs.Rules.{Constants, Mid, Idle, TestTag, TestLength, Access, MarkCard, AccessGlobal, Look, Claim, StoreLength, StoreTag, HideLength, Ask, Left, Yielded, Actor, sections_of, IsInHeap, IsReference, IsGlobal, object_in}
 use Rattle.sg_rules.specs.Resting.{IsRunnable}
 
 -- the mutator's buffer lies in the nursery
@@ -49,6 +49,10 @@ pub record IsAccessing (p : Program) (a : Actor) (s : Statement) : Type 0 where
   pub testing : IsTesting p a s test
   pub inside : object_in a test.register + 2 + test.field < large_base (sections_of p)
 
+-- there is such a card: each stands for 64 words of blocks and pages
+abbrev pub IsCard : Program → ℕ → Type 0
+IsCard p card = card < 4 * p.config.blocks + 2 * p.config.pages
+
 -- it makes an object
 pub record IsMaker (p : Program) (s : Statement) : Type 0 where
   pub runnable : IsRunnable p s
@@ -73,6 +77,7 @@ IsSaneAt p lay a Idle = (s : Statement) (rest : List Statement) → a.script ≡
 IsSaneAt p lay a (TestTag s test) = IsTesting p a s test
 IsSaneAt p lay a (TestLength s test class) = IsTesting p a s test × (class < length p.classes)
 IsSaneAt p lay a (Access s) = IsAccessing p a s
+IsSaneAt p lay a (MarkCard s card) = IsCard p card
 IsSaneAt p lay a (AccessGlobal s) = IsRunnable p s × IsGlobal s
 IsSaneAt p lay a (Look s f) = IsMaker p s × (f < lay.fragments)
 IsSaneAt p lay a (Claim s f seen) = IsClaiming p lay s f seen
