@@ -8,3 +8,4 @@ pub mod Objects
 pub mod Fragments
 pub mod Sorted
 pub mod Programs
+pub mod Blocks

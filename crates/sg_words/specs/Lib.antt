@@ -11,3 +11,4 @@ pub mod Calls
 pub mod Programs
 pub mod Schedule
 pub mod Found
+pub mod Blocks
