@@ -33,21 +33,21 @@ one_place p b k n name c d (small, inr x) (small', inl y) = absurd (let r = y.ro
 one_place p b k n name c d (small, inr (f, x)) (small', inr (e, y)) =
     let there = subst (λ j. Claims p b k n name j d) (sym (one_claim p b k n name f e c d x y)) y in x.after ∙ sym there.after
 
-one_book : (p : Program) (b : Book) (k : ℕ) (s : Statement) (answer : Answer) (c d : Book) → Books p b k s answer c → Books p b k s answer d → c ≡ d
-one_book p b k (New r class) (At name) c d x y = one_place p b k (words_of_class p class) name c d x y
-one_book p b k (New r class) answer c d x y = absurd x
-one_book p b k (NewV r class count) (At name) c d x y = one_place p b k (words_for count) name c d x y
-one_book p b k (NewV r class count) answer c d x y = absurd x
-one_book p b k (Mature r class) answer c d x y = absurd x
-one_book p b k (Collect major) answer c d x y = absurd x
-one_book p b k Sections answer c d x y = absurd x
-one_book p b k s answer c d x y = x ∙ sym y
+one_book : (p : Program) (g : Graph) (b : Book) (k : ℕ) (s : Statement) (answer : Answer) (c d : Book) → Books p g b k s answer c → Books p g b k s answer d → c ≡ d
+one_book p g b k (New r class) (At name) c d x y = one_place p b k (words_of_class p class) name c d x y
+one_book p g b k (New r class) answer c d x y = absurd x
+one_book p g b k (NewV r class count) (At name) c d x y = one_place p b k (words_for count) name c d x y
+one_book p g b k (NewV r class count) answer c d x y = absurd x
+one_book p g b k (Mature r class) answer c d x y = absurd x
+one_book p g b k (Collect major) answer c d x y = absurd x
+one_book p g b k Sections answer c d x y = absurd x
+one_book p g b k s answer c d x y = x ∙ sym y
 
 -- a whole statement leads to one graph and one book
 pub one_turn : (p : Program) (g : Graph) (b : Book) (said : Said) (h i : Graph) (c d : Book) → Turn p g b said h c → Turn p g b said i d → (h ≡ i) × (c ≡ d)
 one_turn p g b said h i c d t u = (
   t.does.1 ∙ ap (λ s. does s t.rest) same ∙ ap (does u.statement) same_rest ∙ sym u.does.1,
-  one_book p b said.by u.statement said.answer c d (subst (λ s. Books p b said.by s said.answer c) same t.books) u.books,
+  one_book p g b said.by u.statement said.answer c d (subst (λ s. Books p g b said.by s said.answer c) same t.books) u.books,
 )
   where
     does : Statement → List Statement → Graph

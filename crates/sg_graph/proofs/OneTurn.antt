@@ -14,7 +14,7 @@ use Rattle.sg_graph.proofs.OneAnswer.{the_answer, one_answer}
 use Rattle.sg_graph.proofs.OneReport.{one_turn}
 
 -- a want of room is told at a stop alone
-not_full : (p : Program) (g : Graph) (m : Mutator) (b : Book) (k : ℕ) (s : Statement) (c : Book) → Answers p g m s Full → Books p b k s Full c → ⊥
+not_full : (p : Program) (g : Graph) (m : Mutator) (b : Book) (k : ℕ) (s : Statement) (c : Book) → Answers p g m s Full → Books p g b k s Full c → ⊥
 not_full p g m b k (New r class) c h x = x
 not_full p g m b k (NewV r class count) c h x = x
 not_full p g m b k (Mature r class) c h x = x
@@ -26,7 +26,7 @@ its_answer p g b said h c t = one_answer p g (g.mutator said.by) t.statement sai
   where
     room : said.answer ≢ Full
     room e = not_full p g (g.mutator said.by) b said.by t.statement c (subst (λ (a : Answer). Answers p g (g.mutator said.by) t.statement a) e t.does.0)
-        (subst (λ (a : Answer). Books p b said.by t.statement a c) e t.books)
+        (subst (λ (a : Answer). Books p g b said.by t.statement a c) e t.books)
 
 pub has_one_turn : HasOneTurn
 has_one_turn p g b said said' h h' c c' t u e = let q = one_turn p g b said h h' c c' t there in (same, q.0, q.1)

@@ -60,7 +60,7 @@ abbrev pub AreCopied : Program → Graph → Book → Book → Book → List ℕ
 AreCopied p g b c d [] = Unit {0}
 AreCopied p g b c d (n ∷ found) =
     ((j i : ℕ) × IsFirstSlot p g d j (slot_words (g.size n)) i × (c.address n ≡ slot_at p j (slot_words (g.size n)) i) × (c.section n ≡ Old)
-      × AreCopied p g b c (moved_to_slot d n (slot_at p j (slot_words (g.size n)) i)) found)
+    × AreCopied p g b c (moved_to_slot d n (slot_at p j (slot_words (g.size n)) i)) found)
     ⊎ (((j : ℕ) → j < p.config.blocks → IsShut p g d j (slot_words (g.size n))) × IsStill b c n × AreCopied p g b c d found)
 
 -- From the book b to c, one worker finds the movable objects one after another, each as the first new one to which what was found

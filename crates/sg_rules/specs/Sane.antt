@@ -1,6 +1,6 @@
 -- What is true of a mutator by itself, whatever stands in the words: what its code rests on, as that its registers hold addresses in
 -- range where the next step goes by them.
-use Rattle.std.specs.Prelude.{◌≡◌, ◌≢◌, ℕ, ◌+◌, ◌-◌, ◌<◌, ◌≤◌, Some, List, ◌∷◌, length}
+use Rattle.std.specs.Prelude.{◌≡◌, ◌≢◌, ℕ, ◌+◌, ◌-◌, ◌*◌, ◌<◌, ◌≤◌, Some, List, ◌∷◌, length}
 use Rattle.sg_words.specs.Sections.{nursery_base, old_base, large_base}
 use Rattle.sg_program.specs.declared.program.Statement.{Statement}
 use Rattle.sg_program.specs.declared.program.Statement.TheVariants.{New, NewV, Put, Get, PutD, GetD, Hide, Unhide, Push, Pop}
