@@ -1,3 +1,9 @@
 pub mod Relation
 pub mod Going
 pub mod Steps
+pub mod Copies
+pub mod Ends
+pub mod Rounds
+pub mod Lists
+pub mod Single
+pub mod Frame

@@ -122,6 +122,7 @@ pub record IsSized (area : Area) (w : ℕ → ℕ) (items : List ℕ) (m source 
   pub seen : HasRead area w items m source moves fails s o.x
   pub plain : w o.x ≡ plain_word o.class
   pub length : w (o.x + 1) ≡ o.n
+  pub short : o.n ≤ 62
   pub none : spare (size_for o) ≡ 0
 
 abbrev pub Sized : Start → Round → (ℕ → ℕ) → ℕ → Object → Type 0

@@ -66,34 +66,35 @@ by_part P at n z y copy tail out = by_range P at (at + z) y (λ u v. elim (cases
   | inr l ↦ tail l v
 ]) out
 
+-- the slots to come are the same, in other places
+pub moved-about : {area : Area} {w : ℕ → ℕ} {items : List ℕ} {zone : ℕ → Bool} {word : ℕ → ℕ} {todo todo' : ℕ → Type 0} {r : Round}
+    (go : IsGoing area w items zone word todo r) → ((z : ℕ) → todo' z → todo z) → ((z : ℕ) → todo z → todo' z) → IsGoing area w items zone word todo' r
+moved-about go back on = record {
+  once = go.once;
+  others = go.others;
+  rest = go.rest;
+  target = go.target;
+  target_is = go.target_is;
+  source_out = go.source_out;
+  source_in = go.source_in;
+  words = go.words;
+  forwarded = go.forwarded;
+  pinned = go.pinned;
+  moved = go.moved;
+  failed = go.failed;
+  settled = go.settled;
+  slots = λ s h. elim h [
+    | inl h ↦ go.slots s (inl (back s h))
+    | inr h ↦ go.slots s (inr h)
+  ];
+  all = λ s k. elim (go.all s k) [
+    | inl h ↦ inl (on s h)
+    | inr h ↦ inr h
+  ];
+}
+
 module _ {area : Area} {w : ℕ → ℕ} {items wholes : List ℕ} {zone : ℕ → Bool} (op : IsOpening area w items wholes zone)
     {word : ℕ → ℕ} {todo todo' : ℕ → Type 0} {r : Round} (go : IsGoing area w items zone word todo r) where
-  -- the slots to come are the same, in other places
-  pub moved-about : ((z : ℕ) → todo' z → todo z) → ((z : ℕ) → todo z → todo' z) → IsGoing area w items zone word todo' r
-  moved-about back on = record {
-    once = go.once;
-    others = go.others;
-    rest = go.rest;
-    target = go.target;
-    target_is = go.target_is;
-    source_out = go.source_out;
-    source_in = go.source_in;
-    words = go.words;
-    forwarded = go.forwarded;
-    pinned = go.pinned;
-    moved = go.moved;
-    failed = go.failed;
-    settled = go.settled;
-    slots = λ s h. elim h [
-      | inl h ↦ go.slots s (inl (back s h))
-      | inr h ↦ go.slots s (inr h)
-    ];
-    all = λ s k. elim (go.all s k) [
-      | inl h ↦ inl (on s h)
-      | inr h ↦ inr h
-    ];
-  }
-
   -- the slot s now holds where its object is
   pub settle : (s : ℕ) (word' : ℕ → ℕ) → Slot area w items r.m r.moves r.fails s → ((z : ℕ) → todo' z → todo z) → ((z : ℕ) → todo z → (z ≡ s) ⊎ todo' z) →
       word' s ≡ sent r.m (w (r.source s)) → ((y : ℕ) → y ≢ s → word' y ≡ word y) →

@@ -139,6 +139,6 @@ Released = (area : Area) (w : ℕ → ℕ) (items wholes : List ℕ) (zone : ℕ
 
 -- .. and more slots come
 abbrev pub MoreItems : Type 0
-MoreItems = (area : Area) (w : ℕ → ℕ) (items new wholes : List ℕ) (zone : ℕ → Bool) → IsOpening area w (items ++ new) wholes zone →
-    (word : ℕ → ℕ) (todo : List ℕ) (r : Round) → IsGoing area w items zone word (λ s. In s todo) r →
+MoreItems = (area : Area) (w : ℕ → ℕ) (items new : List ℕ) (zone : ℕ → Bool) (word : ℕ → ℕ) (todo : List ℕ) (r : Round) →
+    IsGoing area w items zone word (λ s. In s todo) r →
     IsGoing area w (items ++ new) zone word (λ s. In s (todo ++ new)) r
