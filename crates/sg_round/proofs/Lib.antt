@@ -7,3 +7,6 @@ pub mod Rounds
 pub mod Lists
 pub mod Single
 pub mod Frame
+pub mod Moves
+pub mod Looks
+pub mod Rooms
