@@ -111,7 +111,7 @@ module _ {t : Start} {k : ℕ} {v : Words} {r : Round} {v' : Words} {r' : Round}
     mid-later spare list hand (Took item) q = (item-later item q.0, q.1)
     mid-later spare list hand (Count x class) q = (known-later x q.0, q.1 ∙ ap (λ (y : ℕ). class_of (t.words.word y)) (sym (la.heads x q.0).0), q.2)
     mid-later spare list hand (On s stage) q = stage-later spare s stage q
-    mid-later spare list hand (Offer i next) q = (q.0, la.cells j i n q.0 q.1, q.2, mid-later spare list hand next q.3)
+    mid-later spare list hand (Offer i next) q = (q.0, la.cells j i n q.0 q.1, q.2, mid-later spare list hand next q.3, q.4)
     mid-later spare list hand (Seek i) q = (q.0, q.1, q.2, empty-later i q.3)
     mid-later spare list hand (Grab i item) q = (q.0, q.1, q.2, empty-later i q.3, item-later item q.4)
     mid-later spare list hand Over q = (q.0, q.1, empty-later 8 q.2)

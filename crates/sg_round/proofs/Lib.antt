@@ -10,3 +10,6 @@ pub mod Frame
 pub mod Moves
 pub mod Looks
 pub mod Rooms
+pub mod Bodies
+pub mod Swaps
+pub mod Cells

@@ -13,7 +13,7 @@ use Rattle.sg_words.specs.declared.steps.BlockWord.TheVariants.{Free, Swept}
 use Rattle.sg_round.specs.Area.{Area, IsYoung, IsFixed, HasCard, place, card_at, class_of}
 use Rattle.sg_round.specs.Items.{Item, SlotOf, WholeOf, cell_word, own_cell, slots_in, slots_of}
 use Rattle.sg_round.specs.Worker.{Object, Stage, Look, Size, Room, Take, Slots, Mark, Body, Puts, Swap, Pin, Send, Dirty, Mid, Idle, Took, Count, On, Offer, Seek, Grab, Over, Worker, size_for}
-use Rattle.sg_round.specs.Rules.{Effect, ended, moved, failed}
+use Rattle.sg_round.specs.Rules.{Effect, MayOffer, ended, moved, failed}
 use Rattle.sg_round.specs.Round.{Start, InSlot, IsClear, Owner, Nobody, Claimed, Round, Slot, IsGoing, Owns, IsPassed, IsTaken}
 
 -- a slot of the round r
@@ -159,7 +159,7 @@ AtMid t v r k spare list hand (Took item) = IsKnownItem t r item × (hand ≡ []
 AtMid t v r k spare list hand (Count x class) = IsKnown t.wholes r x × (class ≡ class_of (t.words.word (r.source x))) × (hand ≡ [])
 AtMid t v r k spare list hand (On s stage) = AtStage t v r k spare s stage
 AtMid t v r k spare list hand (Offer i next) =
-    (i < 8) × (v.cell (own_cell k i) ≡ 0) × ((items : List Item) × (item : Item) × (list ≡ items ++ item ∷ [])) × AtMid t v r k spare list hand next
+    (i < 8) × (v.cell (own_cell k i) ≡ 0) × ((items : List Item) × (item : Item) × (list ≡ items ++ item ∷ [])) × AtMid t v r k spare list hand next × MayOffer next
 AtMid t v r k spare list hand (Seek i) = (list ≡ []) × (hand ≡ []) × (i < 8 * t.team) × AreEmpty v k i
 AtMid t v r k spare list hand (Grab i item) = (list ≡ []) × (hand ≡ []) × (i < 8 * t.team) × AreEmpty v k i × IsKnownItem t r item
 AtMid t v r k spare list hand Over = (list ≡ []) × (hand ≡ []) × AreEmpty v k 8

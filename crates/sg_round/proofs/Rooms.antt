@@ -23,10 +23,10 @@ use Rattle.sg_round.proofs.Frame.{passed-later, object-fits}
 use Rattle.sg_round.proofs.Moves.{Before, member, resting, claims-as, other-claim, claim-same, claim-size, same-later, nothing, goes-on, walks}
 use Rattle.sg_round.proofs.Looks.{object-read}
 
-swept-not-free : (z : ℕ) (state : BlockWord) → state ≡ Swept z → state ≡ Free → ⊥
+pub swept-not-free : (z : ℕ) (state : BlockWord) → state ≡ Swept z → state ≡ Free → ⊥
 swept-not-free z state e f = let q : Swept z ≡ Free = sym e ∙ f in cc
 
-swept-same : (y z : ℕ) (state : BlockWord) → state ≡ Swept y → state ≡ Swept z → y ≡ z
+pub swept-same : (y z : ℕ) (state : BlockWord) → state ≡ Swept y → state ≡ Swept z → y ≡ z
 swept-same y z state e f = let q : Swept y ≡ Swept z = sym e ∙ f in cc
 
 -- a slot that is claimed stays so
