@@ -13,3 +13,4 @@ pub mod Rooms
 pub mod Bodies
 pub mod Swaps
 pub mod Cells
+pub mod Kept

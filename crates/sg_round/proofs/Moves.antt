@@ -34,8 +34,8 @@ abbrev pub IsAwake : Mid → Type 0
 IsAwake Over = ⊥
 IsAwake mid = Unit {0}
 
-pub is-member : (team k : ℕ) (mid : Mid) → IsAwake mid → (k < team) ⊎ (mid ≡ Over) → k < team
-is-member team k mid w m = elim m [ inl l ↦ l | inr e ↦ absurd (subst IsAwake e w) ]
+pub is-member : (team k : ℕ) (mid : Mid) (spare : ℕ → ℕ) → IsAwake mid → (k < team) ⊎ ((mid ≡ Over) × ((z : ℕ) → spare z ≡ 0)) → k < team
+is-member team k mid spare w m = elim m [ inl l ↦ l | inr e ↦ absurd (subst IsAwake e.0 w) ]
 
 -- another one's claim is no claim of this one's
 pub other-claim : (o : Owner) (j k at at' z z' : ℕ) → j ≢ k → o ≡ Claimed j at z → o ≡ Claimed k at' z' → ⊥
@@ -71,7 +71,7 @@ nothing r = (refl, sym (append-nil r.moves), sym (append-nil r.fails))
 
 module _ {t : Start} {others : ℕ → Type 0} {k : ℕ} {v : Words} {r : Round} where
   pub member : (a : Worker) → IsAwake a.mid → Before t others k v r a → k < t.team
-  member a w n = is-member t.team k a.mid w n.stands.member
+  member a w n = is-member t.team k a.mid a.spare w n.stands.member
 
   -- what a worker that writes no copy has claimed is spare
   pub resting : (a : Worker) → Before t others k v r a → ((at z : ℕ) → IsFilling at z a.mid → ⊥) →

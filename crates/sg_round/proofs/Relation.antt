@@ -174,7 +174,8 @@ IsFilling at z mid = ⊥
 
 -- what is true of worker k
 pub record Stands (t : Start) (v : Words) (r : Round) (k : ℕ) (a : Worker) : Type 0 where
-  pub member : (k < t.team) ⊎ (a.mid ≡ Over)
+  -- it is one of the team, or has never had anything
+  pub member : (k < t.team) ⊎ ((a.mid ≡ Over) × ((z : ℕ) → a.spare z ≡ 0))
   pub spares : (z : ℕ) → a.spare z ≢ 0 → Owns r.owner k (a.spare z) z
   -- what it has claimed is in its hand or spare
   pub claims : (at z y : ℕ) → r.owner y ≡ Claimed k at z → ((a.spare z ≡ at) ⊎ IsFilling at z a.mid) × (at ≤ y) × (y < at + z) × (at ≢ 0)
@@ -194,11 +195,8 @@ pub record AreSingle (t : Start) (source cell : ℕ → ℕ) (workers : ℕ → 
   pub once : AreDistinct handled
 
 -- the sections that no worker changes
-pub record IsStill (w v : Words) : Type 0 where
-  pub stop : v.stop ≡ w.stop
-  pub head : v.head ≡ w.head
-  pub next : v.next ≡ w.next
-  pub marks : v.marks ≡ w.marks
+abbrev pub IsStill : Words → Words → Type 0
+IsStill w v = (v.stop ≡ w.stop) × (v.head ≡ w.head) × (v.next ≡ w.next) × (v.marks ≡ w.marks)
 
 pub record World (t : Start) (v : Words) (workers : ℕ → Worker) : Type 0 where
   pub round : Round
