@@ -14,3 +14,4 @@ pub mod Bodies
 pub mod Swaps
 pub mod Cells
 pub mod Kept
+pub mod Law
