@@ -126,7 +126,7 @@ module _ {t : Start} {others : ℕ → Type 0} {k : ℕ} {v : Words} {r : Round}
           member = inl less;
           spares = st.spares;
           claims = st.claims;
-          passed = st.passed;
+          classes = st.classes; passed = st.passed;
           known = known.0;
           few = (let f = st.few in let l = length-last items item in omega arith);
           at = offered-mid t v r k a.spare (items ++ item ∷ []) items a.hand next cell' st.at.4 st.at.3;
@@ -259,7 +259,7 @@ module _ {t : Start} {others : ℕ → Type 0} {k : ℕ} {v : Words} {r : Round}
           member = inl (member a0 tt n);
           spares = st.spares;
           claims = claims-as a0 (Took item) n (λ at z h. h);
-          passed = st.passed;
+          classes = st.classes; passed = st.passed;
           known = st.known;
           few = st.few;
           at = (q.4, q.1);

@@ -121,6 +121,7 @@ module _ {t : Start} {k : ℕ} {v : Words} {r : Round} {v' : Words} {r' : Round}
       member = st.member;
       spares = λ z some. owns-later (a.spare z) z (st.spares z some);
       claims = λ at z y e. st.claims at z y (la.claims j at z y n e);
+      classes = st.classes;
       passed = λ z. ((st.passed z).0, blocks-later z (a.passed z) (st.passed z).1);
       known = list-later a.list st.known;
       few = (let f = st.few in let m = la.more in omega arith);

@@ -246,6 +246,7 @@ module _ (t : Start) (o : IsRoundOpening t) where
     stands = λ k. record {
       member = elim (o.dealt.mids k) [ inl e ↦ inl e.0 | inr e ↦ inr (e.0, o.dealt.spares k) ];
       spares = λ z some. absurd (some (o.dealt.spares k z));
+      classes = λ z some. absurd (some (o.dealt.spares k z));
       claims = λ at z y e. absurd (let q : Nobody ≡ Claimed k at z = e in cc);
       passed = λ z. ((let p = o.dealt.passed k z in omega arith), λ d l h. absurd (let p = o.dealt.passed k z in omega arith));
       known = known-dealt t (t.workers k).list (o.dealt.wholes k) (o.dealt.only k);

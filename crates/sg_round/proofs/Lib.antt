@@ -15,3 +15,4 @@ pub mod Swaps
 pub mod Cells
 pub mod Kept
 pub mod Law
+pub mod Done

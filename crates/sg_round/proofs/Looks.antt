@@ -50,12 +50,12 @@ module _ {t : Start} {others : ℕ → Type 0} {k : ℕ} {v : Words} {r : Round}
   -- what stands of a worker that is without its next item
   next-stands : (a : Worker) (item : Item) (b : Worker) → IsNext a item b → Before t others k v r a → Stands t v r k (idle b)
   next-stands _ _ _ (Of_hand a s rest) n = let st = n.stands in let a0 : Worker = record a { hand = s ∷ rest; mid = Idle } in
-      record { member = inl (member a0 tt n); spares = st.spares; claims = claims-as a0 Idle n (λ at z h. h); passed = st.passed; known = st.known; few = st.few; at = tt }
+      record { member = inl (member a0 tt n); spares = st.spares; claims = claims-as a0 Idle n (λ at z h. h); classes = st.classes; passed = st.passed; known = st.known; few = st.few; at = tt }
   next-stands _ _ _ (Of_list a item rest) n = let st = n.stands in let a0 : Worker = record a { list = item ∷ rest; hand = []; mid = Idle } in
-      record { member = inl (member a0 tt n); spares = st.spares; claims = claims-as a0 Idle n (λ at z h. h); passed = st.passed; known = st.known.1;
+      record { member = inl (member a0 tt n); spares = st.spares; claims = claims-as a0 Idle n (λ at z h. h); classes = st.classes; passed = st.passed; known = st.known.1;
         few = (let f = st.few in omega arith); at = tt }
   next-stands _ _ _ (Of_cell a item) n = let st = n.stands in let a0 : Worker = record a { mid = Took item } in
-      record { member = inl (member a0 tt n); spares = st.spares; claims = claims-as a0 Idle n (λ at z h. h); passed = st.passed; known = st.known; few = st.few; at = tt }
+      record { member = inl (member a0 tt n); spares = st.spares; claims = claims-as a0 Idle n (λ at z h. h); classes = st.classes; passed = st.passed; known = st.known; few = st.few; at = tt }
 
   next-hand : (a : Worker) (x : ℕ) (b : Worker) → IsNext a (WholeOf x) b → Before t others k v r a → b.hand ≡ []
   next-hand _ x _ (Of_list a _ rest) n = refl
@@ -70,7 +70,7 @@ module _ {t : Start} {others : ℕ → Type 0} {k : ℕ} {v : Words} {r : Round}
         member = inl (member a (next-awake a (WholeOf x) b nx) n);
         spares = st.spares;
         claims = λ at z y e. (let c = st.claims at z y e in (elim c.0 [ inl q ↦ inl q | inr h ↦ absurd h ], c.1, c.2, c.3));
-        passed = st.passed;
+        classes = st.classes; passed = st.passed;
         known = st.known;
         few = st.few;
         at = (known, ap class_of (sym saw) ∙ head-class n.opening.opening n.going x known, next-hand a x b nx n);
@@ -86,7 +86,7 @@ module _ {t : Start} {others : ℕ → Type 0} {k : ℕ} {v : Words} {r : Round}
         ap (λ (c : ℕ). slots_by t.area c x u) st.at.1 ∙ ap (λ (m : ℕ). slots_by t.area (class_of (t.words.word (r.source x))) x m) (sym saw ∙ head-length n.opening.opening n.going x st.at.0) in
       goes-on a0 (record a { hand = slots_by t.area class x u; mid = Idle }) n
       (ap (λ (l : List ℕ). l ++ rest) e ∙ ap (λ (l : List ℕ). slots_in t.area t.words.word r.source (WholeOf x) ++ (l ++ rest)) (sym st.at.2))
-      (record { member = inl (member a0 tt n); spares = st.spares; claims = claims-as a0 Idle n (λ at z h. h); passed = st.passed; known = st.known; few = st.few; at = tt })
+      (record { member = inl (member a0 tt n); spares = st.spares; claims = claims-as a0 Idle n (λ at z h. h); classes = st.classes; passed = st.passed; known = st.known; few = st.few; at = tt })
 
   -- a slot with no young reference, and one with
   pub none-seen : (a b : Worker) (s u : ℕ) → IsNext a (SlotOf s) b → ((x : ℕ) → u ≡ byte_at x → IsYoung t.area x → ⊥) → v.word s ≡ u → Before t others k v r a →
@@ -112,7 +112,7 @@ module _ {t : Start} {others : ℕ → Type 0} {k : ℕ} {v : Words} {r : Round}
         member = inl (member a (next-awake a (SlotOf s) b nx) n);
         spares = st.spares;
         claims = λ at z y e. (let c = st.claims at z y e in (elim c.0 [ inl q ↦ inl q | inr h ↦ absurd h ], c.1, c.2, c.3));
-        passed = st.passed;
+        classes = st.classes; passed = st.passed;
         known = st.known;
         few = st.few;
         at = record { slot = mine; held = sym (found n.opening.opening n.going s x mine saw young) ∙ saw; young = young };
@@ -137,7 +137,7 @@ module _ {t : Start} {others : ℕ → Type 0} {k : ℕ} {v : Words} {r : Round}
   -- what stands where a slot ends
   pub idle-stands : (a : Worker) → Before t others k v r a → IsAwake a.mid → ((at z : ℕ) → IsFilling at z a.mid → ⊥) → Stands t v r k (idle a)
   idle-stands a n w none = let st = n.stands in
-      record { member = inl (member a w n); spares = st.spares; claims = claims-as a Idle n none; passed = st.passed; known = st.known; few = st.few; at = tt }
+      record { member = inl (member a w n); spares = st.spares; claims = claims-as a Idle n none; classes = st.classes; passed = st.passed; known = st.known; few = st.few; at = tt }
 
   pub bare-seen : (a : Worker) (s x class u : ℕ) → IsFixed class u → (HasCard t.area s → ⊥) → v.word x ≡ u → Before t others k v r (on a s (Look x)) →
       Kept t others k v r (on a s (Look x)) (Ends s) v (idle a)
@@ -185,6 +185,10 @@ module _ {t : Start} {others : ℕ → Type 0} {k : ℕ} {v : Words} {r : Round}
           c.2,
           c.3,
         ));
+        classes = λ z h. elim (cases_eq z z0) [
+          | inl e ↦ absurd (h (put-at a.spare z0 0 z e))
+          | inr d ↦ st.classes z (λ q. h (put-other a.spare z0 0 z d ∙ q))
+        ];
         passed = st.passed;
         known = st.known;
         few = st.few;

@@ -107,7 +107,7 @@ module _ {t : Start} {others : ℕ → Type 0} {k : ℕ} {v : Words} {r : Round}
     member = inl (member a w n);
     spares = n.stands.spares;
     claims = claims-as a mid n f;
-    passed = n.stands.passed;
+    classes = n.stands.classes; passed = n.stands.passed;
     known = n.stands.known;
     few = n.stands.few;
     at = at;
@@ -193,7 +193,7 @@ module _ {t : Start} {others : ℕ → Type 0} {k : ℕ} {v : Words} {r : Round}
           member = stands.member;
           spares = stands.spares;
           claims = stands.claims;
-          passed = stands.passed;
+          classes = stands.classes; passed = stands.passed;
           known = list-later later b.list stands.known;
           few = stands.few;
           at = tt;
@@ -256,7 +256,7 @@ module _ {t : Start} {others : ℕ → Type 0} {k : ℕ} {v : Words} {r : Round}
           member = inl (member a w n);
           spares = n.stands.spares;
           claims = claims-as a mid n f;
-          passed = n.stands.passed;
+          classes = n.stands.classes; passed = n.stands.passed;
           known = n.stands.known;
           few = n.stands.few;
           at = mid-at;

@@ -177,6 +177,7 @@ pub record Stands (t : Start) (v : Words) (r : Round) (k : ℕ) (a : Worker) : T
   -- it is one of the team, or has never had anything
   pub member : (k < t.team) ⊎ ((a.mid ≡ Over) × ((z : ℕ) → a.spare z ≡ 0))
   pub spares : (z : ℕ) → a.spare z ≢ 0 → Owns r.owner k (a.spare z) z
+  pub classes : (z : ℕ) → a.spare z ≢ 0 → IsSizeClass z
   -- what it has claimed is in its hand or spare
   pub claims : (at z y : ℕ) → r.owner y ≡ Claimed k at z → ((a.spare z ≡ at) ⊎ IsFilling at z a.mid) × (at ≤ y) × (y < at + z) × (at ≢ 0)
   -- it has passed blocks that can't take its objects

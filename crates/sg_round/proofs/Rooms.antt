@@ -152,6 +152,7 @@ module _ {t : Start} {others : ℕ → Type 0} {k : ℕ} {v : Words} {r : Round}
           member = inl (member (on a s (Take o b)) tt n);
           spares = st.spares;
           claims = claims-as (on a s (Take o b)) (On s (Room o b)) n (λ at z h. h);
+          classes = st.classes;
           passed = λ z. ((st.passed z).0, λ d l h. passes z d ((st.passed z).1 d l h));
           known = st.known;
           few = st.few;
@@ -283,6 +284,7 @@ module _ {t : Start} {others : ℕ → Type 0} {k : ℕ} {v : Words} {r : Round}
               let above = n.opening.limits.above in let nursery = n.opening.limits.nursery in
               (inr f, (omega arith), (omega arith), λ g. absurd (omega arith))))
               (λ h. (let c = resting a0 n (λ at z h. h) at' z y (sym (outside y h) ∙ e) in (inl c.0, c.1, c.2, c.3)));
+          classes = st.classes;
           passed = λ z. elim (cases_eq z z0) [
             | inl e ↦ (
               (let p = put-at a.passed z0 b z e in let l = q.2 in omega arith),

@@ -11,7 +11,7 @@ use Rattle.std.proofs.lemmas.List.{append-nil}
 use Rattle.sg_words.proofs.Puts.{put-at, put-same, put-other}
 use Rattle.sg_words.proofs.Members.{in-left, in-right, in-cases, in-last, in-before, last-cases, out, not-in}
 use Rattle.sg_words.proofs.Objects.{slots-are}
-use Rattle.sg_words.proofs.Blocks.{class_bounds, slot_once, block_once}
+use Rattle.sg_words.proofs.Blocks.{slot_size-class, class_bounds, slot_once, block_once}
 use Rattle.sg_round.specs.Area.{Area, HasCard, class_of, place, Traces}
 use Rattle.sg_round.specs.Items.{Item, SlotOf, WholeOf, cell_word, slots_by, slots_in, slots_of}
 use Rattle.sg_round.specs.Worker.{Object, Stage, Look, Body, Puts, Swap, Pin, Send, Dirty, Mid, Idle, On, Worker, size_for, idle, on}
@@ -51,7 +51,7 @@ known-last t r [] item h k = (k, tt)
 known-last t r (x ∷ items) item h k = (h.0, known-last t r items item h.1 k)
 
 -- a slot's own place is in it
-own-place : (t : Start) (d z j : ℕ) → IsSizeClass z → place t.area d z j < place t.area d z j + z
+pub own-place : (t : Start) (d z j : ℕ) → IsSizeClass z → place t.area d z j < place t.area d z j + z
 own-place t d z j h = let b = class_bounds z h in omega arith
 
 -- the slots of an item that has come
@@ -123,6 +123,10 @@ module _ {t : Start} {others : ℕ → Type 0} {k : ℕ} {v : Words} {r : Round}
           c.2,
           c.3,
         ));
+        classes = λ z h. elim (cases_eq z z0) [
+          | inl e ↦ subst IsSizeClass (sym e) (slot_size-class (o.n + 2))
+          | inr d ↦ st.classes z (λ q. h (put-other a.spare z0 at z d ∙ q))
+        ];
         passed = st.passed;
         known = st.known;
         few = st.few;
@@ -264,7 +268,7 @@ module _ {t : Start} {others : ℕ → Type 0} {k : ℕ} {v : Words} {r : Round}
             c.2,
             c.3,
           ));
-          passed = st.passed;
+          classes = st.classes; passed = st.passed;
           known = known-last t r' a.list (WholeOf at) (list-later later a.list st.known) (inr (inr (x, in-last x x r.moves refl, sym (put-same r.m x at))));
           few = (let f = st.few in let l = length-last a.list (WholeOf at) in let m = length-last r.moves x in omega arith);
           at = (x, reads-later later s x q.0.seen, in-last x x r.moves refl, put-same r.m x at);
@@ -379,6 +383,7 @@ module _ {t : Start} {others : ℕ → Type 0} {k : ℕ} {v : Words} {r : Round}
           member = inl (member a0 tt n);
           spares = st.spares;
           claims = λ at z y e. (let c = resting a0 n (λ at z h. h) at z y e in (inl c.0, c.1, c.2, c.3));
+          classes = st.classes;
           passed = λ z. elim (cases_eq z z0) [
             | inl e ↦ (
               (let p = put-at a.passed z0 t.area.blocks z e in omega arith),
