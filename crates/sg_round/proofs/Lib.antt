@@ -16,3 +16,4 @@ pub mod Cells
 pub mod Kept
 pub mod Law
 pub mod Done
+pub mod Sanity
