@@ -17,3 +17,4 @@ pub mod Kept
 pub mod Law
 pub mod Done
 pub mod Sanity
+pub mod Progress
