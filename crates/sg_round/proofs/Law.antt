@@ -20,10 +20,10 @@ use Rattle.sg_round.proofs.Moves.{Before}
 use Rattle.sg_round.proofs.Swaps.{no-item}
 use Rattle.sg_round.proofs.Kept.{kept, still}
 
-part-same : (e : WorkEvent) (es : List WorkEvent) → part e.by (e ∷ es) ≡ e.deed ∷ part e.by es
+pub part-same : (e : WorkEvent) (es : List WorkEvent) → part e.by (e ∷ es) ≡ e.deed ∷ part e.by es
 part-same e es = cond-true (eqb e.by e.by) _ _ (eq-eqb e.by e.by refl)
 
-part-other : (j : ℕ) (e : WorkEvent) (es : List WorkEvent) → j ≢ e.by → part j (e ∷ es) ≡ part j es
+pub part-other : (j : ℕ) (e : WorkEvent) (es : List WorkEvent) → j ≢ e.by → part j (e ∷ es) ≡ part j es
 part-other j e es n = cond-false (eqb j e.by) _ _ (ne_eqb j e.by n)
 
 -- the slots of the workers but k

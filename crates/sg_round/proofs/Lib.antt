@@ -18,3 +18,4 @@ pub mod Law
 pub mod Done
 pub mod Sanity
 pub mod Progress
+pub mod SoFar

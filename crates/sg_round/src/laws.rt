@@ -1,6 +1,33 @@
-ghost use Rattle.sg_round.specs.Laws.{OpensSoFar, GoesSoFar, RacingLaw, OneWorkerLaw, OneOrderLaw, GoesAlways, Released, MoreItems};
+ghost use Rattle.sg_round.specs.Laws.{OpensSoFar, GoesSoFar, RacingLaw, GoesAlways, Released, MoreItems};
 
 /// A round's opening is its midst before any step.
 pub fn opens_so_far()
     ensures { OpensSoFar }
+{}
+
+/// From the midst of a round the next steps of any worker lead on.
+pub fn goes_so_far()
+    ensures { GoesSoFar }
+{}
+
+/// The law of racing copiers: every legal list of atomic steps of any number of workers that follow their programs, and have all
+/// ended, has led to the image of the opening under one map of its objects.
+pub fn racing_law()
+    ensures { RacingLaw }
+{}
+
+/// In the midst of a round no worker is ever stuck: whatever its next call sees, a rule goes on; each worker is sane by itself; and
+/// one that hasn't ended can take a step.
+pub fn goes_always()
+    ensures { GoesAlways }
+{}
+
+/// From one round to the next over the same opening: a spare place whose words are zero again is given back.
+pub fn released()
+    ensures { Released }
+{}
+
+/// From one round to the next over the same opening: more slots come.
+pub fn more_items()
+    ensures { MoreItems }
 {}

@@ -4,4 +4,4 @@
 
 mod laws;
 
-pub use laws::opens_so_far;
+pub use laws::{goes_always, goes_so_far, more_items, opens_so_far, racing_law, released};
