@@ -19,3 +19,5 @@ pub mod Done
 pub mod Sanity
 pub mod Progress
 pub mod SoFar
+pub mod Queue
+pub mod Fits

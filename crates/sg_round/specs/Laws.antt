@@ -116,7 +116,7 @@ abbrev pub OneOrderLaw : Type 0
 OneOrderLaw = (area : Area) (w : ℕ → ℕ) (items : List ℕ) (m m' : ℕ → ℕ) (block : ℕ → BlockWord) (used : ℕ → ℕ) (moves moves' fails fails' : List ℕ)
     (block1 block2 : ℕ → BlockWord) (used1 used2 : ℕ → ℕ) →
     IsInOrder area w items m block used moves fails block1 used1 → IsInOrder area w items m' block used moves' fails' block2 used2 →
-    (moves ≡ moves') × (fails ≡ fails') × ((a : ℕ) → In a moves → m a ≡ m' a) × ((b : ℕ) → block1 b ≡ block2 b) × ((b : ℕ) → used1 b ≡ used2 b)
+    (moves ≡ moves') × (fails ≡ fails') × ((a : ℕ) → In a moves → m a ≡ m' a) × (block1 ≡ block2) × (used1 ≡ used2)
 
 -- In the midst of a round each worker is sane; whatever a call for a next step of it sees, a step comes next; and a worker that hasn't
 -- ended can take one.
