@@ -20,9 +20,6 @@ abbrev pub with_bit : (ℕ → ℕ) → ℕ → ℕ → ℕ → ℕ
 with_bit used b i = put used b (bit_or (used b) (2 ^ i))
 
 module _ (area : Area) (w : ℕ → ℕ) (m : ℕ → ℕ) (x : ℕ) (block' : ℕ → BlockWord) (used' : ℕ → ℕ) where
-  z : ℕ
-  z = slot_size (size_of w x)
-
   -- one more object moves, or fails
   pub fits-moved : (b i : ℕ) → IsLowest area block' used' (slot_size (size_of w x)) b i → m x ≡ place area b (slot_size (size_of w x)) i →
       (block : ℕ → BlockWord) (used : ℕ → ℕ) (moves fails found : List ℕ) → Fits area w m block used moves fails found block' used' →

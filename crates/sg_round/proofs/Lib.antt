@@ -21,3 +21,4 @@ pub mod Progress
 pub mod SoFar
 pub mod Queue
 pub mod Fits
+pub mod Alone

@@ -21,7 +21,7 @@ use Rattle.sg_round.proofs.Copies.{head-class, head-length}
 use Rattle.sg_round.proofs.Frame.{object-fits}
 use Rattle.sg_round.proofs.Moves.{Before, IsAwake, member, resting, claims-as, goes-on, walks, cards-ended, handles}
 
-next-awake : (a : Worker) (item : Item) (b : Worker) → IsNext a item b → IsAwake a.mid
+pub next-awake : (a : Worker) (item : Item) (b : Worker) → IsNext a item b → IsAwake a.mid
 next-awake _ _ _ (Of_hand a s rest) = tt
 next-awake _ _ _ (Of_list a item rest) = tt
 next-awake _ _ _ (Of_cell a item) = tt
@@ -36,19 +36,19 @@ settled-as t r s x h q z e y = subst (IsSettled t.words.word r.moves r.fails) (s
 
 module _ {t : Start} {others : ℕ → Type 0} {k : ℕ} {v : Words} {r : Round} where
   -- the slots of the next item are the first of those that a worker has to do
-  next-todo : (a : Worker) (item : Item) (b : Worker) → IsNext a item b → Before t others k v r a →
+  pub next-todo : (a : Worker) (item : Item) (b : Worker) → IsNext a item b → Before t others k v r a →
       todo_of t r.source a ≡ slots_in t.area t.words.word r.source item ++ todo_of t r.source (idle b)
   next-todo _ _ _ (Of_hand a s rest) n = refl
   next-todo _ _ _ (Of_list a item rest) n = refl
   next-todo _ _ _ (Of_cell a item) n = refl
 
-  next-known : (a : Worker) (item : Item) (b : Worker) → IsNext a item b → Before t others k v r a → IsKnownItem t r item
+  pub next-known : (a : Worker) (item : Item) (b : Worker) → IsNext a item b → Before t others k v r a → IsKnownItem t r item
   next-known _ _ _ (Of_hand a s rest) n = n.going.slots s (inl (inr (inl (in-here s s (rest ++ slots_of t.area t.words.word r.source a.list) refl))))
   next-known _ _ _ (Of_list a item rest) n = n.stands.known.0
   next-known _ _ _ (Of_cell a item) n = n.stands.at.0
 
   -- what stands of a worker that is without its next item
-  next-stands : (a : Worker) (item : Item) (b : Worker) → IsNext a item b → Before t others k v r a → Stands t v r k (idle b)
+  pub next-stands : (a : Worker) (item : Item) (b : Worker) → IsNext a item b → Before t others k v r a → Stands t v r k (idle b)
   next-stands _ _ _ (Of_hand a s rest) n = let st = n.stands in let a0 : Worker = record a { hand = s ∷ rest; mid = Idle } in
       record { member = inl (member a0 tt n); spares = st.spares; claims = claims-as a0 Idle n (λ at z h. h); classes = st.classes; passed = st.passed; known = st.known; few = st.few; at = tt }
   next-stands _ _ _ (Of_list a item rest) n = let st = n.stands in let a0 : Worker = record a { list = item ∷ rest; hand = []; mid = Idle } in
@@ -76,16 +76,21 @@ module _ {t : Start} {others : ℕ → Type 0} {k : ℕ} {v : Words} {r : Round}
         at = (known, ap class_of (sym saw) ∙ head-class n.opening.opening n.going x known, next-hand a x b nx n);
       })
 
+  pub counted-todo : (a : Worker) (x class u : ℕ) → v.word (x + 1) ≡ u → Before t others k v r (record a { mid = Count x class }) →
+      todo_of t r.source (record a { hand = slots_by t.area class x u; mid = Idle }) ≡ todo_of t r.source (record a { mid = Count x class })
+  counted-todo a x class u saw n =
+      let st = n.stands in
+      let rest = slots_of t.area t.words.word r.source a.list in
+      let e : slots_by t.area class x u ≡ slots_in t.area t.words.word r.source (WholeOf x) =
+        ap (λ (c : ℕ). slots_by t.area c x u) st.at.1 ∙ ap (λ (m : ℕ). slots_by t.area (class_of (t.words.word (r.source x))) x m) (sym saw ∙ head-length n.opening.opening n.going x st.at.0) in
+      ap (λ (l : List ℕ). l ++ rest) e ∙ ap (λ (l : List ℕ). slots_in t.area t.words.word r.source (WholeOf x) ++ (l ++ rest)) (sym st.at.2)
+
   pub counted : (a : Worker) (x class u : ℕ) → v.word (x + 1) ≡ u → Before t others k v r (record a { mid = Count x class }) →
       Kept t others k v r (record a { mid = Count x class }) Nothing v (record a { hand = slots_by t.area class x u; mid = Idle })
   counted a x class u saw n =
       let a0 : Worker = record a { mid = Count x class } in
       let st = n.stands in
-      let rest = slots_of t.area t.words.word r.source a.list in
-      let e : slots_by t.area class x u ≡ slots_in t.area t.words.word r.source (WholeOf x) =
-        ap (λ (c : ℕ). slots_by t.area c x u) st.at.1 ∙ ap (λ (m : ℕ). slots_by t.area (class_of (t.words.word (r.source x))) x m) (sym saw ∙ head-length n.opening.opening n.going x st.at.0) in
-      goes-on a0 (record a { hand = slots_by t.area class x u; mid = Idle }) n
-      (ap (λ (l : List ℕ). l ++ rest) e ∙ ap (λ (l : List ℕ). slots_in t.area t.words.word r.source (WholeOf x) ++ (l ++ rest)) (sym st.at.2))
+      goes-on a0 (record a { hand = slots_by t.area class x u; mid = Idle }) n (counted-todo a x class u saw n)
       (record { member = inl (member a0 tt n); spares = st.spares; claims = claims-as a0 Idle n (λ at z h. h); classes = st.classes; passed = st.passed; known = st.known; few = st.few; at = tt })
 
   -- a slot with no young reference, and one with
