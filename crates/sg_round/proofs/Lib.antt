@@ -22,3 +22,5 @@ pub mod SoFar
 pub mod Queue
 pub mod Fits
 pub mod Alone
+pub mod Queued
+pub mod Finds
