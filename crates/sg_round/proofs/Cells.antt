@@ -17,7 +17,7 @@ use Rattle.sg_round.proofs.Single.{single-as, offered-single, grabbed-single}
 use Rattle.sg_round.proofs.Moves.{Before, IsAwake, member, claims-as, nothing, goes-on, walks}
 use Rattle.sg_round.proofs.Swaps.{same-item, no-item, cell-known}
 
-may-awake : (mid : Mid) → MayOffer mid → IsAwake mid
+pub may-awake : (mid : Mid) → MayOffer mid → IsAwake mid
 may-awake Idle m = tt
 may-awake (Took item) m = tt
 may-awake (Count x class) m = tt

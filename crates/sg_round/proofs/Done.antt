@@ -181,5 +181,12 @@ module _ {t : Start} {v : Words} {workers : ℕ → Worker} (o : IsRoundOpening 
           | inr some ↦ absurd (none ((workers k).spare z) ((workers k).spare z) (owned k z some))
         ]
 
+-- its map is the round's
+pub done-map : {t : Start} {v : Words} {workers : ℕ → Worker} (o : IsRoundOpening t) (wo : World t v workers) (over : (k : ℕ) → (workers k).mid ≡ Over) (es : List WorkEvent)
+    (handled : wo.round.handled ≡ ended_by [] es) (moves : wo.round.moves ≡ moved_by [] es) (fails : wo.round.fails ≡ failed_by [] es) →
+    (done o wo over es handled moves fails).m ≡ wo.round.m
+unfolding done
+done-map {t} {v} {workers} o wo over es handled moves fails = refl
+
 pub racing_law : RacingLaw
 racing_law t v workers so over = let x = so-far t v workers so in done so.opening x.world over so.events x.handled x.moves x.fails

@@ -99,32 +99,29 @@ module _ (t : Start) (source source' cell' : ℕ → ℕ) (workers : ℕ → Wor
     once = q.once;
   }
 
--- what a step leads to, and what it says of the slots handled and of the objects that moved and failed
-pub record Stepped (t : Start) (v : Words) (workers : ℕ → Worker) (r : Round) (effect : Effect) : Type 0 where
-  pub world : World t v workers
-  pub handled : world.round.handled ≡ ended effect ++ r.handled
-  pub moves : world.round.moves ≡ r.moves ++ moved effect
-  pub fails : world.round.fails ≡ r.fails ++ failed effect
-  pub sources : (s : ℕ) → InRound t r s → world.round.source s ≡ r.source s
+module _ (t : Start) (v : Words) (workers : ℕ → Worker) (k : ℕ) (wo : World t v workers) where
+  abbrev pub Others : ℕ → Type 0
+  Others = others_of t wo.round.source workers k
 
--- one step of any worker
-pub one-step : (t : Start) (v : Words) (workers : ℕ → Worker) (k : ℕ) (e : Step) (effect : Effect) (a : Worker) → IsRoundOpening t → (wo : World t v workers) → Saw v e →
-    Comes t.area t.team k (workers k) e effect a → Stepped t (after_step v e) (put workers k a) wo.round effect
-one-step t v workers k e effect a o wo saw comes =
-    let r = wo.round in
-    let n : Before t (others_of t r.source workers k) k v r (workers k) = record {
-      opening = o;
-      going = moved-about wo.going (join t r.source v.cell workers k) (split t r.source v.cell workers k);
-      claims = wo.claims;
-      cards = wo.cards;
-      cells = wo.cells;
-      stands = wo.stands k;
-    } in
-    let s = kept (workers k) e effect a comes saw n in
-    let v' = after_step v e in
-    let same : (j : ℕ) → todo_of t s.round.source (workers j) ≡ todo_of t r.source (workers j) = λ j. todo-later s.later j (workers j) (wo.stands j) in
-    record {
-      world = record {
+  -- what is true before a step of worker k
+  pub before-step : IsRoundOpening t → Before t Others k v wo.round (workers k)
+  before-step o = record {
+    opening = o;
+    going = moved-about wo.going (join t wo.round.source v.cell workers k) (split t wo.round.source v.cell workers k);
+    claims = wo.claims;
+    cards = wo.cards;
+    cells = wo.cells;
+    stands = wo.stands k;
+  }
+
+  -- and what is true after it
+  pub world-after : (e : Step) (effect : Effect) (a : Worker) → Comes t.area t.team k (workers k) e effect a →
+      (s : Kept t Others k v wo.round (workers k) effect (after_step v e) a) → (x : World t (after_step v e) (put workers k a)) × (x.round ≡ s.round)
+  world-after e effect a comes s =
+      let r = wo.round in
+      let v' = after_step v e in
+      let same : (j : ℕ) → todo_of t s.round.source (workers j) ≡ todo_of t r.source (workers j) = λ j. todo-later s.later j (workers j) (wo.stands j) in
+      (record {
         round = s.round;
         going = moved-about s.going (split-put t r.source s.round.source v'.cell workers k a same) (join-put t r.source s.round.source v'.cell workers k a same);
         claims = s.claims;
@@ -134,11 +131,26 @@ one-step t v workers k e effect a o wo saw comes =
         single = single-put t r.source s.round.source v'.cell workers k a same v.cell r.handled s.round.handled wo.single
             (s.single (single-split t r.source v.cell workers k r.handled wo.single));
         still = still t.area t.team k t.words v (workers k) e effect a comes wo.still;
-      };
-      handled = s.told.0;
-      moves = s.told.1;
-      fails = s.told.2;
-      sources = s.later.sources;
+      }, refl)
+
+-- what a step leads to, and what it says of the slots handled and of the objects that moved and failed
+pub record Stepped (t : Start) (v : Words) (workers : ℕ → Worker) (r : Round) (effect : Effect) : Type 0 where
+  pub world : World t v workers
+  pub handled : world.round.handled ≡ ended effect ++ r.handled
+  pub moves : world.round.moves ≡ r.moves ++ moved effect
+  pub fails : world.round.fails ≡ r.fails ++ failed effect
+
+-- one step of any worker
+pub one-step : (t : Start) (v : Words) (workers : ℕ → Worker) (k : ℕ) (e : Step) (effect : Effect) (a : Worker) → IsRoundOpening t → (wo : World t v workers) → Saw v e →
+    Comes t.area t.team k (workers k) e effect a → Stepped t (after_step v e) (put workers k a) wo.round effect
+one-step t v workers k e effect a o wo saw comes =
+    let s = kept (workers k) e effect a comes saw (before-step t v workers k wo o) in
+    let x = world-after t v workers k wo e effect a comes s in
+    record {
+      world = x.0;
+      handled = ap (λ (r : Round). r.handled) x.1 ∙ s.told.0;
+      moves = ap (λ (r : Round). r.moves) x.1 ∙ s.told.1;
+      fails = ap (λ (r : Round). r.fails) x.1 ∙ s.told.2;
     }
 
 -- what a list of events leads to
@@ -188,7 +200,7 @@ module _ (t : Start) (o : IsRoundOpening t) where
     | inr e ↦ ap (in_hand t (λ x. x)) e.0
   ]
 
-  todo-dealt : (k : ℕ) → todo_of t (λ x. x) (t.workers k) ≡ slots_of t.area t.words.word (λ x. x) (t.workers k).list
+  pub todo-dealt : (k : ℕ) → todo_of t (λ x. x) (t.workers k) ≡ slots_of t.area t.words.word (λ x. x) (t.workers k).list
   todo-dealt k =
       let rest = slots_of t.area t.words.word (λ x. x) (t.workers k).list in
       ap (λ (l : List ℕ). l ++ ((t.workers k).hand ++ rest)) (hand-none k) ∙ ap (λ (l : List ℕ). l ++ rest) (o.dealt.hands k)
@@ -267,6 +279,10 @@ module _ (t : Start) (o : IsRoundOpening t) where
     };
     still = (refl, refl, refl, refl);
   }
+
+pub opening-round : (t : Start) (o : IsRoundOpening t) → (at-opening t o).round ≡ fresh
+unfolding at-opening
+opening-round t o = refl
 
 -- where a round in its midst stands
 pub so-far : (t : Start) (v : Words) (workers : ℕ → Worker) (so : IsSoFar t v workers) → Walked t v workers fresh so.events

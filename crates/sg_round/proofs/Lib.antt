@@ -24,3 +24,4 @@ pub mod Fits
 pub mod Alone
 pub mod Queued
 pub mod Finds
+pub mod OneWorker
