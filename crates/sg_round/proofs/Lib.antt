@@ -25,3 +25,4 @@ pub mod Alone
 pub mod Queued
 pub mod Finds
 pub mod OneWorker
+pub mod OneOrder

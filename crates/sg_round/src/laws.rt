@@ -1,4 +1,4 @@
-ghost use Rattle.sg_round.specs.Laws.{OpensSoFar, GoesSoFar, RacingLaw, GoesAlways, Released, MoreItems};
+ghost use Rattle.sg_round.specs.Laws.{OpensSoFar, GoesSoFar, RacingLaw, OneWorkerLaw, OneOrderLaw, GoesAlways, Released, MoreItems};
 
 /// A round's opening is its midst before any step.
 pub fn opens_so_far()
@@ -14,6 +14,18 @@ pub fn goes_so_far()
 /// ended, has led to the image of the opening under one map of its objects.
 pub fn racing_law()
     ensures { RacingLaw }
+{}
+
+/// One worker alone loses no exchange of a first word, and has no spare in the end. It finds the objects in order, breadth first; each
+/// takes the lowest clear slot of the lowest block that can take it as it is found, or fails where there is none.
+pub fn one_worker()
+    ensures { OneWorkerLaw }
+{}
+
+/// Over the same slots of the same words that order is one: the objects found, their places, and the block words and occupancies at
+/// the end are determined.
+pub fn one_order_of_copies()
+    ensures { OneOrderLaw }
 {}
 
 /// In the midst of a round no worker is ever stuck: whatever its next call sees, a rule goes on; each worker is sane by itself; and
