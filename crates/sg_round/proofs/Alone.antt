@@ -19,7 +19,8 @@ use Rattle.sg_words.proofs.Puts.{put-at, put-other}
 use Rattle.sg_words.proofs.Members.{in-here, in-there, out, not-in}
 use Rattle.sg_round.specs.Area.{Area, IsYoung, place}
 use Rattle.sg_round.specs.Items.{Item, WholeOf, slots_by, slots_in, slots_of}
-use Rattle.sg_round.specs.Worker.{Object, Stage, Look, Size, Room, Take, Slots, Mark, Body, Puts, Swap, Pin, Send, Dirty, Mid, Idle, Took, Count, On, Offer, Seek, Grab, Over, Worker, size_for, idle, on, looking}
+use Rattle.sg_round.specs.Worker.{Object, Stage, Look, Size, Room, Take, Slots, Mark, Body, Puts, Swap, Pin, Send, Dirty, Mid, Idle, Took, Count, On, Offer}
+use Rattle.sg_round.specs.Worker.{Seek, Grab, Over, Worker, size_for, idle, on, looking}
 use Rattle.sg_round.specs.Rules.{Effect, Nothing, Ends, Moves, Fails, FailsEnding, ended, moved, failed}
 use Rattle.sg_round.specs.Order.{target, targets, strong_of, leads, IsLowest, Fits}
 use Rattle.sg_round.specs.Round.{Start, Round, IsSettled, IsPassed}
@@ -27,7 +28,8 @@ use Rattle.sg_round.proofs.Relation.{InRound, IsWhole, IsKnown, IsKnownItem, Are
 use Rattle.sg_round.proofs.Steps.{plain-not-fixed}
 use Rattle.sg_round.proofs.Frame.{slots_in-later, slots_of-later}
 use Rattle.sg_round.proofs.Moves.{Before}
-use Rattle.sg_round.proofs.Queue.{firsts, targets-last, targets-append, in-firsts, firsts-old, firsts-new, target-is, target-cases, map-same, line-on, line-more}
+use Rattle.sg_round.proofs.Queue.{firsts, targets-last, targets-append, in-firsts, firsts-old, firsts-new, target-is, target-cases, map-same, line-on}
+use Rattle.sg_round.proofs.Queue.{line-more}
 use Rattle.sg_round.proofs.Fits.{with_block, with_bit, fits-in, fits-out, fits-map}
 
 -- the source of the slot in hand, where its object is known to have moved or to stay
@@ -110,7 +112,8 @@ IsHandKnown t r (Offer i next) = IsHandKnown t r next
 IsHandKnown t r mid = Unit {0}
 
 -- one step of worker 0, which is a and then b
-module _ (t : Start) (items : List ℕ) (others : ℕ → Type 0) (v v' : Words) (r : Round) (a b : Worker) (effect : Effect) (n : Before t others 0 v r a) (s : Kept t others 0 v r a effect v' b)
+module _ (t : Start) (items : List ℕ) (others : ℕ → Type 0) (v v' : Words) (r : Round) (a b : Worker) (effect : Effect) (n : Before t others 0 v r a)
+    (s : Kept t others 0 v r a effect v' b)
     (q : IsQueued t items v r a) where
   abbrev w : ℕ → ℕ
   w = t.words.word
@@ -152,7 +155,8 @@ module _ (t : Start) (items : List ℕ) (others : ℕ → Type 0) (v v' : Words)
       (fits-map t.area w r.m s.round.m q.block q.used t.words.block t.words.used r.moves r.fails q.found (λ x h. (s.later.moves x h).1) q.parts))
 
   -- what was found isn't found again
-  known : (gone : List ℕ) (u : ℕ) → q.found ≡ firsts [] (targets t.area w gone) → ((x : ℕ) → w u ≡ byte_at x → IsYoung t.area x → IsSettled w r.moves r.fails x) →
+  known : (gone : List ℕ) (u : ℕ) → q.found ≡ firsts [] (targets t.area w gone) →
+      ((x : ℕ) → w u ≡ byte_at x → IsYoung t.area x → IsSettled w r.moves r.fails x) →
       firsts [] (targets t.area w (gone ++ u ∷ [])) ≡ firsts [] (targets t.area w gone)
   known gone u order st = ap (firsts []) (targets-last t.area w gone u) ∙ elim (target-cases t.area w (w u)) [
     | inl e ↦ ap (firsts []) (ap (λ (l : List ℕ). targets t.area w gone ++ l) e ∙ append-nil (targets t.area w gone))
@@ -173,13 +177,16 @@ module _ (t : Start) (items : List ℕ) (others : ℕ → Type 0) (v v' : Words)
   ]
 
   -- a new one is found
-  pub new-order : (gone : List ℕ) (u x c : ℕ) → q.found ≡ firsts [] (targets t.area w gone) → w u ≡ byte_at x → IsYoung t.area x → w x ≡ plain_word c → IsWhole r x →
+  pub new-order : (gone : List ℕ) (u x c : ℕ) → q.found ≡ firsts [] (targets t.area w gone) → w u ≡ byte_at x → IsYoung t.area x → w x ≡ plain_word c →
+      IsWhole r x →
       q.found ++ x ∷ [] ≡ firsts [] (targets t.area w (gone ++ u ∷ []))
-  new-order gone u x c order e y p whole = sym (ap (firsts []) (targets-last t.area w gone u ∙ ap (λ (l : List ℕ). targets t.area w gone ++ l) (target-is t.area w (w u) x c e y p))
+  new-order gone u x c order e y p whole =
+      sym (ap (firsts []) (targets-last t.area w gone u ∙ ap (λ (l : List ℕ). targets t.area w gone ++ l) (target-is t.area w (w u) x c e y p))
       ∙ firsts-new [] (targets t.area w gone) x (λ i. (let z = i in cc)) (λ i. unfound x whole (subst (λ (l : List ℕ). In x l) (sym order) i))
       ∙ ap (λ (l : List ℕ). l ++ x ∷ []) (sym order))
 
-  pub new-each : (gone rest : List ℕ) (u x c : ℕ) → gone ++ u ∷ rest ≡ items ++ strong_of t.area w q.found → q.found ≡ firsts [] (targets t.area w gone) → w u ≡ byte_at x → IsYoung t.area x →
+  pub new-each : (gone rest : List ℕ) (u x c : ℕ) → gone ++ u ∷ rest ≡ items ++ strong_of t.area w q.found → q.found ≡ firsts [] (targets t.area w gone) →
+      w u ≡ byte_at x → IsYoung t.area x →
       w x ≡ plain_word c → IsWhole r x → IsFoundBy (λ _. Unit {0}) (leads t.area w items) (q.found ++ x ∷ [])
   new-each gone rest u x c line order e y p whole = Finds q.found x q.each (record {
     passed = targets t.area w gone;
@@ -194,7 +201,8 @@ module _ (t : Start) (items : List ℕ) (others : ℕ → Type 0) (v v' : Words)
     ];
   })
 
-  module _ (em : moved effect ≡ []) (ef : failed effect ≡ []) (list : AreKnown t r b.list) (hand : IsHandKnown t r b.mid) (now : AtFit t.area v'.block v'.used q.block q.used b.mid)
+  module _ (em : moved effect ≡ []) (ef : failed effect ≡ []) (list : AreKnown t r b.list) (hand : IsHandKnown t r b.mid)
+      (now : AtFit t.area v'.block v'.used q.block q.used b.mid)
       (whole : IsWholeAt s.round b.mid) (none : (z : ℕ) → b.spare z ≡ 0) (alone : IsAlone b.mid) (cells : (i : ℕ) → v'.cell i ≡ 0) where
     -- nothing is found, and no slot ends
     stays : todo_of t r.source b ≡ todo_of t r.source a → q.found ≡ firsts [] (targets t.area w (q.gone ++ seen s.round b.mid)) → IsQueued t items v' s.round b
@@ -203,7 +211,8 @@ module _ (t : Start) (items : List ℕ) (others : ℕ → Type 0) (v v' : Words)
       found = q.found;
       block = q.block;
       used = q.used;
-      line = ap (λ (l : List ℕ). q.gone ++ map s.round.source l) (todo-kept list hand ∙ e) ∙ ap (λ (l : List ℕ). q.gone ++ l) (map-kept (todo_of t r.source a) in-round) ∙ q.line;
+      line = ap (λ (l : List ℕ). q.gone ++ map s.round.source l) (todo-kept list hand ∙ e)
+          ∙ ap (λ (l : List ℕ). q.gone ++ l) (map-kept (todo_of t r.source a) in-round) ∙ q.line;
       order = order;
       each = q.each;
       parts = parts-same em ef;
@@ -221,12 +230,14 @@ module _ (t : Start) (items : List ℕ) (others : ℕ → Type 0) (v v' : Words)
     pub learns : (z : ℕ) → InRound t r z → todo_of t r.source b ≡ todo_of t r.source a → seen r a.mid ≡ [] → seen s.round b.mid ≡ s.round.source z ∷ [] →
         ((x : ℕ) → w (r.source z) ≡ byte_at x → IsYoung t.area x → IsSettled w r.moves r.fails x) → IsQueued t items v' s.round b
     learns z slot e f g st =
-        let o = q.order ∙ ap (λ (l : List ℕ). firsts [] (targets t.area w (q.gone ++ l))) f ∙ ap (λ (l : List ℕ). firsts [] (targets t.area w l)) (append-nil q.gone) in
+        let o = q.order ∙ ap (λ (l : List ℕ). firsts [] (targets t.area w (q.gone ++ l))) f
+        ∙ ap (λ (l : List ℕ). firsts [] (targets t.area w l)) (append-nil q.gone) in
         stays e (o ∙ sym (known q.gone (r.source z) o st)
         ∙ ap (λ (l : List ℕ). firsts [] (targets t.area w (q.gone ++ l))) (ap (λ (u : ℕ). u ∷ []) (sym (s.later.sources z slot)) ∙ sym g))
 
     -- a slot ends
-    ends-one : (z : ℕ) → todo_of t r.source a ≡ z ∷ todo_of t r.source b → q.found ≡ firsts [] (targets t.area w ((q.gone ++ r.source z ∷ []) ++ seen s.round b.mid)) → IsQueued t items v' s.round b
+    ends-one : (z : ℕ) → todo_of t r.source a ≡ z ∷ todo_of t r.source b →
+        q.found ≡ firsts [] (targets t.area w ((q.gone ++ r.source z ∷ []) ++ seen s.round b.mid)) → IsQueued t items v' s.round b
     ends-one z e order = record {
       gone = q.gone ++ r.source z ∷ [];
       found = q.found;
@@ -234,7 +245,8 @@ module _ (t : Start) (items : List ℕ) (others : ℕ → Type 0) (v v' : Words)
       used = q.used;
       line = append_assoc q.gone (r.source z ∷ []) (map s.round.source (todo_of t s.round.source b))
           ∙ ap (λ (l : List ℕ). q.gone ++ r.source z ∷ map s.round.source l) (todo-kept list hand)
-          ∙ ap (λ (l : List ℕ). q.gone ++ r.source z ∷ l) (map-kept (todo_of t r.source b) (λ y i. in-round y (subst (λ (l : List ℕ). In y l) (sym e) (in-there y z (todo_of t r.source b) i))))
+          ∙ ap (λ (l : List ℕ). q.gone ++ r.source z ∷ l)
+          (map-kept (todo_of t r.source b) (λ y i. in-round y (subst (λ (l : List ℕ). In y l) (sym e) (in-there y z (todo_of t r.source b) i))))
           ∙ ap (λ (l : List ℕ). q.gone ++ map r.source l) (sym e) ∙ q.line;
       order = order;
       each = q.each;
@@ -247,17 +259,22 @@ module _ (t : Start) (items : List ℕ) (others : ℕ → Type 0) (v v' : Words)
     }
 
     -- one ends whose object hadn't been looked at, and one whose had
-    pub quiet-end : (z : ℕ) → ended effect ≡ z ∷ [] → todo_of t r.source a ≡ z ∷ todo_of t r.source b → seen r a.mid ≡ [] → seen s.round b.mid ≡ [] → IsQueued t items v' s.round b
+    pub quiet-end : (z : ℕ) → ended effect ≡ z ∷ [] → todo_of t r.source a ≡ z ∷ todo_of t r.source b → seen r a.mid ≡ [] → seen s.round b.mid ≡ [] →
+        IsQueued t items v' s.round b
     quiet-end z ee e f g =
         let slot = in-round z (subst (λ (l : List ℕ). In z l) (sym e) (in-here z z (todo_of t r.source b) refl)) in
-        let o = q.order ∙ ap (λ (l : List ℕ). firsts [] (targets t.area w (q.gone ++ l))) f ∙ ap (λ (l : List ℕ). firsts [] (targets t.area w l)) (append-nil q.gone) in
-        let done : In z s.round.handled = subst (λ (l : List ℕ). In z l) (sym (s.told.0 ∙ ap (λ (l : List ℕ). l ++ r.handled) ee)) (in-here z z r.handled refl) in
+        let o = q.order ∙ ap (λ (l : List ℕ). firsts [] (targets t.area w (q.gone ++ l))) f
+        ∙ ap (λ (l : List ℕ). firsts [] (targets t.area w l)) (append-nil q.gone) in
+        let done : In z s.round.handled = subst (λ (l : List ℕ). In z l) (sym (s.told.0 ∙ ap (λ (l : List ℕ). l ++ r.handled) ee))
+        (in-here z z r.handled refl) in
         let st : (x : ℕ) → w (r.source z) ≡ byte_at x → IsYoung t.area x → IsSettled w r.moves r.fails x = λ x h y.
-          subst (λ (l : List ℕ). IsSettled w r.moves l x) (fails-same ef) (subst (λ (l : List ℕ). IsSettled w l s.round.fails x) (moves-same em)
-          (s.going.settled z x done (ap w (s.later.sources z slot) ∙ h) y)) in
+        subst (λ (l : List ℕ). IsSettled w r.moves l x) (fails-same ef) (subst (λ (l : List ℕ). IsSettled w l s.round.fails x) (moves-same em)
+        (s.going.settled z x done (ap w (s.later.sources z slot) ∙ h) y)) in
         ends-one z e (o ∙ sym (known q.gone (r.source z) o st)
-        ∙ ap (λ (l : List ℕ). firsts [] (targets t.area w l)) (sym (append-nil (q.gone ++ r.source z ∷ [])) ∙ ap (λ (l : List ℕ). (q.gone ++ r.source z ∷ []) ++ l) (sym g)))
+        ∙ ap (λ (l : List ℕ). firsts [] (targets t.area w l)) (sym (append-nil (q.gone ++ r.source z ∷ []))
+        ∙ ap (λ (l : List ℕ). (q.gone ++ r.source z ∷ []) ++ l) (sym g)))
 
-    pub end-seen : (z : ℕ) → todo_of t r.source a ≡ z ∷ todo_of t r.source b → seen r a.mid ≡ r.source z ∷ [] → seen s.round b.mid ≡ [] → IsQueued t items v' s.round b
+    pub end-seen : (z : ℕ) → todo_of t r.source a ≡ z ∷ todo_of t r.source b → seen r a.mid ≡ r.source z ∷ [] → seen s.round b.mid ≡ [] →
+        IsQueued t items v' s.round b
     end-seen z e f g = ends-one z e (q.order ∙ ap (λ (l : List ℕ). firsts [] (targets t.area w l))
         (ap (λ (l : List ℕ). q.gone ++ l) f ∙ sym (append-nil (q.gone ++ r.source z ∷ [])) ∙ ap (λ (l : List ℕ). (q.gone ++ r.source z ∷ []) ++ l) (sym g)))

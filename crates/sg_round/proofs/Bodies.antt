@@ -34,7 +34,8 @@ module _ {t : Start} {others : ℕ → Type 0} {k : ℕ} {v : Words} {r : Round}
   word-written a s o at j u n =
       let q = n.stands.at in
       let less = q.3 in let low = q.2 in let f = object-fits o q.0.short in
-      writing (on a s (Puts o at j u)) (On s (Body o at (j + 1))) at (size_for o) (at + j) u n tt refl (q.1 (at + j) (omega arith) (omega arith)) (λ at z h. h) (
+      writing (on a s (Puts o at j u)) (On s (Body o at (j + 1))) at (size_for o) (at + j) u n tt refl (q.1 (at + j) (omega arith) (omega arith))
+      (λ at z h. h) (
         q.0,
         q.1,
         (omega arith),
@@ -89,7 +90,8 @@ module _ {t : Start} {others : ℕ → Type 0} {k : ℕ} {v : Words} {r : Round}
       let q = n.stands.at in
       let a0 = on a s (Send to) in
       handles a0 a s (put v.word s (byte_at to)) v.card n tt q.1.slot refl
-      (put-same v.word s (byte_at to) ∙ sym (sent-at r.m (t.words.word (r.source s)) q.0 q.1.held ∙ ap byte_at q.3)) (λ y d. put-other v.word s (byte_at to) y d)
+      (put-same v.word s (byte_at to) ∙ sym (sent-at r.m (t.words.word (r.source s)) q.0 q.1.held ∙ ap byte_at q.3))
+      (λ y d. put-other v.word s (byte_at to) y d)
       (settled-as t r s q.0 q.1 (inl q.2))
       (cards-ended a0 s n (λ x card held young nm. not-in x r.moves nm (subst (λ (u : ℕ). In u r.moves) (same-target t r s q.0 x q.1 held) q.2)))
       (idle-stands a0 n tt (λ at z h. h))

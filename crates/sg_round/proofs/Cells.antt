@@ -1,5 +1,6 @@
 -- The rules of the offer cells.
-use Rattle.std.proofs.Common.{◌≡◌, ◌≢◌, ℕ, ◌+◌, ◌*◌, ◌%◌, ◌≤◌, ◌<◌, ◌⊎◌, List, [], ◌∷◌, ◌++◌, length, sym, refl, ap, ◌∙◌, subst, inl, inr, arith, le_refl, mod-eq_of_lt}
+use Rattle.std.proofs.Common.{◌≡◌, ◌≢◌, ℕ, ◌+◌, ◌*◌, ◌%◌, ◌≤◌, ◌<◌, ◌⊎◌, List, [], ◌∷◌, ◌++◌, length, sym, refl, ap, ◌∙◌, subst, inl, inr, arith, le_refl}
+use Rattle.std.proofs.Common.{mod-eq_of_lt}
 use Rattle.std.proofs.lemmas.Bool.{cases_eq}
 use Rattle.std.proofs.lemmas.List.{append-nil}
 use Rattle.sg_words.specs.Lists.{In}
@@ -44,7 +45,8 @@ module _ {t : Start} {others : ℕ → Type 0} {k : ℕ} {v : Words} {r : Round}
   pub cell-kept : (a : Worker) → Before t others k v r a → Kept t others k v r a Nothing v a
   cell-kept a n = goes-on a a n refl n.stands
 
-  pub offer-prepared : (a : Worker) (items : List Item) (item : Item) (i : ℕ) → i < 8 → MayOffer a.mid → a.list ≡ items ++ item ∷ [] → v.cell (own_cell k i) ≡ 0 → Before t others k v r a →
+  pub offer-prepared : (a : Worker) (items : List Item) (item : Item) (i : ℕ) → i < 8 → MayOffer a.mid → a.list ≡ items ++ item ∷ [] →
+      v.cell (own_cell k i) ≡ 0 → Before t others k v r a →
       Kept t others k v r a Nothing v (record a { mid = Offer i a.mid })
   offer-prepared a items item i l may e saw n =
       walks a (Offer i a.mid) n (may-awake a.mid may) refl (λ at z h. h) (l, saw, (items, item, e), n.stands.at, may)
@@ -53,7 +55,8 @@ module _ {t : Start} {others : ℕ → Type 0} {k : ℕ} {v : Words} {r : Round}
       Kept t others k v r (record a { mid = Offer i next }) Nothing v (record a { mid = next })
   offer-lost a i next n = walks (record a { mid = Offer i next }) next n tt refl (λ at z h. h) n.stands.at.3
 
-  pub offered : (a : Worker) (items : List Item) (item : Item) (i : ℕ) (next : Mid) → v.cell (own_cell k i) ≡ 0 → Before t others k v r (record a { list = items ++ item ∷ []; mid = Offer i next }) →
+  pub offered : (a : Worker) (items : List Item) (item : Item) (i : ℕ) (next : Mid) → v.cell (own_cell k i) ≡ 0 →
+      Before t others k v r (record a { list = items ++ item ∷ []; mid = Offer i next }) →
       Kept t others k v r (record a { list = items ++ item ∷ []; mid = Offer i next }) Nothing (record v { cell = put v.cell (own_cell k i) (cell_word item) })
       (record a { list = items; mid = next })
   offered a items item i next saw n =
@@ -68,8 +71,9 @@ module _ {t : Start} {others : ℕ → Type 0} {k : ℕ} {v : Words} {r : Round}
       let known = known-first t r items item st.known in
       let list : todo_of t r.source a0 ≡ todo_of t r.source b ++ own = todo-last t.area t.words.word r.source (in_hand t r.source next) a.hand items item in
       let here : (z : ℕ) → InCell t r.source cell' j z → In z own = λ z c.
-        subst (λ (p : Item). In z (slots_in t.area t.words.word r.source p)) (same-item c.0 item (sym c.1 ∙ put-same v.cell j (cell_word item))) c.2 in
-      let there : (d z : ℕ) → d ≢ j → InCell t r.source cell' d z → InCell t r.source v.cell d z = λ d z h c. (c.0, sym (put-other v.cell j (cell_word item) d h) ∙ c.1, c.2) in
+      subst (λ (p : Item). In z (slots_in t.area t.words.word r.source p)) (same-item c.0 item (sym c.1 ∙ put-same v.cell j (cell_word item))) c.2 in
+      let there : (d z : ℕ) → d ≢ j → InCell t r.source cell' d z →
+      InCell t r.source v.cell d z = λ d z h c. (c.0, sym (put-other v.cell j (cell_word item) d h) ∙ c.1, c.2) in
       record {
         round = r;
         later = record {
@@ -92,7 +96,8 @@ module _ {t : Start} {others : ℕ → Type 0} {k : ℕ} {v : Words} {r : Round}
               | inr h ↦ elim h [
                 | inl m ↦ inr (inl (subst (λ (l : List ℕ). In z l) (sym list) (in-left z (todo_of t r.source b) own m)))
                 | inr c ↦ elim (cases_eq c.0 j) [
-                  | inl e ↦ inr (inl (subst (λ (l : List ℕ). In z l) (sym list) (in-right z (todo_of t r.source b) own (here z (subst (λ (d : ℕ). InCell t r.source cell' d z) e c.1)))))
+                  | inl e ↦ inr (inl (subst (λ (l : List ℕ). In z l) (sym list)
+                      (in-right z (todo_of t r.source b) own (here z (subst (λ (d : ℕ). InCell t r.source cell' d z) e c.1)))))
                   | inr d ↦ inr (inr (c.0, there c.0 z d c.1))
                 ]
               ]
@@ -126,7 +131,8 @@ module _ {t : Start} {others : ℕ → Type 0} {k : ℕ} {v : Words} {r : Round}
           member = inl less;
           spares = st.spares;
           claims = st.claims;
-          classes = st.classes; passed = st.passed;
+          classes = st.classes;
+          passed = st.passed;
           known = known.0;
           few = (let f = st.few in let l = length-last items item in omega arith);
           at = offered-mid t v r k a.spare (items ++ item ∷ []) items a.hand next cell' st.at.4 st.at.3;
@@ -186,7 +192,8 @@ module _ {t : Start} {others : ℕ → Type 0} {k : ℕ} {v : Words} {r : Round}
       Kept t others k v r (record a { mid = Grab i item }) Nothing v (record a { mid = Seek i })
   take-lost a i item n = let q = n.stands.at in walks (record a { mid = Grab i item }) (Seek i) n tt refl (λ at z h. h) (q.0, q.1, q.2, q.3)
 
-  pub item-taken : (a : Worker) (i : ℕ) (item : Item) → v.cell (looked_cell t.team k i) ≡ cell_word item → Before t others k v r (record a { mid = Grab i item }) →
+  pub item-taken : (a : Worker) (i : ℕ) (item : Item) → v.cell (looked_cell t.team k i) ≡ cell_word item →
+      Before t others k v r (record a { mid = Grab i item }) →
       Kept t others k v r (record a { mid = Grab i item }) Nothing (record v { cell = put v.cell (looked_cell t.team k i) 0 }) (record a { mid = Took item })
   item-taken a i item saw n =
       let a0 : Worker = record a { mid = Grab i item } in
@@ -196,7 +203,8 @@ module _ {t : Start} {others : ℕ → Type 0} {k : ℕ} {v : Words} {r : Round}
       let j = looked_cell t.team k i in
       let cell' = put v.cell j 0 in
       let own = slots_in t.area t.words.word r.source item in
-      let none : todo_of t r.source a0 ≡ [] = ap (λ (l : List ℕ). l ++ slots_of t.area t.words.word r.source a.list) q.1 ∙ ap (slots_of t.area t.words.word r.source) q.0 in
+      let none : todo_of t r.source a0 ≡ [] = ap (λ (l : List ℕ). l ++ slots_of t.area t.words.word r.source a.list) q.1
+      ∙ ap (slots_of t.area t.words.word r.source) q.0 in
       let list : todo_of t r.source b ≡ own = ap (λ (l : List ℕ). own ++ l) none ∙ append-nil own in
       let full : (z : ℕ) → In z own → InCell t r.source v.cell j z = λ z h. (item, saw, h) in
       let empty : (d : ℕ) → d ≡ j → cell' d ≡ 0 = λ d e. put-at v.cell j 0 d e in
@@ -259,7 +267,8 @@ module _ {t : Start} {others : ℕ → Type 0} {k : ℕ} {v : Words} {r : Round}
           member = inl (member a0 tt n);
           spares = st.spares;
           claims = claims-as a0 (Took item) n (λ at z h. h);
-          classes = st.classes; passed = st.passed;
+          classes = st.classes;
+          passed = st.passed;
           known = st.known;
           few = st.few;
           at = (q.4, q.1);

@@ -27,7 +27,8 @@ module _ {area : Area} {w : ℕ → ℕ} {items wholes : List ℕ} {zone : ℕ �
   ]
 
   -- the slots in a copy are its strong fields
-  pub slot-in : (a j : ℕ) → In a r.moves → j < size_of w a → Slot area w items r.m r.moves r.fails (r.m a + j) → (i : ℕ) × (j ≡ 2 + i) × (is_strong area w a i ≡ true)
+  pub slot-in : (a j : ℕ) → In a r.moves → j < size_of w a → Slot area w items r.m r.moves r.fails (r.m a + j) →
+      (i : ℕ) × (j ≡ 2 + i) × (is_strong area w a i ≡ true)
   slot-in a j h l (Given k) = absurd (let e : true ≡ false = sym (target-zone op go a j h l) ∙ op.item_zone (r.m a + j) k in cc)
   slot-in a j h l (Copied b i k v e q) =
       let s1 = go.source_in a j h l in
@@ -47,16 +48,17 @@ module _ {area : Area} {w : ℕ → ℕ} {items wholes : List ℕ} {zone : ℕ �
       (target-clear (r.owner (r.m a + j)) a (go.target a j h l))
       ∙ cond-false _ _ _ (out (r.m a + j) r.handled (λ k. n (go.slots (r.m a + j) (inr k)))) ∙ ap w (go.source_in a j h l)
 
-
   -- the words of a copy's first two words are unclaimed, and so are those of an object in the nursery
   pub known-free : (x : ℕ) → IsKnown wholes r x → (is_claimed (r.owner x) ≡ false) × (is_claimed (r.owner (x + 1)) ≡ false)
   known-free x (inl h) = let i = op.inside x (inr h) in let l = i.1 in
       (free-clear (r.owner x) (below-free op go x (omega arith)), free-clear (r.owner (x + 1)) (below-free op go (x + 1) (omega arith)))
   known-free x (inr (inl h)) = let l = below x (go.failed x h).0 in
       (free-clear (r.owner x) (below-free op go x (omega arith)), free-clear (r.owner (x + 1)) (below-free op go (x + 1) (omega arith)))
-  known-free x (inr (inr h)) =
-      (ap (λ (y : ℕ). is_claimed (r.owner y)) (let e = h.2 in let g : x ≡ r.m h.0 + 0 = omega arith in g) ∙ target-clear (r.owner (r.m h.0 + 0)) h.0 (go.target h.0 0 h.1 (omega arith)),
-      ap (λ (y : ℕ). is_claimed (r.owner (y + 1))) h.2 ∙ target-clear (r.owner (r.m h.0 + 1)) h.0 (go.target h.0 1 h.1 (omega arith)))
+  known-free x (inr (inr h)) = (
+    ap (λ (y : ℕ). is_claimed (r.owner y)) (let e = h.2 in let g : x ≡ r.m h.0 + 0 = omega arith in g)
+        ∙ target-clear (r.owner (r.m h.0 + 0)) h.0 (go.target h.0 0 h.1 (omega arith)),
+    ap (λ (y : ℕ). is_claimed (r.owner (y + 1))) h.2 ∙ target-clear (r.owner (r.m h.0 + 1)) h.0 (go.target h.0 1 h.1 (omega arith)),
+  )
 
   -- the words of an item as a whole
   whole-word : (x : ℕ) → In x wholes → (word x ≡ w x) × (word (x + 1) ≡ w (x + 1))
@@ -65,13 +67,17 @@ module _ {area : Area} {w : ℕ → ℕ} {items wholes : List ℕ} {zone : ℕ �
       let c = op.stays x h in
       let no : (y : ℕ) → x ≤ y → y < x + 2 → Traces area w items y → (d : ℕ) → w y ≡ plain_word d → ⊥ = λ y lo hi t d p.
       plain-not-fixed (w x) d c.0 (ap w (op.apart x y (inr h) (inl t) lo (omega arith)) ∙ p) c.1 in
-      let unmoved : (y : ℕ) → x ≤ y → y < x + 2 → has y r.moves ≡ false = λ y lo hi. out y r.moves (λ k. (let m = go.moved y k in no y lo hi m.0 m.1.0 m.1.1)) in
-      let unfailed : (y : ℕ) → x ≤ y → y < x + 2 → has y r.fails ≡ false = λ y lo hi. out y r.fails (λ k. (let m = go.failed y k in no y lo hi m.0 m.1.0 m.1.1)) in
-      (go.words x (unmoved x (omega arith) (omega arith)) (unfailed x (omega arith) (omega arith)) (known-free x (inl h)).0
-        ∙ cond-false _ _ _ (out x r.handled (λ k. (slot-apart op go x x (go.slots x (inr k)) (inr h)).0 refl)) ∙ ap w (free-source op go x (below-free op go x (omega arith))),
-      go.words (x + 1) (unmoved (x + 1) (omega arith) (omega arith)) (unfailed (x + 1) (omega arith) (omega arith)) (known-free x (inl h)).1
-        ∙ cond-false _ _ _ (out (x + 1) r.handled (λ k. (slot-apart op go (x + 1) x (go.slots (x + 1) (inr k)) (inr h)).1 refl))
-        ∙ ap w (free-source op go (x + 1) (below-free op go (x + 1) (omega arith))))
+      let unmoved : (y : ℕ) → x ≤ y → y < x + 2 → has y r.moves ≡ false =
+      λ y lo hi. out y r.moves (λ k. (let m = go.moved y k in no y lo hi m.0 m.1.0 m.1.1)) in
+      let unfailed : (y : ℕ) → x ≤ y → y < x + 2 → has y r.fails ≡ false =
+      λ y lo hi. out y r.fails (λ k. (let m = go.failed y k in no y lo hi m.0 m.1.0 m.1.1)) in (
+        go.words x (unmoved x (omega arith) (omega arith)) (unfailed x (omega arith) (omega arith)) (known-free x (inl h)).0
+            ∙ cond-false _ _ _ (out x r.handled (λ k. (slot-apart op go x x (go.slots x (inr k)) (inr h)).0 refl))
+            ∙ ap w (free-source op go x (below-free op go x (omega arith))),
+        go.words (x + 1) (unmoved (x + 1) (omega arith) (omega arith)) (unfailed (x + 1) (omega arith) (omega arith)) (known-free x (inl h)).1
+            ∙ cond-false _ _ _ (out (x + 1) r.handled (λ k. (slot-apart op go (x + 1) x (go.slots (x + 1) (inr k)) (inr h)).1 refl))
+            ∙ ap w (free-source op go (x + 1) (below-free op go (x + 1) (omega arith))),
+      )
 
   -- by the first word and the length of an object whose slots are to come these are the slots
   pub head-class : (x : ℕ) → IsKnown wholes r x → class_of (word x) ≡ class_of (w (r.source x))
@@ -82,7 +88,8 @@ module _ {area : Area} {w : ℕ → ℕ} {items wholes : List ℕ} {zone : ℕ �
       q ∙ ap (λ (y : ℕ). class_of (w y)) (sym (free-source op go x (below-free op go x (op.inside x (inl f.0)).0.1)))
   head-class x (inr (inr h)) =
       let e : x ≡ r.m h.0 + 0 = let q = h.2 in omega arith in
-      let n : Slot area w items r.m r.moves r.fails (r.m h.0 + 0) → ⊥ = λ k. (let q = slot-in h.0 0 h.1 (omega arith) k in let z = q.1 in absurd (omega arith)) in
+      let n : Slot area w items r.m r.moves r.fails (r.m h.0 + 0) →
+      ⊥ = λ k. (let q = slot-in h.0 0 h.1 (omega arith) k in let z = q.1 in absurd (omega arith)) in
       ap class_of (ap word e ∙ copied-word h.0 0 h.1 (omega arith) n ∙ ap w (sym (ap r.source e ∙ go.source_in h.0 0 h.1 (omega arith))))
 
   pub head-length : (x : ℕ) → IsKnown wholes r x → word (x + 1) ≡ w (r.source (x + 1))
@@ -93,5 +100,6 @@ module _ {area : Area} {w : ℕ → ℕ} {items wholes : List ℕ} {zone : ℕ �
       length-stays op go x f.1.0 f.0 f.1.1 ∙ ap w (sym (free-source op go (x + 1) (below-free op go (x + 1) (omega arith))))
   head-length x (inr (inr h)) =
       let e : x + 1 ≡ r.m h.0 + 1 = let q = h.2 in omega arith in
-      let n : Slot area w items r.m r.moves r.fails (r.m h.0 + 1) → ⊥ = λ k. (let q = slot-in h.0 1 h.1 (omega arith) k in let z = q.1 in absurd (omega arith)) in
+      let n : Slot area w items r.m r.moves r.fails (r.m h.0 + 1) →
+      ⊥ = λ k. (let q = slot-in h.0 1 h.1 (omega arith) k in let z = q.1 in absurd (omega arith)) in
       ap word e ∙ copied-word h.0 1 h.1 (omega arith) n ∙ ap w (sym (ap r.source e ∙ go.source_in h.0 1 h.1 (omega arith)))

@@ -1,5 +1,6 @@
 -- Where all workers have ended the round is done.
-use Rattle.std.proofs.Common.{◌⊎◌, ◌≡◌, ◌≢◌, ℕ, ◌+◌, ◌*◌, ◌/◌, ◌%◌, ◌≤◌, ◌<◌, Bool, true, false, List, [], ◌∷◌, ◌++◌, sym, refl, ap, ◌∙◌, subst, inl, inr, arith}
+use Rattle.std.proofs.Common.{◌⊎◌, ◌≡◌, ◌≢◌, ℕ, ◌+◌, ◌*◌, ◌/◌, ◌%◌, ◌≤◌, ◌<◌, Bool, true, false, List, [], ◌∷◌, ◌++◌, sym, refl, ap, ◌∙◌, subst, inl, inr}
+use Rattle.std.proofs.Common.{arith}
 use Rattle.std.proofs.lemmas.Bool.{cases_eq, cases_lt, cases_Bool, cond-true}
 use Rattle.std.specs.Int.{bit_at}
 use Rattle.sg_words.specs.Address.{byte_at}
@@ -33,9 +34,11 @@ one-claim j k at at' y z e = (cc, cc)
 
 module _ {t : Start} {v : Words} {workers : ℕ → Worker} (o : IsRoundOpening t) (wo : World t v workers) where
   -- what a slot holds where it is handled, and its object stays
-  staying-word : (s x : ℕ) → InRound t wo.round s → t.words.word (wo.round.source s) ≡ byte_at x → IsYoung t.area x → has x wo.round.moves ≡ false → v.word s ≡ byte_at x
+  staying-word : (s x : ℕ) → InRound t wo.round s → t.words.word (wo.round.source s) ≡ byte_at x → IsYoung t.area x → has x wo.round.moves ≡ false →
+      v.word s ≡ byte_at x
   staying-word s x slot held young nm =
-      staying o.opening wo.going s x (record { slot = slot; held = held; young = young }) nm ∙ sent-at wo.round.m (t.words.word (wo.round.source s)) x held ∙ ap byte_at (wo.going.others x nm)
+      staying o.opening wo.going s x (record { slot = slot; held = held; young = young }) nm ∙ sent-at wo.round.m (t.words.word (wo.round.source s)) x held
+      ∙ ap byte_at (wo.going.others x nm)
 
   unmoved : (x : ℕ) → IsStaying t.words.word wo.round.fails x → has x wo.round.moves ≡ false
   unmoved x (inl h) = (wo.going.failed x h).2
@@ -70,7 +73,8 @@ module _ {t : Start} {v : Words} {workers : ℕ → Worker} (o : IsRoundOpening 
         let k = p.0 in
         let h = at-over k in
         let e = ap (λ (m : Mid). in_hand t wo.round.source m ++ ((workers k).hand ++ slots_of t.area t.words.word wo.round.source (workers k).list)) (over k)
-          ∙ ap (λ (l : List ℕ). l ++ slots_of t.area t.words.word wo.round.source (workers k).list) h.1 ∙ ap (slots_of t.area t.words.word wo.round.source) h.0 in
+        ∙ ap (λ (l : List ℕ). l ++ slots_of t.area t.words.word wo.round.source (workers k).list) h.1
+        ∙ ap (slots_of t.area t.words.word wo.round.source) h.0 in
         let z = subst (λ (l : List ℕ). In s l) e p.1 in cc
 
     -- what is claimed is spare
@@ -90,9 +94,9 @@ module _ {t : Start} {v : Words} {workers : ℕ → Worker} (o : IsRoundOpening 
     marked : AreMarked t wo.round.m wo.round.moves wo.round.fails v
     marked = record {
       held = λ s x slot card e young. (
-        let done : In s wo.round.handled = elim (wo.going.all s slot) [ inl p ↦ absurd (none-left s p) | inr h ↦ h ] in
-        let held = sym (found o.opening wo.going s x slot e young) ∙ e in
-        wo.cards.marked s x done card held young (out x wo.round.moves (λ h. (
+          let done : In s wo.round.handled = elim (wo.going.all s slot) [ inl p ↦ absurd (none-left s p) | inr h ↦ h ] in
+          let held = sym (found o.opening wo.going s x slot e young) ∙ e in
+          wo.cards.marked s x done card held young (out x wo.round.moves (λ h. (
           let f = slot-word o.opening wo.going s slot ∙ cond-true _ _ _ done ∙ sent-at wo.round.m (t.words.word (wo.round.source s)) x held in
           let z = target-old o.opening wo.going x h in
           let y = young.1 in absurd (omega arith)))));
@@ -109,10 +113,12 @@ module _ {t : Start} {v : Words} {workers : ℕ → Worker} (o : IsRoundOpening 
       opened = wo.claims.opened;
       risen = wo.claims.risen;
       homes = wo.claims.homed;
-      bits = λ b i set clear. (let g = wo.claims.taken b i set clear in (g.0, g.1, g.2, g.3, g.4, by_owner b i g.0 g.2 g.1 g.3 g.4 (wo.round.owner (place t.area b g.0 i)) refl g.5));
+      bits = λ b i set clear. (let g = wo.claims.taken b i set clear in
+          (g.0, g.1, g.2, g.3, g.4, by_owner b i g.0 g.2 g.1 g.3 g.4 (wo.round.owner (place t.area b g.0 i)) refl g.5));
     }
       where
-        by_owner : (b i z : ℕ) → b < t.area.blocks → IsSizeClass z → i < slots z → v.block b ≡ Swept z → (w : Owner) → wo.round.owner (place t.area b z i) ≡ w → wo.round.owner (place t.area b z i) ≢ Nobody →
+        by_owner : (b i z : ℕ) → b < t.area.blocks → IsSizeClass z → i < slots z → v.block b ≡ Swept z → (w : Owner) →
+            wo.round.owner (place t.area b z i) ≡ w → wo.round.owner (place t.area b z i) ≢ Nobody →
             ((a : ℕ) × In a wo.round.moves × (wo.round.m a ≡ place t.area b z i)) ⊎ ((k : ℕ) × ((workers k).spare z ≡ place t.area b z i))
         by_owner b i z l class h f Nobody e n = absurd (n e)
         by_owner b i z l class h f (Target a) e n =
@@ -132,7 +138,8 @@ module _ {t : Start} {v : Words} {workers : ℕ → Worker} (o : IsRoundOpening 
       spares = λ y e. by_owner y (wo.round.owner y) refl e;
       spared = λ k z y some lo hi. ap is_claimed ((wo.stands k).spares z some y lo hi);
       placed = λ k z some. (spare-member k z some, wo.claims.held k ((workers k).spare z) z ((workers k).spare z) (owned k z some));
-      apart = λ j k y z some e. one-claim j k ((workers j).spare y) ((workers k).spare z) y z (sym (owned j y some) ∙ ap wo.round.owner e ∙ owned k z (λ f. some (e ∙ f)));
+      apart = λ j k y z some e. one-claim j k ((workers j).spare y) ((workers k).spare z) y z
+          (sym (owned j y some) ∙ ap wo.round.owner e ∙ owned k z (λ f. some (e ∙ f)));
     }
       where
         by_owner : (y : ℕ) (w : Owner) → wo.round.owner y ≡ w → is_claimed w ≡ true →
@@ -142,19 +149,22 @@ module _ {t : Start} {v : Words} {workers : ℕ → Worker} (o : IsRoundOpening 
         by_owner y (Claimed k at z) q e = let c = claimed-spare k at z y q in let f = c.0 in
             (k, z, (λ g. c.3 (sym f ∙ g)), (let lo = c.1 in omega arith), (let hi = c.2 in omega arith))
 
-    pub done : (es : List WorkEvent) → wo.round.handled ≡ ended_by [] es → wo.round.moves ≡ moved_by [] es → wo.round.fails ≡ failed_by [] es → IsDone t es v workers
+    pub done : (es : List WorkEvent) → wo.round.handled ≡ ended_by [] es → wo.round.moves ≡ moved_by [] es → wo.round.fails ≡ failed_by [] es →
+        IsDone t es v workers
     done es handled moves fails = record {
       m = r.m;
       is_spare = λ y. is_claimed (r.owner y);
       image = subst (λ (fails : List ℕ). IsImage t.area w t.items t.zone (moved_by [] es) fails r.m v.word (λ y. is_claimed (r.owner y))) fails
-          (subst (λ (moves : List ℕ). IsImage t.area w t.items t.zone moves r.fails r.m v.word (λ y. is_claimed (r.owner y))) moves (at_end o.opening wo.going none-left));
+          (subst (λ (moves : List ℕ). IsImage t.area w t.items t.zone moves r.fails r.m v.word (λ y. is_claimed (r.owner y))) moves
+          (at_end o.opening wo.going none-left));
       once = subst AreDistinct handled wo.single.once;
       slots = λ s h. slot-on s (wo.going.slots s (inr (subst (λ (l : List ℕ). In s l) (sym handled) h)));
       every = λ s h. elim (wo.going.all s (slot-back s h)) [
         | inl p ↦ absurd (none-left s p)
         | inr h ↦ subst (λ (l : List ℕ). In s l) handled h
       ];
-      cards = subst (λ (fails : List ℕ). AreMarked t r.m (moved_by [] es) fails v) fails (subst (λ (moves : List ℕ). AreMarked t r.m moves r.fails v) moves marked);
+      cards = subst (λ (fails : List ℕ). AreMarked t r.m (moved_by [] es) fails v) fails
+          (subst (λ (moves : List ℕ). AreMarked t r.m moves r.fails v) moves marked);
       blocks = subst (λ (moves : List ℕ). AreFilled t r.m moves v workers) moves filled;
       spares = spares;
       full = λ a b h l. wo.claims.full a b (subst (λ (l : List ℕ). In a l) (sym fails) h) l;
@@ -170,10 +180,12 @@ module _ {t : Start} {v : Words} {workers : ℕ → Worker} (o : IsRoundOpening 
         w = t.words.word
 
         slot-on : (s : ℕ) → InRound t r s → Slot t.area w t.items r.m (moved_by [] es) (failed_by [] es) s
-        slot-on s h = subst (λ (fails : List ℕ). Slot t.area w t.items r.m (moved_by [] es) fails s) fails (subst (λ (moves : List ℕ). Slot t.area w t.items r.m moves r.fails s) moves h)
+        slot-on s h = subst (λ (fails : List ℕ). Slot t.area w t.items r.m (moved_by [] es) fails s) fails
+            (subst (λ (moves : List ℕ). Slot t.area w t.items r.m moves r.fails s) moves h)
 
         slot-back : (s : ℕ) → Slot t.area w t.items r.m (moved_by [] es) (failed_by [] es) s → InRound t r s
-        slot-back s h = subst (λ (moves : List ℕ). Slot t.area w t.items r.m moves r.fails s) (sym moves) (subst (λ (fails : List ℕ). Slot t.area w t.items r.m (moved_by [] es) fails s) (sym fails) h)
+        slot-back s h = subst (λ (moves : List ℕ). Slot t.area w t.items r.m moves r.fails s) (sym moves)
+            (subst (λ (fails : List ℕ). Slot t.area w t.items r.m (moved_by [] es) fails s) (sym fails) h)
 
         no-spare : (k z : ℕ) → ((at y : ℕ) → r.owner y ≡ Claimed k at z → ⊥) → (workers k).spare z ≡ 0
         no-spare k z none = elim (cases_eq ((workers k).spare z) 0) [
@@ -182,7 +194,8 @@ module _ {t : Start} {v : Words} {workers : ℕ → Worker} (o : IsRoundOpening 
         ]
 
 -- its map is the round's
-pub done-map : {t : Start} {v : Words} {workers : ℕ → Worker} (o : IsRoundOpening t) (wo : World t v workers) (over : (k : ℕ) → (workers k).mid ≡ Over) (es : List WorkEvent)
+pub done-map : {t : Start} {v : Words} {workers : ℕ → Worker} (o : IsRoundOpening t) (wo : World t v workers) (over : (k : ℕ) → (workers k).mid ≡ Over)
+    (es : List WorkEvent)
     (handled : wo.round.handled ≡ ended_by [] es) (moves : wo.round.moves ≡ moved_by [] es) (fails : wo.round.fails ≡ failed_by [] es) →
     (done o wo over es handled moves fails).m ≡ wo.round.m
 unfolding done

@@ -27,7 +27,9 @@ at_end {area} {w} {items} {wholes} {zone} op {word} {todo} {r} go none = record 
   failed = go.failed;
   forwarded = go.forwarded;
   pinned = go.pinned;
-  first = λ a h. ap word (let g : r.m a ≡ r.m a + 0 = omega arith in g) ∙ copied-word op go a 0 h (omega arith) (λ k. (let q = slot-in op go a 0 h (omega arith) k in let z = q.1 in absurd (omega arith))) ∙ ap w (let g : a + 0 ≡ a = omega arith in g);
+  first = λ a h. ap word (let g : r.m a ≡ r.m a + 0 = omega arith in g)
+      ∙ copied-word op go a 0 h (omega arith) (λ k. (let q = slot-in op go a 0 h (omega arith) k in let z = q.1 in absurd (omega arith)))
+      ∙ ap w (let g : a + 0 ≡ a = omega arith in g);
   length = λ a h. copied-word op go a 1 h (omega arith) (λ k. (let q = slot-in op go a 1 h (omega arith) k in let z = q.1 in absurd (omega arith)));
   fields = λ a i h l. elim h [
     | inl h ↦ copy-field a i h l
@@ -67,7 +69,8 @@ at_end {area} {w} {items} {wholes} {zone} op {word} {todo} {r} go none = record 
         by_owner (Claimed k at z) e = refl
         by_owner (Target a) e = absurd (let t = go.target_is a x e in n a t.1.0 t.0 t.1.1 t.1.2)
 
-    slot-in-failed : (a j : ℕ) → In a r.fails → j < size_of w a → Slot area w items r.m r.moves r.fails (a + j) → (i : ℕ) × (j ≡ 2 + i) × (is_strong area w a i ≡ true)
+    slot-in-failed : (a j : ℕ) → In a r.fails → j < size_of w a → Slot area w items r.m r.moves r.fails (a + j) →
+        (i : ℕ) × (j ≡ 2 + i) × (is_strong area w a i ≡ true)
     slot-in-failed a j h l (Given k) = absurd (let f = go.failed a h in op.item_out (a + j) a f.1.0 k f.0 f.1.1 (omega arith) (let z = l in omega arith))
     slot-in-failed a j h l (Copied b i k v e q) = absurd (let z = target b k in let y = below a (go.failed a h).0 in let u = q in omega arith)
     slot-in-failed a j h l (Failed b i k v e q) =
@@ -80,8 +83,10 @@ at_end {area} {w} {items} {wholes} {zone} op {word} {todo} {r} go none = record 
         let g : r.m a + 2 + i ≡ r.m a + (2 + i) = omega arith in
         let g' : a + (2 + i) ≡ a + 2 + i = omega arith in
         elim (cases_Bool (is_strong area w a i)) [
-          | inl e ↦ slot-now (r.m a + 2 + i) (Copied a i h l e refl) ∙ ap (λ (z : ℕ). sent r.m (w z)) (ap r.source g ∙ go.source_in a (2 + i) h (omega arith) ∙ g') ∙ sym (cond-true _ _ _ e)
-          | inr e ↦ ap word g ∙ copied-word op go a (2 + i) h (omega arith) (λ k. (let q = slot-in op go a (2 + i) h (omega arith) k in let j : i ≡ q.0 = let z = q.1 in omega arith in
+          | inl e ↦ slot-now (r.m a + 2 + i) (Copied a i h l e refl) ∙ ap (λ (z : ℕ). sent r.m (w z))
+              (ap r.source g ∙ go.source_in a (2 + i) h (omega arith) ∙ g') ∙ sym (cond-true _ _ _ e)
+          | inr e ↦ ap word g ∙ copied-word op go a (2 + i) h (omega arith)
+              (λ k. (let q = slot-in op go a (2 + i) h (omega arith) k in let j : i ≡ q.0 = let z = q.1 in omega arith in
               let t = sym e ∙ ap (λ (z : ℕ). is_strong area w a z) j ∙ q.2 in cc)) ∙ ap w g' ∙ sym (cond-false _ _ _ e)
         ]
 
@@ -93,20 +98,25 @@ at_end {area} {w} {items} {wholes} {zone} op {word} {todo} {r} go none = record 
         let free : r.owner (a + 2 + i) ≡ Nobody = young-free (a + 2 + i) (omega arith) in
         let same : r.source (a + 2 + i) ≡ a + 2 + i = free-source op go (a + 2 + i) free in
         let g : a + 2 + i ≡ a + (2 + i) = omega arith in
-        let other : (b : ℕ) → Traces area w items b → b ≡ a + 2 + i → ⊥ = λ b tb q. (let c = common op go a b (2 + i) 0 f.0 tb (omega arith) (omega arith) (let z = q in omega arith) in let z = q in absurd (omega arith)) in
+        let other : (b : ℕ) → Traces area w items b → b ≡ a + 2 + i →
+        ⊥ = λ b tb q. (let c = common op go a b (2 + i) 0 f.0 tb (omega arith) (omega arith) (let z = q in omega arith) in let z =
+        q in absurd (omega arith)) in
         elim (cases_Bool (is_strong area w a i)) [
           | inl e ↦ ap word e0 ∙ slot-now (a + 2 + i) (Failed a i h l e refl) ∙ ap (λ (z : ℕ). sent r.m (w z)) same ∙ sym (cond-true _ _ _ e)
           | inr e ↦ ap word e0 ∙ go.words (a + 2 + i)
               (out (a + 2 + i) r.moves (λ k. other (a + 2 + i) (go.moved (a + 2 + i) k).0 refl))
               (out (a + 2 + i) r.fails (λ k. other (a + 2 + i) (go.failed (a + 2 + i) k).0 refl))
               (free-clear (r.owner (a + 2 + i)) free)
-              ∙ cond-false _ _ _ (out (a + 2 + i) r.handled (λ k. (let q = slot-in-failed a (2 + i) h (omega arith) (subst (λ (z : ℕ). Slot area w items r.m r.moves r.fails z) g (go.slots (a + 2 + i) (inr k))) in
+              ∙ cond-false _ _ _ (out (a + 2 + i) r.handled (λ k.
+              (let q = slot-in-failed a (2 + i) h (omega arith)
+              (subst (λ (z : ℕ). Slot area w items r.m r.moves r.fails z) g (go.slots (a + 2 + i) (inr k))) in
               let j : i ≡ q.0 = let z = q.1 in omega arith in
               let t = sym e ∙ ap (λ (z : ℕ). is_strong area w a z) j ∙ q.2 in cc)))
               ∙ ap w same ∙ sym (cond-false _ _ _ e)
         ]
 
-    plainly : (x : ℕ) → has x items ≡ false → ((a i : ℕ) → In a r.moves → i < size_of w a → x ≢ r.m a + i) → ((a i : ℕ) → In a r.fails → i < w (a + 1) → is_strong area w a i ≡ true → x ≢ a + 2 + i) → Slot area w items r.m r.moves r.fails x → ⊥
+    plainly : (x : ℕ) → has x items ≡ false → ((a i : ℕ) → In a r.moves → i < size_of w a → x ≢ r.m a + i) →
+        ((a i : ℕ) → In a r.fails → i < w (a + 1) → is_strong area w a i ≡ true → x ≢ a + 2 + i) → Slot area w items r.m r.moves r.fails x → ⊥
     plainly x ni nr ns (Given k) = not-in x items ni k
     plainly x ni nr ns (Copied a i h l e q) = nr a (2 + i) h (omega arith) (let u = q in omega arith)
     plainly x ni nr ns (Failed a i h l e q) = ns a i h l e q
@@ -131,7 +141,8 @@ at_end {area} {w} {items} {wholes} {zone} op {word} {todo} {r} go none = record 
           | inr q ↦ by-item (a + 2 + p.0) c (op.whole a f.0 p.0 c t q p.1 p.2 p.3 y) p.3 y
           | inl q ↦ elim (settled-plain a f.0 t q (reached a t)) [
             | inl h ↦ by-slot (r.m a + 2 + p.0) c (Copied a p.0 h p.1 p.2 refl)
-                (ap w (ap r.source (let g : r.m a + 2 + p.0 ≡ r.m a + (2 + p.0) = omega arith in g) ∙ go.source_in a (2 + p.0) h (let z = p.1 in omega arith) ∙ (let g : a + (2 + p.0) ≡ a + 2 + p.0 = omega arith in g)) ∙ p.3) y
+                (ap w (ap r.source (let g : r.m a + 2 + p.0 ≡ r.m a + (2 + p.0) = omega arith in g) ∙ go.source_in a (2 + p.0) h (let z = p.1 in omega arith)
+                ∙ (let g : a + (2 + p.0) ≡ a + 2 + p.0 = omega arith in g)) ∙ p.3) y
             | inr h ↦ by-slot (a + 2 + p.0) c (Failed a p.0 h p.1 p.2 refl)
                 (ap w (free-source op go (a + 2 + p.0) (young-free (a + 2 + p.0) (let z = below a (go.failed a h).0 in let k = p.1 in omega arith))) ∙ p.3) y
           ]

@@ -28,14 +28,22 @@ module _ (area : Area) (w : ℕ → ℕ) (m : ℕ → ℕ) (x : ℕ) (block' : �
     b,
     i,
     [],
-    subst (λ (f : ℕ → BlockWord). IsLowest area f used (slot_size (size_of w x)) b i) p.2 (subst (λ (f : ℕ → ℕ). IsLowest area block' f (slot_size (size_of w x)) b i) p.3 low),
+    subst (λ (f : ℕ → BlockWord). IsLowest area f used (slot_size (size_of w x)) b i) p.2
+        (subst (λ (f : ℕ → ℕ). IsLowest area block' f (slot_size (size_of w x)) b i) p.3 low),
     at,
     ap (λ (l : List ℕ). l ++ x ∷ []) p.0,
     (refl, p.1, ap (λ (f : ℕ → BlockWord). with_block f b (slot_size (size_of w x))) p.2, ap (λ (f : ℕ → ℕ). with_bit f b i) p.3),
   )
   fits-moved b i low at block used moves fails (y ∷ found) p = elim p [
-    | inl q ↦ inl (q.0, q.1, q.2 ++ x ∷ [], q.3, q.4, ap (λ (l : List ℕ). l ++ x ∷ []) q.5,
-      fits-moved b i low at (with_block block q.0 (slot_size (size_of w y))) (with_bit used q.0 q.1) q.2 fails found q.6)
+    | inl q ↦ inl (
+      q.0,
+      q.1,
+      q.2 ++ x ∷ [],
+      q.3,
+      q.4,
+      ap (λ (l : List ℕ). l ++ x ∷ []) q.5,
+      fits-moved b i low at (with_block block q.0 (slot_size (size_of w y))) (with_bit used q.0 q.1) q.2 fails found q.6,
+    )
     | inr q ↦ inr (q.0, q.1, q.2, fits-moved b i low at block used moves q.0 found q.3)
   ]
 
@@ -44,7 +52,8 @@ module _ (area : Area) (w : ℕ → ℕ) (m : ℕ → ℕ) (x : ℕ) (block' : �
       Fits area w m block used moves (fails ++ x ∷ []) (found ++ x ∷ []) block' used'
   fits-failed full block used moves fails [] p = inr (
     [],
-    (λ b l. subst (λ (f : ℕ → BlockWord). IsPassed f used (slot_size (size_of w x)) b) p.2 (subst (λ (f : ℕ → ℕ). IsPassed block' f (slot_size (size_of w x)) b) p.3 (full b l))),
+    (λ b l. subst (λ (f : ℕ → BlockWord). IsPassed f used (slot_size (size_of w x)) b) p.2
+        (subst (λ (f : ℕ → ℕ). IsPassed block' f (slot_size (size_of w x)) b) p.3 (full b l))),
     ap (λ (l : List ℕ). l ++ x ∷ []) p.1,
     (p.0, refl, p.2, p.3),
   )
@@ -54,7 +63,8 @@ module _ (area : Area) (w : ℕ → ℕ) (m : ℕ → ℕ) (x : ℕ) (block' : �
   ]
 
   -- the found ones are those that moved or failed
-  pub fits-in : (block : ℕ → BlockWord) (used : ℕ → ℕ) (moves fails found : List ℕ) → Fits area w m block used moves fails found block' used' → In x moves ⊎ In x fails → In x found
+  pub fits-in : (block : ℕ → BlockWord) (used : ℕ → ℕ) (moves fails found : List ℕ) → Fits area w m block used moves fails found block' used' →
+      In x moves ⊎ In x fails → In x found
   fits-in block used moves fails [] p h = elim h [ inl i ↦ subst (λ (l : List ℕ). In x l) p.0 i | inr i ↦ subst (λ (l : List ℕ). In x l) p.1 i ]
   fits-in block used moves fails (y ∷ found) p h = elim p [
     | inl q ↦ elim h [
@@ -73,7 +83,8 @@ module _ (area : Area) (w : ℕ → ℕ) (m : ℕ → ℕ) (x : ℕ) (block' : �
     ]
   ]
 
-  pub fits-out : (block : ℕ → BlockWord) (used : ℕ → ℕ) (moves fails found : List ℕ) → Fits area w m block used moves fails found block' used' → In x found → In x moves ⊎ In x fails
+  pub fits-out : (block : ℕ → BlockWord) (used : ℕ → ℕ) (moves fails found : List ℕ) → Fits area w m block used moves fails found block' used' → In x found →
+      In x moves ⊎ In x fails
   fits-out block used moves fails [] p h = absurd (let z = h in cc)
   fits-out block used moves fails (y ∷ found) p h = elim p [
     | inl q ↦ elim (has-cases x y found h) [
@@ -93,12 +104,20 @@ module _ (area : Area) (w : ℕ → ℕ) (m : ℕ → ℕ) (x : ℕ) (block' : �
   ]
 
 -- another map that agrees on the moved ones
-pub fits-map : (area : Area) (w : ℕ → ℕ) (m m' : ℕ → ℕ) (block' : ℕ → BlockWord) (used' : ℕ → ℕ) (block : ℕ → BlockWord) (used : ℕ → ℕ) (moves fails found : List ℕ) →
+pub fits-map : (area : Area) (w : ℕ → ℕ) (m m' : ℕ → ℕ) (block' : ℕ → BlockWord) (used' : ℕ → ℕ) (block : ℕ → BlockWord) (used : ℕ → ℕ)
+    (moves fails found : List ℕ) →
     ((a : ℕ) → In a moves → m' a ≡ m a) → Fits area w m block used moves fails found block' used' → Fits area w m' block used moves fails found block' used'
 fits-map area w m m' block' used' block used moves fails [] same p = p
 fits-map area w m m' block' used' block used moves fails (y ∷ found) same p = elim p [
-  | inl q ↦ inl (q.0, q.1, q.2, q.3, same y (subst (λ (l : List ℕ). In y l) (sym q.5) (in-here y y q.2 refl)) ∙ q.4, q.5,
+  | inl q ↦ inl (
+    q.0,
+    q.1,
+    q.2,
+    q.3,
+    same y (subst (λ (l : List ℕ). In y l) (sym q.5) (in-here y y q.2 refl)) ∙ q.4,
+    q.5,
     fits-map area w m m' block' used' (with_block block q.0 (slot_size (size_of w y))) (with_bit used q.0 q.1) q.2 fails found
-    (λ a h. same a (subst (λ (l : List ℕ). In a l) (sym q.5) (in-there a y q.2 h))) q.6)
+        (λ a h. same a (subst (λ (l : List ℕ). In a l) (sym q.5) (in-there a y q.2 h))) q.6,
+  )
   | inr q ↦ inr (q.0, q.1, q.2, fits-map area w m m' block' used' block used moves q.0 found same q.3)
 ]

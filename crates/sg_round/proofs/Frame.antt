@@ -8,9 +8,11 @@ use Rattle.sg_words.proofs.Blocks.{slot_size-holds}
 use Rattle.std.specs.Int.{bit_at}
 use Rattle.sg_round.specs.Area.{class_of}
 use Rattle.sg_round.specs.Items.{Item, SlotOf, WholeOf, slots_by, slots_in, slots_of}
-use Rattle.sg_round.specs.Worker.{Object, Stage, Look, Size, Room, Take, Slots, Mark, Body, Puts, Swap, Pin, Send, Dirty, Mid, Idle, Took, Count, On, Offer, Seek, Grab, Over, Worker, size_for}
+use Rattle.sg_round.specs.Worker.{Object, Stage, Look, Size, Room, Take, Slots, Mark, Body, Puts, Swap, Pin, Send, Dirty, Mid, Idle, Took, Count, On, Offer}
+use Rattle.sg_round.specs.Worker.{Seek, Grab, Over, Worker, size_for}
 use Rattle.sg_round.specs.Round.{Start, Round, Owns, IsPassed, IsTaken}
-use Rattle.sg_round.proofs.Relation.{Reads, IsKnown, IsKnownItem, AreKnown, in_hand, todo_of, ArePassed, Sized, IsWritten, AreEmpty, AtStage, AtMid, Stands, Later}
+use Rattle.sg_round.proofs.Relation.{Reads, IsKnown, IsKnownItem, AreKnown, in_hand, todo_of, ArePassed, Sized, IsWritten, AreEmpty, AtStage, AtMid, Stands}
+use Rattle.sg_round.proofs.Relation.{Later}
 
 -- a block that was passed can't take an object later either, and a slot that is claimed stays so
 pub passed-later : (block block' : ℕ → BlockWord) (used used' : ℕ → ℕ) → ((b : ℕ) → block b ≢ Free → block' b ≡ block b) →
@@ -43,14 +45,17 @@ module _ {t : Start} {k : ℕ} {v : Words} {r : Round} {v' : Words} {r' : Round}
   slots_in-later (SlotOf s) h = cc
   slots_in-later (WholeOf x) h =
       let e = la.heads x h in
-      ap (λ (y : ℕ). slots_by t.area (class_of (t.words.word y)) x (t.words.word (r'.source (x + 1)))) e.0 ∙ ap (λ (y : ℕ). slots_by t.area (class_of (t.words.word (r.source x))) x (t.words.word y)) e.1
+      ap (λ (y : ℕ). slots_by t.area (class_of (t.words.word y)) x (t.words.word (r'.source (x + 1)))) e.0
+      ∙ ap (λ (y : ℕ). slots_by t.area (class_of (t.words.word (r.source x))) x (t.words.word y)) e.1
 
   pub slots_of-later : (items : List Item) → AreKnown t r items → slots_of t.area t.words.word r'.source items ≡ slots_of t.area t.words.word r.source items
   slots_of-later [] h = cc
   slots_of-later (item ∷ items) h =
-      ap (λ (l : List ℕ). l ++ slots_of t.area t.words.word r'.source items) (slots_in-later item h.0) ∙ ap (λ (l : List ℕ). slots_in t.area t.words.word r.source item ++ l) (slots_of-later items h.1)
+      ap (λ (l : List ℕ). l ++ slots_of t.area t.words.word r'.source items) (slots_in-later item h.0)
+      ∙ ap (λ (l : List ℕ). slots_in t.area t.words.word r.source item ++ l) (slots_of-later items h.1)
 
-  pub hand-later : (j : ℕ) (spare : ℕ → ℕ) (list : List Item) (hand : List ℕ) (mid : Mid) → AtMid t v r j spare list hand mid → in_hand t r'.source mid ≡ in_hand t r.source mid
+  pub hand-later : (j : ℕ) (spare : ℕ → ℕ) (list : List Item) (hand : List ℕ) (mid : Mid) → AtMid t v r j spare list hand mid →
+      in_hand t r'.source mid ≡ in_hand t r.source mid
   hand-later j spare list hand Idle q = cc
   hand-later j spare list hand (Took item) q = slots_in-later item q.0
   hand-later j spare list hand (Count x class) q = slots_in-later (WholeOf x) q.0
@@ -96,9 +101,19 @@ module _ {t : Start} {k : ℕ} {v : Words} {r : Round} {v' : Words} {r' : Round}
     stage-later spare s (Slots o b) q = (sized-later spare s o q.0, blocks-later (size_for o) b q.1, q.2, swept b (size_for o) q.3)
     stage-later spare s (Mark o b i) q = (sized-later spare s o q.0, blocks-later (size_for o) b q.1, q.2, swept b (size_for o) q.3, q.4)
     stage-later spare s (Body o at i) q = (sized-later spare s o q.0, owns-later at (size_for o) q.1, q.2, q.3, written-later o at 1 i (size_for o) q.3 q.1 q.4)
-    stage-later spare s (Puts o at i u) q = (sized-later spare s o q.0, owns-later at (size_for o) q.1, q.2, q.3,
-        written-later o at 1 i (size_for o) (let l = q.3 in let f = object-fits o q.0.short in omega arith) q.1 q.4, λ whole. q.5 (la.whole o.x whole))
-    stage-later spare s (Swap o at) q = (sized-later spare s o q.0, owns-later at (size_for o) q.1, written-later o at 0 (size_for o) (size_for o) (omega arith) q.1 q.2)
+    stage-later spare s (Puts o at i u) q = (
+      sized-later spare s o q.0,
+      owns-later at (size_for o) q.1,
+      q.2,
+      q.3,
+      written-later o at 1 i (size_for o) (let l = q.3 in let f = object-fits o q.0.short in omega arith) q.1 q.4,
+      λ whole. q.5 (la.whole o.x whole),
+    )
+    stage-later spare s (Swap o at) q = (
+      sized-later spare s o q.0,
+      owns-later at (size_for o) q.1,
+      written-later o at 0 (size_for o) (size_for o) (omega arith) q.1 q.2,
+    )
     stage-later spare s (Pin o) q = (sized-later spare s o q.0, blocks-later (size_for o) t.area.blocks q.1)
     stage-later spare s (Send to) q = (q.0, reads-later s q.0 q.1, (la.moves q.0 q.2).0, (la.moves q.0 q.2).1 ∙ q.3)
     stage-later spare s Dirty q = (q.0, reads-later s q.0 q.1, q.2, elim q.3 [ inl h ↦ inl (la.fails q.0 h) | inr h ↦ inr h ])

@@ -11,8 +11,10 @@ use Rattle.sg_words.specs.declared.steps.Step.{Step}
 use Rattle.sg_round.specs.Worker.{Room, Mark, Mid, Worker, on}
 use Rattle.sg_round.specs.Area.{Area}
 use Rattle.sg_round.specs.Rules.{Effect, Nothing, Comes}
-use Rattle.sg_round.specs.Rules.Comes.{opens, counts, sees_none, sees, looks_forwarded, looks_fixed, looks_bare, looks_plain, has_spare, has_none, finds_free, finds_swept, finds_other, takes, takes_not}
-use Rattle.sg_round.specs.Rules.Comes.{finds_clear, finds_full, marks, marks_not, reads, writes, clears, heads, forwards, loses, fails, fails_bare, fails_not, sends, dirties}
+use Rattle.sg_round.specs.Rules.Comes.{opens, counts, sees_none, sees, looks_forwarded, looks_fixed, looks_bare, looks_plain, has_spare, has_none, finds_free}
+use Rattle.sg_round.specs.Rules.Comes.{finds_swept, finds_other, takes, takes_not}
+use Rattle.sg_round.specs.Rules.Comes.{finds_clear, finds_full, marks, marks_not, reads, writes, clears, heads, forwards, loses, fails, fails_bare, fails_not}
+use Rattle.sg_round.specs.Rules.Comes.{sends, dirties}
 use Rattle.sg_round.specs.Rules.Comes.{keeps, prepares, offers, offers_not, seeks, ends, finds, grabs, grabs_not}
 use Rattle.sg_round.specs.Round.{Start, Round}
 use Rattle.sg_round.proofs.Relation.{IsStill, Kept}
@@ -76,7 +78,8 @@ module _ {t : Start} {others : ℕ → Type 0} {k : ℕ} {v : Words} {r : Round}
   kept _ _ _ _ (grabs_not a i item found) saw n = take-lost a i item n
 
 -- no step changes the other sections
-pub still : (area : Area) (team k : ℕ) (w v : Words) (a : Worker) (e : Step) (effect : Effect) (b : Worker) → Comes area team k a e effect b → IsStill w v → IsStill w (after_step v e)
+pub still : (area : Area) (team k : ℕ) (w v : Words) (a : Worker) (e : Step) (effect : Effect) (b : Worker) → Comes area team k a e effect b → IsStill w v →
+    IsStill w (after_step v e)
 still area team k w v _ _ _ _ (opens a b x u nx) q = q
 still area team k w v _ _ _ _ (counts a x class u l) q = q
 still area team k w v _ _ _ _ (sees_none a b s u nx none) q = q

@@ -1,5 +1,6 @@
 -- The induction over the list of events: the world of a round in its midst.
-use Rattle.std.proofs.Common.{◌⊎◌, ◌≡◌, ◌≢◌, ℕ, ◌+◌, ◌*◌, ◌≤◌, ◌<◌, eqb, Bool, true, false, List, [], ◌∷◌, ◌++◌, length, sym, refl, ap, ◌∙◌, subst, inl, inr, arith, zero-le}
+use Rattle.std.proofs.Common.{◌⊎◌, ◌≡◌, ◌≢◌, ℕ, ◌+◌, ◌*◌, ◌≤◌, ◌<◌, eqb, Bool, true, false, List, [], ◌∷◌, ◌++◌, length, sym, refl, ap, ◌∙◌, subst, inl, inr}
+use Rattle.std.proofs.Common.{arith, zero-le}
 use Rattle.std.proofs.lemmas.Bool.{cases_eq, eq-eqb, ne_eqb, cond-true, cond-false}
 use Rattle.std.proofs.Math.Path.{fun_ext}
 use Rattle.sg_words.specs.Lists.{In}
@@ -13,7 +14,8 @@ use Rattle.sg_round.specs.Worker.{Mid, Idle, Over, Worker}
 use Rattle.sg_round.specs.Rules.{Effect, Comes, WorkEvent, steps, part, Follows, ended, moved, failed, ended_by, moved_by, failed_by}
 use Rattle.sg_round.specs.Laws.{IsSoFar}
 use Rattle.sg_round.specs.Round.{Start, IsRoundOpening, Owner, Nobody, Claimed, Target, Round, Slot, Given, Copied, Failed, IsGoing}
-use Rattle.sg_round.proofs.Relation.{InRound, AreKnown, in_hand, todo_of, InCell, Pending, AtMid, Stands, AreSingle, IsStill, World, Later, todo_with, IsSingle, Kept}
+use Rattle.sg_round.proofs.Relation.{InRound, AreKnown, in_hand, todo_of, InCell, Pending, AtMid, Stands, AreSingle, IsStill, World, Later, todo_with}
+use Rattle.sg_round.proofs.Relation.{IsSingle, Kept}
 use Rattle.sg_round.proofs.Steps.{moved-about}
 use Rattle.sg_round.proofs.Frame.{todo-later, stands-later}
 use Rattle.sg_round.proofs.Moves.{Before}
@@ -45,7 +47,8 @@ module _ (t : Start) (source cell : ℕ → ℕ) (workers : ℕ → Worker) (k :
   ]
 
   -- the slots of worker k are single among all
-  single-split : (handled : List ℕ) → AreSingle t source cell workers handled → IsSingle (others_of t source workers k) (InCell t source cell) (todo_of t source (workers k)) handled
+  single-split : (handled : List ℕ) → AreSingle t source cell workers handled →
+      IsSingle (others_of t source workers k) (InCell t source cell) (todo_of t source (workers k)) handled
   single-split handled q = record {
     mine = q.lists k;
     theirs = λ s h o. o.1 (q.apart o.0 k s o.2 h);
@@ -56,7 +59,8 @@ module _ (t : Start) (source cell : ℕ → ℕ) (workers : ℕ → Worker) (k :
   }
 
 -- after a step of worker k, which is a then, and where what the others have to do stays the same
-module _ (t : Start) (source source' cell' : ℕ → ℕ) (workers : ℕ → Worker) (k : ℕ) (a : Worker) (same : (j : ℕ) → todo_of t source' (workers j) ≡ todo_of t source (workers j)) where
+module _ (t : Start) (source source' cell' : ℕ → ℕ) (workers : ℕ → Worker) (k : ℕ) (a : Worker)
+    (same : (j : ℕ) → todo_of t source' (workers j) ≡ todo_of t source (workers j)) where
   mine : (j s : ℕ) → j ≡ k → In s (todo_of t source' (put workers k a j)) → In s (todo_of t source' a)
   mine j s e h = subst (λ (b : Worker). In s (todo_of t source' b)) (put-at workers k a j e) h
 
@@ -72,7 +76,11 @@ module _ (t : Start) (source source' cell' : ℕ → ℕ) (workers : ℕ → Wor
 
   join-put : (s : ℕ) → todo_with (others_of t source workers k) (InCell t source' cell') (todo_of t source' a) s → Pending t source' cell' (put workers k a) s
   join-put s h = elim h [
-    | inl o ↦ inl (o.0, subst (λ (b : Worker). In s (todo_of t source' b)) (sym (put-other workers k a o.0 o.1)) (subst (λ (l : List ℕ). In s l) (sym (same o.0)) o.2))
+    | inl o ↦ inl (
+      o.0,
+      subst (λ (b : Worker). In s (todo_of t source' b)) (sym (put-other workers k a o.0 o.1))
+          (subst (λ (l : List ℕ). In s l) (sym (same o.0)) o.2),
+    )
     | inr h ↦ elim h [ inl i ↦ inl (k, subst (λ (b : Worker). In s (todo_of t source' b)) (sym (put-same workers k a)) i) | inr c ↦ inr c ]
   ]
 
@@ -120,18 +128,21 @@ module _ (t : Start) (v : Words) (workers : ℕ → Worker) (k : ℕ) (wo : Worl
   world-after e effect a comes s =
       let r = wo.round in
       let v' = after_step v e in
-      let same : (j : ℕ) → todo_of t s.round.source (workers j) ≡ todo_of t r.source (workers j) = λ j. todo-later s.later j (workers j) (wo.stands j) in
-      (record {
-        round = s.round;
-        going = moved-about s.going (split-put t r.source s.round.source v'.cell workers k a same) (join-put t r.source s.round.source v'.cell workers k a same);
-        claims = s.claims;
-        cards = s.cards;
-        cells = s.cells;
-        stands = put-all (λ j b. Stands t v' s.round j b) workers k a s.stands (λ j d. stands-later s.later j d (workers j) (wo.stands j));
-        single = single-put t r.source s.round.source v'.cell workers k a same v.cell r.handled s.round.handled wo.single
-            (s.single (single-split t r.source v.cell workers k r.handled wo.single));
-        still = still t.area t.team k t.words v (workers k) e effect a comes wo.still;
-      }, refl)
+      let same : (j : ℕ) → todo_of t s.round.source (workers j) ≡ todo_of t r.source (workers j) = λ j. todo-later s.later j (workers j) (wo.stands j) in (
+        record {
+          round = s.round;
+          going = moved-about s.going (split-put t r.source s.round.source v'.cell workers k a same)
+              (join-put t r.source s.round.source v'.cell workers k a same);
+          claims = s.claims;
+          cards = s.cards;
+          cells = s.cells;
+          stands = put-all (λ j b. Stands t v' s.round j b) workers k a s.stands (λ j d. stands-later s.later j d (workers j) (wo.stands j));
+          single = single-put t r.source s.round.source v'.cell workers k a same v.cell r.handled s.round.handled wo.single
+              (s.single (single-split t r.source v.cell workers k r.handled wo.single));
+          still = still t.area t.team k t.words v (workers k) e effect a comes wo.still;
+        },
+        refl,
+      )
 
 -- what a step leads to, and what it says of the slots handled and of the objects that moved and failed
 pub record Stepped (t : Start) (v : Words) (workers : ℕ → Worker) (r : Round) (effect : Effect) : Type 0 where
@@ -141,7 +152,8 @@ pub record Stepped (t : Start) (v : Words) (workers : ℕ → Worker) (r : Round
   pub fails : world.round.fails ≡ r.fails ++ failed effect
 
 -- one step of any worker
-pub one-step : (t : Start) (v : Words) (workers : ℕ → Worker) (k : ℕ) (e : Step) (effect : Effect) (a : Worker) → IsRoundOpening t → (wo : World t v workers) → Saw v e →
+pub one-step : (t : Start) (v : Words) (workers : ℕ → Worker) (k : ℕ) (e : Step) (effect : Effect) (a : Worker) → IsRoundOpening t →
+    (wo : World t v workers) → Saw v e →
     Comes t.area t.team k (workers k) e effect a → Stepped t (after_step v e) (put workers k a) wo.round effect
 one-step t v workers k e effect a o wo saw comes =
     let s = kept (workers k) e effect a comes saw (before-step t v workers k wo o) in
@@ -160,7 +172,8 @@ pub record Walked (t : Start) (v : Words) (workers : ℕ → Worker) (r : Round)
   pub moves : world.round.moves ≡ moved_by r.moves es
   pub fails : world.round.fails ≡ failed_by r.fails es
 
-pub one-by-one : (t : Start) (es : List WorkEvent) (v : Words) (workers last : ℕ → Worker) → IsRoundOpening t → (wo : World t v workers) → IsLegal v (steps es) →
+pub one-by-one : (t : Start) (es : List WorkEvent) (v : Words) (workers last : ℕ → Worker) → IsRoundOpening t → (wo : World t v workers) →
+    IsLegal v (steps es) →
     ((k : ℕ) → Follows t.area t.team k (workers k) (part k es) (last k)) → Walked t (replayed v (steps es)) last wo.round es
 one-by-one t [] v workers last o wo legal follows =
     subst (λ (ws : ℕ → Worker). Walked t v ws wo.round []) (sym (fun_ext follows)) (record { world = wo; handled = refl; moves = refl; fails = refl })
@@ -169,8 +182,8 @@ one-by-one t (e ∷ es) v workers last o wo legal follows =
     let mine = subst (λ q. Follows t.area t.team k (workers k) q (last k)) (part-same e es) (follows k) in
     let step = one-step t v workers k e.deed.step e.deed.effect mine.0 o wo legal.0 mine.1 in
     let rest = one-by-one t es (after_step v e.deed.step) (put workers k mine.0) last o step.world legal.1
-      (put-all (λ j a. Follows t.area t.team j a (part j es) (last j)) workers k mine.0 mine.2
-      (λ j n. subst (λ q. Follows t.area t.team j (workers j) q (last j)) (part-other j e es n) (follows j))) in
+    (put-all (λ j a. Follows t.area t.team j a (part j es) (last j)) workers k mine.0 mine.2
+    (λ j n. subst (λ q. Follows t.area t.team j (workers j) q (last j)) (part-other j e es n) (follows j))) in
     record {
       world = rest.world;
       handled = rest.handled ∙ ap (λ (l : List ℕ). ended_by l es) step.handled;
@@ -183,15 +196,19 @@ abbrev pub fresh : Round
 fresh = record { m = λ a. a; source = λ x. x; owner = λ _. Nobody; handled = []; moves = []; fails = [] }
 
 -- the items of a worker are known
-known-dealt : (t : Start) (items : List Item) → ((x : ℕ) → HasWhole x items → In x t.wholes) → ((s : ℕ) → In s (slots_of t.area t.words.word (λ x. x) items) → In s t.items) →
+known-dealt : (t : Start) (items : List Item) → ((x : ℕ) → HasWhole x items → In x t.wholes) →
+    ((s : ℕ) → In s (slots_of t.area t.words.word (λ x. x) items) → In s t.items) →
     AreKnown t fresh items
 known-dealt t [] wholes slots = tt
-known-dealt t (SlotOf s ∷ items) wholes slots =
-    (Given (slots s (in-left s (s ∷ []) (slots_of t.area t.words.word (λ x. x) items) (in-here s s [] refl))),
-    known-dealt t items wholes (λ z h. slots z (in-right z (s ∷ []) (slots_of t.area t.words.word (λ x. x) items) h)))
-known-dealt t (WholeOf x ∷ items) wholes slots =
-    (inl (wholes x (inl refl)),
-    known-dealt t items (λ y h. wholes y (inr h)) (λ z h. slots z (in-right z (slots_in t.area t.words.word (λ x. x) (WholeOf x)) (slots_of t.area t.words.word (λ x. x) items) h)))
+known-dealt t (SlotOf s ∷ items) wholes slots = (
+  Given (slots s (in-left s (s ∷ []) (slots_of t.area t.words.word (λ x. x) items) (in-here s s [] refl))),
+  known-dealt t items wholes (λ z h. slots z (in-right z (s ∷ []) (slots_of t.area t.words.word (λ x. x) items) h)),
+)
+known-dealt t (WholeOf x ∷ items) wholes slots = (
+  inl (wholes x (inl refl)),
+  known-dealt t items (λ y h. wholes y (inr h)) (λ z h.
+      slots z (in-right z (slots_in t.area t.words.word (λ x. x) (WholeOf x)) (slots_of t.area t.words.word (λ x. x) items) h)),
+)
 
 module _ (t : Start) (o : IsRoundOpening t) where
   hand-none : (k : ℕ) → in_hand t (λ x. x) (t.workers k).mid ≡ []
@@ -288,4 +305,5 @@ opening-round t o = refl
 pub so-far : (t : Start) (v : Words) (workers : ℕ → Worker) (so : IsSoFar t v workers) → Walked t v workers fresh so.events
 unfolding at-opening
 so-far t v workers so =
-    subst (λ (v : Words). Walked t v workers fresh so.events) so.is (one-by-one t so.events t.words t.workers workers so.opening (at-opening t so.opening) so.legal so.follows)
+    subst (λ (v : Words). Walked t v workers fresh so.events) so.is
+    (one-by-one t so.events t.words t.workers workers so.opening (at-opening t so.opening) so.legal so.follows)

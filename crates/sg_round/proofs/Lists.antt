@@ -1,5 +1,6 @@
 -- Members of lists without doubles, and the slots of items.
-use Rattle.std.proofs.Common.{◌≡◌, ◌≢◌, ℕ, zero, suc, ◌+◌, ◌≤◌, ◌<◌, ◌⊎◌, Bool, true, false, List, [], ◌∷◌, ◌++◌, length, sym, refl, ap, ◌∙◌, subst, inl, inr, arith}
+use Rattle.std.proofs.Common.{◌≡◌, ◌≢◌, ℕ, zero, suc, ◌+◌, ◌≤◌, ◌<◌, ◌⊎◌, Bool, true, false, List, [], ◌∷◌, ◌++◌, length, sym, refl, ap, ◌∙◌, subst, inl, inr}
+use Rattle.std.proofs.Common.{arith}
 use Rattle.std.proofs.lemmas.Bool.{cond-true, cond-false, cases_Bool}
 use Rattle.std.proofs.lemmas.List.{append-nil, append_assoc}
 use Rattle.sg_words.specs.Lists.{In}
@@ -47,15 +48,17 @@ slots-above strong at i (suc n) s h = elim (cases_Bool (strong i)) [
     | inl e ↦ (omega arith)
     | inr k ↦ (let l = slots-above strong at (suc i) n s k in omega arith)
   ]
-  | inr y ↦ (let l = slots-above strong at (suc i) n s (subst (λ (l : List ℕ). In s l) (cond-false _ ((at + 2 + i) ∷ strong_slots strong at (suc i) n) _ y) h) in omega arith)
+  | inr y ↦ (let l = slots-above strong at (suc i) n s
+      (subst (λ (l : List ℕ). In s l) (cond-false _ ((at + 2 + i) ∷ strong_slots strong at (suc i) n) _ y) h) in omega arith)
 ]
 
 strong-distinct : (strong : ℕ → Bool) (at i n : ℕ) → AreDistinct (strong_slots strong at i n)
 strong-distinct strong at i zero = tt
 strong-distinct strong at i (suc n) = elim (cases_Bool (strong i)) [
-  | inl y ↦ subst AreDistinct (sym (cond-true (strong i) ((at + 2 + i) ∷ strong_slots strong at (suc i) n) (strong_slots strong at (suc i) n) y))
-      (fresh-out (at + 2 + i) (strong_slots strong at (suc i) n) (λ h. (let l = slots-above strong at (suc i) n (at + 2 + i) h in absurd (omega arith))),
-      strong-distinct strong at (suc i) n)
+  | inl y ↦ subst AreDistinct (sym (cond-true (strong i) ((at + 2 + i) ∷ strong_slots strong at (suc i) n) (strong_slots strong at (suc i) n) y)) (
+    fresh-out (at + 2 + i) (strong_slots strong at (suc i) n) (λ h. (let l = slots-above strong at (suc i) n (at + 2 + i) h in absurd (omega arith))),
+    strong-distinct strong at (suc i) n,
+  )
   | inr y ↦ subst AreDistinct (sym (cond-false (strong i) ((at + 2 + i) ∷ strong_slots strong at (suc i) n) (strong_slots strong at (suc i) n) y))
       (strong-distinct strong at (suc i) n)
 ]
@@ -71,7 +74,8 @@ module _ (area : Area) (w : ℕ → ℕ) where
   pub slots_of-append : (source : ℕ → ℕ) (xs ys : List Item) → slots_of area w source (xs ++ ys) ≡ slots_of area w source xs ++ slots_of area w source ys
   slots_of-append source [] ys = refl
   slots_of-append source (x ∷ xs) ys =
-      ap (λ (l : List ℕ). slots_in area w source x ++ l) (slots_of-append source xs ys) ∙ sym (append_assoc (slots_in area w source x) (slots_of area w source xs) (slots_of area w source ys))
+      ap (λ (l : List ℕ). slots_in area w source x ++ l) (slots_of-append source xs ys)
+      ∙ sym (append_assoc (slots_in area w source x) (slots_of area w source xs) (slots_of area w source ys))
 
   -- what a worker has to do with one more item at the end of its list
   pub todo-last : (source : ℕ → ℕ) (front hand : List ℕ) (items : List Item) (item : Item) →
@@ -79,8 +83,10 @@ module _ (area : Area) (w : ℕ → ℕ) where
   todo-last source front hand items item =
       let new = slots_in area w source item in
       let old = slots_of area w source items in
-      let e : slots_of area w source (items ++ item ∷ []) ≡ old ++ new = slots_of-append source items (item ∷ []) ∙ ap (λ (l : List ℕ). old ++ l) (append-nil new) in
-      ap (λ (l : List ℕ). front ++ (hand ++ l)) e ∙ ap (λ (l : List ℕ). front ++ l) (sym (append_assoc hand old new)) ∙ sym (append_assoc front (hand ++ old) new)
+      let e : slots_of area w source (items ++ item ∷ []) ≡ old ++ new = slots_of-append source items (item ∷ [])
+      ∙ ap (λ (l : List ℕ). old ++ l) (append-nil new) in
+      ap (λ (l : List ℕ). front ++ (hand ++ l)) e ∙ ap (λ (l : List ℕ). front ++ l) (sym (append_assoc hand old new))
+      ∙ sym (append_assoc front (hand ++ old) new)
 
 -- the length of a list with one more
 pub length-last : {A : Type 0} (xs : List A) (x : A) → length (xs ++ x ∷ []) ≡ suc (length xs)

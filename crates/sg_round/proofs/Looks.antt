@@ -1,5 +1,6 @@
 -- The rules by which a worker takes its next slot, and looks at the slot's target.
-use Rattle.std.proofs.Common.{◌≡◌, ◌≢◌, ℕ, suc, ◌+◌, ◌*◌, ◌≤◌, ◌<◌, ◌⊎◌, false, List, [], ◌∷◌, ◌++◌, length, sym, refl, ap, ◌∙◌, subst, inl, inr, arith, le_refl}
+use Rattle.std.proofs.Common.{◌≡◌, ◌≢◌, ℕ, suc, ◌+◌, ◌*◌, ◌≤◌, ◌<◌, ◌⊎◌, false, List, [], ◌∷◌, ◌++◌, length, sym, refl, ap, ◌∙◌, subst, inl, inr, arith}
+use Rattle.std.proofs.Common.{le_refl}
 use Rattle.std.proofs.lemmas.Bool.{cases_eq}
 use Rattle.sg_words.specs.Address.{byte_at}
 use Rattle.sg_words.specs.Tags.{plain_word, forward_word}
@@ -11,7 +12,8 @@ use Rattle.sg_words.proofs.Puts.{put-at, put-same, put-other}
 use Rattle.sg_words.proofs.Members.{in-here}
 use Rattle.sg_round.specs.Area.{Area, IsYoung, IsFixed, HasCard, class_of, Traces}
 use Rattle.sg_round.specs.Items.{Item, SlotOf, WholeOf, slots_by, slots_in, slots_of}
-use Rattle.sg_round.specs.Worker.{Object, Stage, Look, Size, Room, Take, Slots, Mark, Body, Puts, Swap, Pin, Send, Dirty, Mid, Idle, Took, Count, On, Offer, Seek, Grab, Over, Worker, size_for, idle, on}
+use Rattle.sg_round.specs.Worker.{Object, Stage, Look, Size, Room, Take, Slots, Mark, Body, Puts, Swap, Pin, Send, Dirty, Mid, Idle, Took, Count, On, Offer}
+use Rattle.sg_round.specs.Worker.{Seek, Grab, Over, Worker, size_for, idle, on}
 use Rattle.sg_round.specs.Rules.{Effect, Nothing, Ends, IsNext}
 use Rattle.sg_round.specs.Rules.IsNext.{Of_hand, Of_list, Of_cell}
 use Rattle.sg_round.specs.Round.{Start, IsRoundOpening, Round, Slot, IsSettled, Owns}
@@ -50,19 +52,49 @@ module _ {t : Start} {others : ℕ → Type 0} {k : ℕ} {v : Words} {r : Round}
   -- what stands of a worker that is without its next item
   pub next-stands : (a : Worker) (item : Item) (b : Worker) → IsNext a item b → Before t others k v r a → Stands t v r k (idle b)
   next-stands _ _ _ (Of_hand a s rest) n = let st = n.stands in let a0 : Worker = record a { hand = s ∷ rest; mid = Idle } in
-      record { member = inl (member a0 tt n); spares = st.spares; claims = claims-as a0 Idle n (λ at z h. h); classes = st.classes; passed = st.passed; known = st.known; few = st.few; at = tt }
+      record {
+        member = inl (member a0 tt n);
+        spares = st.spares;
+        claims = claims-as a0 Idle n (λ at z h. h);
+        classes = st.classes;
+        passed =
+            st.passed;
+        known = st.known;
+        few = st.few;
+        at = tt;
+      }
   next-stands _ _ _ (Of_list a item rest) n = let st = n.stands in let a0 : Worker = record a { list = item ∷ rest; hand = []; mid = Idle } in
-      record { member = inl (member a0 tt n); spares = st.spares; claims = claims-as a0 Idle n (λ at z h. h); classes = st.classes; passed = st.passed; known = st.known.1;
-        few = (let f = st.few in omega arith); at = tt }
+      record {
+        member = inl (member a0 tt n);
+        spares = st.spares;
+        claims = claims-as a0 Idle n (λ at z h. h);
+        classes = st.classes;
+        passed =
+            st.passed;
+        known = st.known.1;
+        few = (let f = st.few in omega arith);
+        at = tt;
+      }
   next-stands _ _ _ (Of_cell a item) n = let st = n.stands in let a0 : Worker = record a { mid = Took item } in
-      record { member = inl (member a0 tt n); spares = st.spares; claims = claims-as a0 Idle n (λ at z h. h); classes = st.classes; passed = st.passed; known = st.known; few = st.few; at = tt }
+      record {
+        member = inl (member a0 tt n);
+        spares = st.spares;
+        claims = claims-as a0 Idle n (λ at z h. h);
+        classes = st.classes;
+        passed =
+            st.passed;
+        known = st.known;
+        few = st.few;
+        at = tt;
+      }
 
   next-hand : (a : Worker) (x : ℕ) (b : Worker) → IsNext a (WholeOf x) b → Before t others k v r a → b.hand ≡ []
   next-hand _ x _ (Of_list a _ rest) n = refl
   next-hand _ x _ (Of_cell a _) n = n.stands.at.1
 
   -- an object whose slots are to come is opened, and its length is loaded
-  pub opened : (a b : Worker) (x u : ℕ) → IsNext a (WholeOf x) b → v.word x ≡ u → Before t others k v r a → Kept t others k v r a Nothing v (record b { mid = Count x (class_of u) })
+  pub opened : (a b : Worker) (x u : ℕ) → IsNext a (WholeOf x) b → v.word x ≡ u → Before t others k v r a →
+      Kept t others k v r a Nothing v (record b { mid = Count x (class_of u) })
   opened a b x u nx saw n =
       let st = next-stands a (WholeOf x) b nx n in
       let known = next-known a (WholeOf x) b nx n in
@@ -70,7 +102,8 @@ module _ {t : Start} {others : ℕ → Type 0} {k : ℕ} {v : Words} {r : Round}
         member = inl (member a (next-awake a (WholeOf x) b nx) n);
         spares = st.spares;
         claims = λ at z y e. (let c = st.claims at z y e in (elim c.0 [ inl q ↦ inl q | inr h ↦ absurd h ], c.1, c.2, c.3));
-        classes = st.classes; passed = st.passed;
+        classes = st.classes;
+        passed = st.passed;
         known = st.known;
         few = st.few;
         at = (known, ap class_of (sym saw) ∙ head-class n.opening.opening n.going x known, next-hand a x b nx n);
@@ -82,7 +115,8 @@ module _ {t : Start} {others : ℕ → Type 0} {k : ℕ} {v : Words} {r : Round}
       let st = n.stands in
       let rest = slots_of t.area t.words.word r.source a.list in
       let e : slots_by t.area class x u ≡ slots_in t.area t.words.word r.source (WholeOf x) =
-        ap (λ (c : ℕ). slots_by t.area c x u) st.at.1 ∙ ap (λ (m : ℕ). slots_by t.area (class_of (t.words.word (r.source x))) x m) (sym saw ∙ head-length n.opening.opening n.going x st.at.0) in
+      ap (λ (c : ℕ). slots_by t.area c x u) st.at.1 ∙ ap (λ (m : ℕ). slots_by t.area (class_of (t.words.word (r.source x))) x m)
+      (sym saw ∙ head-length n.opening.opening n.going x st.at.0) in
       ap (λ (l : List ℕ). l ++ rest) e ∙ ap (λ (l : List ℕ). slots_in t.area t.words.word r.source (WholeOf x) ++ (l ++ rest)) (sym st.at.2)
 
   pub counted : (a : Worker) (x class u : ℕ) → v.word (x + 1) ≡ u → Before t others k v r (record a { mid = Count x class }) →
@@ -91,7 +125,17 @@ module _ {t : Start} {others : ℕ → Type 0} {k : ℕ} {v : Words} {r : Round}
       let a0 : Worker = record a { mid = Count x class } in
       let st = n.stands in
       goes-on a0 (record a { hand = slots_by t.area class x u; mid = Idle }) n (counted-todo a x class u saw n)
-      (record { member = inl (member a0 tt n); spares = st.spares; claims = claims-as a0 Idle n (λ at z h. h); classes = st.classes; passed = st.passed; known = st.known; few = st.few; at = tt })
+      (record {
+        member = inl (member a0 tt n);
+        spares = st.spares;
+        claims = claims-as a0 Idle n (λ at z h. h);
+        classes = st.classes;
+        passed =
+            st.passed;
+        known = st.known;
+        few = st.few;
+        at = tt;
+      })
 
   -- a slot with no young reference, and one with
   pub none-seen : (a b : Worker) (s u : ℕ) → IsNext a (SlotOf s) b → ((x : ℕ) → u ≡ byte_at x → IsYoung t.area x → ⊥) → v.word s ≡ u → Before t others k v r a →
@@ -102,10 +146,11 @@ module _ {t : Start} {others : ℕ → Type 0} {k : ℕ} {v : Words} {r : Round}
       handles a b s v.word v.card n (next-awake a (SlotOf s) b nx) mine (next-todo a (SlotOf s) b nx n)
       (quiet n.opening.opening n.going s mine no) (λ y d. refl) (quiet-settled n.opening.opening n.going s mine no)
       (cards-ended a s n (λ x card held young nm. no x (staying n.opening.opening n.going s x (record { slot = mine; held = held; young = young }) nm
-        ∙ sent-stays x held nm n) young))
+      ∙ sent-stays x held nm n) young))
       (next-stands a (SlotOf s) b nx n)
     where
-      sent-stays : (x : ℕ) → t.words.word (r.source s) ≡ byte_at x → has x r.moves ≡ false → Before t others k v r a → sent r.m (t.words.word (r.source s)) ≡ byte_at x
+      sent-stays : (x : ℕ) → t.words.word (r.source s) ≡ byte_at x → has x r.moves ≡ false → Before t others k v r a →
+          sent r.m (t.words.word (r.source s)) ≡ byte_at x
       sent-stays x held nm n = sent-at r.m (t.words.word (r.source s)) x held ∙ ap byte_at (n.going.others x nm)
 
   pub seen : (a b : Worker) (s x : ℕ) → IsNext a (SlotOf s) b → IsYoung t.area x → v.word s ≡ byte_at x → Before t others k v r a →
@@ -117,7 +162,8 @@ module _ {t : Start} {others : ℕ → Type 0} {k : ℕ} {v : Words} {r : Round}
         member = inl (member a (next-awake a (SlotOf s) b nx) n);
         spares = st.spares;
         claims = λ at z y e. (let c = st.claims at z y e in (elim c.0 [ inl q ↦ inl q | inr h ↦ absurd h ], c.1, c.2, c.3));
-        classes = st.classes; passed = st.passed;
+        classes = st.classes;
+        passed = st.passed;
         known = st.known;
         few = st.few;
         at = record { slot = mine; held = sym (found n.opening.opening n.going s x mine saw young) ∙ saw; young = young };
@@ -142,7 +188,17 @@ module _ {t : Start} {others : ℕ → Type 0} {k : ℕ} {v : Words} {r : Round}
   -- what stands where a slot ends
   pub idle-stands : (a : Worker) → Before t others k v r a → IsAwake a.mid → ((at z : ℕ) → IsFilling at z a.mid → ⊥) → Stands t v r k (idle a)
   idle-stands a n w none = let st = n.stands in
-      record { member = inl (member a w n); spares = st.spares; claims = claims-as a Idle n none; classes = st.classes; passed = st.passed; known = st.known; few = st.few; at = tt }
+      record {
+        member = inl (member a w n);
+        spares = st.spares;
+        claims = claims-as a Idle n none;
+        classes = st.classes;
+        passed = st.passed;
+        known =
+            st.known;
+        few = st.few;
+        at = tt;
+      }
 
   pub bare-seen : (a : Worker) (s x class u : ℕ) → IsFixed class u → (HasCard t.area s → ⊥) → v.word x ≡ u → Before t others k v r (on a s (Look x)) →
       Kept t others k v r (on a s (Look x)) (Ends s) v (idle a)
@@ -208,4 +264,5 @@ module _ {t : Start} {others : ℕ → Type 0} {k : ℕ} {v : Words} {r : Round}
 
   pub object-read : (a : Worker) (s : ℕ) (o : Object) → a.spare (size_for o) ≡ 0 → v.word (o.x + 1) ≡ o.n → Before t others k v r (on a s (Size o.x o.class)) →
       Sized t r a.spare s o
-  object-read a s o none saw n = let len = sized a s o saw n in record { seen = n.stands.at.0; plain = n.stands.at.1; length = len.0; short = len.1; none = none }
+  object-read a s o none saw n = let len = sized a s o saw n in
+      record { seen = n.stands.at.0; plain = n.stands.at.1; length = len.0; short = len.1; none = none }

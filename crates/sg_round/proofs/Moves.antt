@@ -14,7 +14,8 @@ use Rattle.sg_round.specs.Items.{Item, own_cell, slots_of}
 use Rattle.sg_round.specs.Worker.{Mid, Idle, Took, Count, On, Offer, Seek, Grab, Over, Worker, idle}
 use Rattle.sg_round.specs.Rules.{Effect, Nothing, Ends}
 use Rattle.sg_round.specs.Round.{Start, IsRoundOpening, Owner, Claimed, Round, Slot, IsSettled, IsGoing, Owns}
-use Rattle.sg_round.proofs.Relation.{InRound, IsStaying, IsKnown, in_hand, todo_of, InCell, AreClaims, IsMarking, AreCards, AreCells, ArePassed, AtMid, IsFilling, Stands, Later, todo_with, IsSingle, Kept}
+use Rattle.sg_round.proofs.Relation.{InRound, IsStaying, IsKnown, in_hand, todo_of, InCell, AreClaims, IsMarking, AreCards, AreCells, ArePassed, AtMid}
+use Rattle.sg_round.proofs.Relation.{IsFilling, Stands, Later, todo_with, IsSingle, Kept}
 use Rattle.sg_round.proofs.Going.{clear-not-claimed, slot-unclaimed}
 use Rattle.sg_round.proofs.Steps.{moved-about, settle, written}
 use Rattle.sg_round.proofs.Single.{single-as, ends-single}
@@ -102,12 +103,14 @@ module _ {t : Start} {others : ℕ → Type 0} {k : ℕ} {v : Words} {r : Round}
 
   -- nor does it but for where it stands
   pub walks : (a : Worker) (mid : Mid) → Before t others k v r a → IsAwake a.mid → in_hand t r.source mid ≡ in_hand t r.source a.mid →
-      ((at z : ℕ) → IsFilling at z a.mid → IsFilling at z mid) → AtMid t v r k a.spare a.list a.hand mid → Kept t others k v r a Nothing v (record a { mid = mid })
+      ((at z : ℕ) → IsFilling at z a.mid → IsFilling at z mid) → AtMid t v r k a.spare a.list a.hand mid →
+      Kept t others k v r a Nothing v (record a { mid = mid })
   walks a mid n w e f at = goes-on a (record a { mid = mid }) n (ap (λ (l : List ℕ). l ++ (a.hand ++ slots_of t.area t.words.word r.source a.list)) e) (record {
     member = inl (member a w n);
     spares = n.stands.spares;
     claims = claims-as a mid n f;
-    classes = n.stands.classes; passed = n.stands.passed;
+    classes = n.stands.classes;
+    passed = n.stands.passed;
     known = n.stands.known;
     few = n.stands.few;
     at = at;
@@ -142,12 +145,16 @@ module _ {t : Start} {others : ℕ → Type 0} {k : ℕ} {v : Words} {r : Round}
     ];
     kept = λ d some. dirty d (n.cards.kept d some);
     changed = λ d. elim (cases_eq d (card_at t.area s)) [
-      | inl e ↦ inr (put-at v.card (card_at t.area s) 1 d e,
-        record { s = s; x = x; done = in-here s s r.handled refl; has = has; is = e; held = held; young = young; stays = stays })
+      | inl e ↦ inr (
+        put-at v.card (card_at t.area s) 1 d e,
+        record { s = s; x = x; done = in-here s s r.handled refl; has = has; is = e; held = held; young = young; stays = stays },
+      )
       | inr o ↦ elim (n.cards.changed d) [
         | inl e ↦ inl (put-other v.card (card_at t.area s) 1 d o ∙ e)
-        | inr m ↦ (let q = m.1 in inr (put-other v.card (card_at t.area s) 1 d o ∙ m.0,
-          record { s = q.s; x = q.x; done = in-there q.s s r.handled q.done; has = q.has; is = q.is; held = q.held; young = q.young; stays = q.stays }))
+        | inr m ↦ (let q = m.1 in inr (
+          put-other v.card (card_at t.area s) 1 d o ∙ m.0,
+          record { s = q.s; x = q.x; done = in-there q.s s r.handled q.done; has = q.has; is = q.is; held = q.held; young = q.young; stays = q.stays },
+        ))
       ]
     ];
   }
@@ -162,7 +169,8 @@ module _ {t : Start} {others : ℕ → Type 0} {k : ℕ} {v : Words} {r : Round}
       ]
 
   -- the slot s is handled, and the worker is between two slots
-  pub handles : (a b : Worker) (s : ℕ) (word' card' : ℕ → ℕ) → Before t others k v r a → IsAwake a.mid → InRound t r s → todo_of t r.source a ≡ s ∷ todo_of t r.source (idle b) →
+  pub handles : (a b : Worker) (s : ℕ) (word' card' : ℕ → ℕ) → Before t others k v r a → IsAwake a.mid → InRound t r s →
+      todo_of t r.source a ≡ s ∷ todo_of t r.source (idle b) →
       word' s ≡ sent r.m (t.words.word (r.source s)) → ((y : ℕ) → y ≢ s → word' y ≡ v.word y) →
       ((x : ℕ) → t.words.word (r.source s) ≡ byte_at x → IsYoung t.area x → IsSettled t.words.word r.moves r.fails x) →
       AreCards t.area t.words.word t.words.card card' r.source (s ∷ r.handled) r.moves r.fails → Stands t v r k (idle b) →
@@ -178,7 +186,11 @@ module _ {t : Start} {others : ℕ → Type 0} {k : ℕ} {v : Words} {r : Round}
         slots = λ s h. h;
         sources = λ s h. refl;
         heads = λ x h. (refl, refl);
-        owns = λ j at z y d e. (e, there y (λ q. clear-not-claimed (r.owner s) j at z (slot-unclaimed n.opening.opening n.going s mine) (ap r.owner (sym q) ∙ e)));
+        owns = λ j at z y d e. (
+          e,
+          there y (λ q. clear-not-claimed (r.owner s) j at z (slot-unclaimed n.opening.opening n.going s mine)
+              (ap r.owner (sym q) ∙ e)),
+        );
         claims = λ j at z y d e. e;
         cells = λ j i d l e. e;
       } in
@@ -193,7 +205,8 @@ module _ {t : Start} {others : ℕ → Type 0} {k : ℕ} {v : Words} {r : Round}
           member = stands.member;
           spares = stands.spares;
           claims = stands.claims;
-          classes = stands.classes; passed = stands.passed;
+          classes = stands.classes;
+          passed = stands.passed;
           known = list-later later b.list stands.known;
           few = stands.few;
           at = tt;
@@ -203,7 +216,8 @@ module _ {t : Start} {others : ℕ → Type 0} {k : ℕ} {v : Words} {r : Round}
             (subst (λ (l : List ℕ). IsSingle others (InCell t r.source v.cell) l r.handled) list q);
       }
     where
-      back : (z : ℕ) → todo_with others (InCell t r.source v.cell) (todo_of t r.source (idle b)) z → todo_with others (InCell t r.source v.cell) (todo_of t r.source a) z
+      back : (z : ℕ) → todo_with others (InCell t r.source v.cell) (todo_of t r.source (idle b)) z →
+          todo_with others (InCell t r.source v.cell) (todo_of t r.source a) z
       back z h = elim h [
         | inl o ↦ inl o
         | inr h ↦ elim h [
@@ -212,7 +226,8 @@ module _ {t : Start} {others : ℕ → Type 0} {k : ℕ} {v : Words} {r : Round}
         ]
       ]
 
-      fwd : (z : ℕ) → todo_with others (InCell t r.source v.cell) (todo_of t r.source a) z → (z ≡ s) ⊎ todo_with others (InCell t r.source v.cell) (todo_of t r.source (idle b)) z
+      fwd : (z : ℕ) → todo_with others (InCell t r.source v.cell) (todo_of t r.source a) z →
+          (z ≡ s) ⊎ todo_with others (InCell t r.source v.cell) (todo_of t r.source (idle b)) z
       fwd z h = elim h [
         | inl o ↦ inr (inl o)
         | inr h ↦ elim h [
@@ -225,7 +240,8 @@ module _ {t : Start} {others : ℕ → Type 0} {k : ℕ} {v : Words} {r : Round}
       ]
 
   -- worker k writes a word that it has claimed
-  pub writing : (a : Worker) (mid : Mid) (at z y u : ℕ) → Before t others k v r a → IsAwake a.mid → in_hand t r.source mid ≡ in_hand t r.source a.mid → r.owner y ≡ Claimed k at z →
+  pub writing : (a : Worker) (mid : Mid) (at z y u : ℕ) → Before t others k v r a → IsAwake a.mid → in_hand t r.source mid ≡ in_hand t r.source a.mid →
+      r.owner y ≡ Claimed k at z →
       ((at z : ℕ) → IsFilling at z a.mid → IsFilling at z mid) → AtMid t (record v { word = put v.word y u }) r k a.spare a.list a.hand mid →
       Kept t others k v r a Nothing (record v { word = put v.word y u }) (record a { mid = mid })
   writing a mid at z y u n w hand mine f mid-at =
@@ -256,7 +272,8 @@ module _ {t : Start} {others : ℕ → Type 0} {k : ℕ} {v : Words} {r : Round}
           member = inl (member a w n);
           spares = n.stands.spares;
           claims = claims-as a mid n f;
-          classes = n.stands.classes; passed = n.stands.passed;
+          classes = n.stands.classes;
+          passed = n.stands.passed;
           known = n.stands.known;
           few = n.stands.few;
           at = mid-at;

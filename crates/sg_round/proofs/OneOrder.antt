@@ -47,7 +47,8 @@ record IsOneFit (m m' : ℕ → ℕ) (moves moves' fails fails' : List ℕ) (blo
 
 module _ (area : Area) (w : ℕ → ℕ) (m m' : ℕ → ℕ) (block1 block2 : ℕ → BlockWord) (used1 used2 : ℕ → ℕ) where
   one-fit : (block : ℕ → BlockWord) (used : ℕ → ℕ) (moves moves' fails fails' found : List ℕ) →
-      Fits area w m block used moves fails found block1 used1 → Fits area w m' block used moves' fails' found block2 used2 → IsOneFit m m' moves moves' fails fails' block1 block2 used1 used2
+      Fits area w m block used moves fails found block1 used1 → Fits area w m' block used moves' fails' found block2 used2 →
+      IsOneFit m m' moves moves' fails fails' block1 block2 used1 used2
   one-fit block used moves moves' fails fails' [] p q = record {
     moves_are = p.0 ∙ sym q.0;
     fails_are = p.1 ∙ sym q.1;
@@ -79,14 +80,15 @@ module _ (area : Area) (w : ℕ → ℕ) (m m' : ℕ → ℕ) (block1 block2 : �
       both : (b i : ℕ) (rest : List ℕ) → IsLowest area block used z b i → m x ≡ place area b z i → moves ≡ x ∷ rest →
           Fits area w m (with_block block b z) (with_bit used b i) rest fails found block1 used1 →
           (c j : ℕ) (rest' : List ℕ) → IsLowest area block used z c j → m' x ≡ place area c z j → moves' ≡ x ∷ rest' →
-          (Fits area w m (with_block block c z) (with_bit used c j) rest fails found block1 used1 → IsOneFit m m' rest rest' fails fails' block1 block2 used1 used2) →
+          (Fits area w m (with_block block c z) (with_bit used c j) rest fails found block1 used1 →
+          IsOneFit m m' rest rest' fails fails' block1 block2 used1 used2) →
           IsOneFit m m' moves moves' fails fails' block1 block2 used1 used2
       both b i rest low at e fit c j rest' low' at' e' again =
           let same : b ≡ c = one-block area block used z b i c j low low' in
           let slot : i ≡ j = one-slot area block used z c i j (subst (λ (b : ℕ). IsLowest area block used z b i) same low) low' in
           let fit0 : Fits area w m (with_block block c z) (with_bit used c j) rest fails found block1 used1 =
-            subst (λ (j : ℕ). Fits area w m (with_block block c z) (with_bit used c j) rest fails found block1 used1) slot
-            (subst (λ (c : ℕ). Fits area w m (with_block block c z) (with_bit used c i) rest fails found block1 used1) same fit) in
+          subst (λ (j : ℕ). Fits area w m (with_block block c z) (with_bit used c j) rest fails found block1 used1) slot
+          (subst (λ (c : ℕ). Fits area w m (with_block block c z) (with_bit used c i) rest fails found block1 used1) same fit) in
           let h = again fit0 in
           record {
             moves_are = e ∙ ap (λ (l : List ℕ). x ∷ l) h.moves_are ∙ sym e';
@@ -103,5 +105,5 @@ pub one_order_of_copies : OneOrderLaw
 one_order_of_copies area w items m m' block used moves moves' fails fails' block1 block2 used1 used2 x y =
     let same = one_search (λ _. Unit {0}) (leads area w items) x.found y.found x.searched y.searched in
     let h = one-fit area w m m' block1 block2 used1 used2 block used moves moves' fails fails' y.found
-      (subst (λ (l : List ℕ). Fits area w m block used moves fails l block1 used1) same x.parts) y.parts in
+    (subst (λ (l : List ℕ). Fits area w m block used moves fails l block1 used1) same x.parts) y.parts in
     (same, h.moves_are, h.fails_are, h.places, h.blocks, h.bits)

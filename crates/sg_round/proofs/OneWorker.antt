@@ -13,9 +13,12 @@ use Rattle.sg_words.proofs.Puts.{put-same, put-all}
 use Rattle.sg_round.specs.Area.{Area}
 use Rattle.sg_round.specs.Items.{Item, slots_of}
 use Rattle.sg_round.specs.Worker.{Mid, Idle, Took, Count, On, Offer, Seek, Grab, Over, Worker}
-use Rattle.sg_round.specs.Rules.{Effect, IsNext, IsLooking, MayOffer, Comes, WorkEvent, steps, part, Follows, ended, moved, failed, ended_by, moved_by, failed_by}
-use Rattle.sg_round.specs.Rules.Comes.{opens, counts, sees_none, sees, looks_forwarded, looks_fixed, looks_bare, looks_plain, has_spare, has_none, finds_free, finds_swept, finds_other, takes, takes_not}
-use Rattle.sg_round.specs.Rules.Comes.{finds_clear, finds_full, marks, marks_not, reads, writes, clears, heads, forwards, loses, fails, fails_bare, fails_not, sends, dirties}
+use Rattle.sg_round.specs.Rules.{Effect, IsNext, IsLooking, MayOffer, Comes, WorkEvent, steps, part, Follows, ended, moved, failed, ended_by, moved_by}
+use Rattle.sg_round.specs.Rules.{failed_by}
+use Rattle.sg_round.specs.Rules.Comes.{opens, counts, sees_none, sees, looks_forwarded, looks_fixed, looks_bare, looks_plain, has_spare, has_none, finds_free}
+use Rattle.sg_round.specs.Rules.Comes.{finds_swept, finds_other, takes, takes_not}
+use Rattle.sg_round.specs.Rules.Comes.{finds_clear, finds_full, marks, marks_not, reads, writes, clears, heads, forwards, loses, fails, fails_bare, fails_not}
+use Rattle.sg_round.specs.Rules.Comes.{sends, dirties}
 use Rattle.sg_round.specs.Rules.Comes.{keeps, prepares, offers, offers_not, seeks, ends, finds, grabs, grabs_not}
 use Rattle.sg_round.specs.Order.{targets, strong_of, leads, Fits, IsInOrder}
 use Rattle.sg_round.specs.Laws.{IsSoFar, IsDone, IsDoneAlone, OneWorkerLaw}
@@ -86,21 +89,25 @@ record QueueWalked (t : Start) (items : List ℕ) (v : Words) (workers : ℕ →
 
 module _ (t : Start) (o : IsRoundOpening t) (one : t.team ≡ 1) (items : List ℕ) where
   -- only worker 0 makes a step
-  by-zero : (v : Words) (workers : ℕ → Worker) (wo : World t v workers) (k : ℕ) (e : Step) (effect : Effect) (a : Worker) → Comes t.area t.team k (workers k) e effect a → k ≡ 0
+  by-zero : (v : Words) (workers : ℕ → Worker) (wo : World t v workers) (k : ℕ) (e : Step) (effect : Effect) (a : Worker) →
+      Comes t.area t.team k (workers k) e effect a → k ≡ 0
   by-zero v workers wo k e effect a comes = elim (wo.stands k).member [
     | inl l ↦ omega arith
     | inr h ↦ absurd (subst IsAwake h.0 (comes-awake t.area t.team k (workers k) e effect a comes))
   ]
 
-  queue-step : (v : Words) (workers : ℕ → Worker) (k : ℕ) (e : Step) (effect : Effect) (a : Worker) → k ≡ 0 → (wo : World t v workers) → IsQueued t items v wo.round (workers 0) → Saw v e →
+  queue-step : (v : Words) (workers : ℕ → Worker) (k : ℕ) (e : Step) (effect : Effect) (a : Worker) → k ≡ 0 → (wo : World t v workers) →
+      IsQueued t items v wo.round (workers 0) → Saw v e →
       Comes t.area t.team k (workers k) e effect a →
-      (x : World t (after_step v e) (put workers k a)) × IsQueued t items (after_step v e) x.round (put workers k a 0) × (x.round.handled ≡ ended effect ++ wo.round.handled) ×
+      (x : World t (after_step v e) (put workers k a)) × IsQueued t items (after_step v e) x.round (put workers k a 0) ×
+      (x.round.handled ≡ ended effect ++ wo.round.handled) ×
       (x.round.moves ≡ wo.round.moves ++ moved effect) × (x.round.fails ≡ wo.round.fails ++ failed effect)
   queue-step v workers k e effect a is wo q saw comes = subst P (sym is) (λ comes. at-zero comes) comes
     where
       P : ℕ → Type 0
       P k = Comes t.area t.team k (workers k) e effect a →
-          (x : World t (after_step v e) (put workers k a)) × IsQueued t items (after_step v e) x.round (put workers k a 0) × (x.round.handled ≡ ended effect ++ wo.round.handled) ×
+          (x : World t (after_step v e) (put workers k a)) × IsQueued t items (after_step v e) x.round (put workers k a 0) ×
+          (x.round.handled ≡ ended effect ++ wo.round.handled) ×
           (x.round.moves ≡ wo.round.moves ++ moved effect) × (x.round.fails ≡ wo.round.fails ++ failed effect)
 
       at-zero : P 0
@@ -108,27 +115,29 @@ module _ (t : Start) (o : IsRoundOpening t) (one : t.team ≡ 1) (items : List �
           let n = before-step t v workers 0 wo o in
           let s = kept (workers 0) e effect a comes saw n in
           let x = world-after t v workers 0 wo e effect a comes s in
-          let later = queue-on t one items (Others t v workers 0 wo) v wo.round (workers 0) e effect a comes saw n s q in
-          (
+          let later = queue-on t one items (Others t v workers 0 wo) v wo.round (workers 0) e effect a comes saw n s q in (
             x.0,
-            subst (λ (r : Round). IsQueued t items (after_step v e) r (put workers 0 a 0)) (sym x.1) (subst (IsQueued t items (after_step v e) s.round) (sym (put-same workers 0 a)) later),
+            subst (λ (r : Round). IsQueued t items (after_step v e) r (put workers 0 a 0)) (sym x.1)
+                (subst (IsQueued t items (after_step v e) s.round) (sym (put-same workers 0 a)) later),
             ap (λ (r : Round). r.handled) x.1 ∙ s.told.0,
             ap (λ (r : Round). r.moves) x.1 ∙ s.told.1,
             ap (λ (r : Round). r.fails) x.1 ∙ s.told.2,
           )
 
-  queue-walk : (es : List WorkEvent) (v : Words) (workers last : ℕ → Worker) → (wo : World t v workers) → IsQueued t items v wo.round (workers 0) → IsLegal v (steps es) →
+  queue-walk : (es : List WorkEvent) (v : Words) (workers last : ℕ → Worker) → (wo : World t v workers) → IsQueued t items v wo.round (workers 0) →
+      IsLegal v (steps es) →
       ((k : ℕ) → Follows t.area t.team k (workers k) (part k es) (last k)) → QueueWalked t items (replayed v (steps es)) last wo.round es
   queue-walk [] v workers last wo q legal follows =
-      subst (λ (ws : ℕ → Worker). QueueWalked t items v ws wo.round []) (sym (fun_ext follows)) (record { world = wo; queue = q; handled = refl; moves = refl; fails = refl })
+      subst (λ (ws : ℕ → Worker). QueueWalked t items v ws wo.round []) (sym (fun_ext follows))
+      (record { world = wo; queue = q; handled = refl; moves = refl; fails = refl })
   queue-walk (e ∷ es) v workers last wo q legal follows =
       let k = e.by in
       let mine = subst (λ q. Follows t.area t.team k (workers k) q (last k)) (part-same e es) (follows k) in
       let is = by-zero v workers wo k e.deed.step e.deed.effect mine.0 mine.1 in
       let step = queue-step v workers k e.deed.step e.deed.effect mine.0 is wo q legal.0 mine.1 in
       let rest = queue-walk es (after_step v e.deed.step) (put workers k mine.0) last step.0 step.1 legal.1
-        (put-all (λ j a. Follows t.area t.team j a (part j es) (last j)) workers k mine.0 mine.2
-        (λ j n. subst (λ q. Follows t.area t.team j (workers j) q (last j)) (part-other j e es n) (follows j))) in
+      (put-all (λ j a. Follows t.area t.team j a (part j es) (last j)) workers k mine.0 mine.2
+      (λ j n. subst (λ q. Follows t.area t.team j (workers j) q (last j)) (part-other j e es n) (follows j))) in
       record {
         world = rest.world;
         queue = rest.queue;
@@ -167,9 +176,10 @@ last-queue t items v r a q st over =
     let w = t.words.word in
     let at = subst (AtMid t v r 0 a.spare a.list a.hand) over st.at in
     let todo : todo_of t r.source a ≡ [] = ap (λ (m : Mid). in_hand t r.source m ++ (a.hand ++ slots_of t.area w r.source a.list)) over
-      ∙ ap (λ (l : List ℕ). l ++ slots_of t.area w r.source a.list) at.1 ∙ ap (slots_of t.area w r.source) at.0 in
+    ∙ ap (λ (l : List ℕ). l ++ slots_of t.area w r.source a.list) at.1 ∙ ap (slots_of t.area w r.source) at.0 in
     let line : q.gone ≡ items ++ strong_of t.area w q.found = sym (append-nil q.gone) ∙ ap (λ (l : List ℕ). q.gone ++ map r.source l) (sym todo) ∙ q.line in
-    let order : q.found ≡ firsts [] (targets t.area w q.gone) = q.order ∙ ap (λ (l : List ℕ). firsts [] (targets t.area w l)) (ap (λ (l : List ℕ). q.gone ++ l) (ap (seen r) over) ∙ append-nil q.gone) in
+    let order : q.found ≡ firsts [] (targets t.area w q.gone) = q.order
+    ∙ ap (λ (l : List ℕ). firsts [] (targets t.area w l)) (ap (λ (l : List ℕ). q.gone ++ l) (ap (seen r) over) ∙ append-nil q.gone) in
     let now : (v.block ≡ q.block) × (v.used ≡ q.used) = subst (AtFit t.area v.block v.used q.block q.used) over q.now in
     record {
       found = q.found;
@@ -192,9 +202,9 @@ one_worker t v workers so one over =
     let items = slots_of t.area w (λ x. x) (t.workers 0).list in
     let start = at-opening t o in
     let x0 = queue-walk t o one items es t.words t.workers workers start
-      (subst (λ (r : Round). IsQueued t items t.words r (t.workers 0)) (sym (opening-round t o)) (first-queue t o)) so.legal so.follows in
+    (subst (λ (r : Round). IsQueued t items t.words r (t.workers 0)) (sym (opening-round t o)) (first-queue t o)) so.legal so.follows in
     let x : QueueWalked t items v workers fresh es = subst (λ (v : Words). QueueWalked t items v workers fresh es) so.is
-      (subst (λ (r : Round). QueueWalked t items (replayed t.words (steps es)) workers r es) (opening-round t o) x0) in
+    (subst (λ (r : Round). QueueWalked t items (replayed t.words (steps es)) workers r es) (opening-round t o) x0) in
     let wo = x.world in
     let r = wo.round in
     let all : (k : ℕ) → (workers k).mid ≡ Over = λ k. elim (wo.stands k).member [
@@ -209,7 +219,8 @@ one_worker t v workers so one over =
         | inl l ↦ subst (λ (j : ℕ). (workers j).spare z ≡ 0) (let g : 0 ≡ k = omega arith in g) (x.queue.none z)
         | inr h ↦ h.1 z
       ];
-      order = subst (λ (m : ℕ → ℕ). IsInOrder t.area w items m t.words.block t.words.used (moved_by [] es) (failed_by [] es) v.block v.used) (sym (done-map o wo all es x.handled x.moves x.fails))
+      order = subst (λ (m : ℕ → ℕ). IsInOrder t.area w items m t.words.block t.words.used (moved_by [] es) (failed_by [] es) v.block v.used)
+          (sym (done-map o wo all es x.handled x.moves x.fails))
           (subst (λ (l : List ℕ). IsInOrder t.area w items r.m t.words.block t.words.used l (failed_by [] es) v.block v.used) x.moves
           (subst (λ (l : List ℕ). IsInOrder t.area w items r.m t.words.block t.words.used r.moves l v.block v.used) x.fails order));
     }

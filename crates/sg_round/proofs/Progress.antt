@@ -1,5 +1,6 @@
 -- A worker is never stuck: whatever a call for a next step of it sees, some rule applies, and one that hasn't ended can take a step.
-use Rattle.std.proofs.Common.{◌≡◌, ◌≢◌, ℕ, zero, suc, ◌+◌, ◌*◌, ◌/◌, ◌^◌, ◌<◌, ◌≤◌, ◌⊎◌, false, List, [], ◌∷◌, ◌++◌, ap, ap₂, sym, ◌∙◌, subst, inl, inr, refl, arith}
+use Rattle.std.proofs.Common.{◌≡◌, ◌≢◌, ℕ, zero, suc, ◌+◌, ◌*◌, ◌/◌, ◌^◌, ◌<◌, ◌≤◌, ◌⊎◌, false, List, [], ◌∷◌, ◌++◌, ap, ap₂, sym, ◌∙◌, subst, inl, inr, refl}
+use Rattle.std.proofs.Common.{arith}
 use Rattle.std.proofs.lemmas.Bool.{cases_eq, cases_lt, cases_Bool}
 use Rattle.std.specs.Int.{bit_at}
 use Rattle.sg_words.specs.Address.{byte_at, word_at}
@@ -11,7 +12,8 @@ use Rattle.sg_words.specs.declared.steps.Place.TheVariants.{Word, Card, Cell}
 use Rattle.sg_words.specs.declared.steps.BlockWord.{BlockWord}
 use Rattle.sg_words.specs.declared.steps.BlockWord.TheVariants.{Free, Swept, Need, Sweeping}
 use Rattle.sg_words.specs.declared.steps.BlockStep.{BlockStep}
-use Rattle.sg_words.specs.declared.steps.BlockStep.TheVariants.{LoadBlock, WonBlock, LostBlock, StoreBlock, LoadUsed, OrUsed, StoreUsed, LoadMarks, OrMarks, StoreMarks, Zero}
+use Rattle.sg_words.specs.declared.steps.BlockStep.TheVariants.{LoadBlock, WonBlock, LostBlock, StoreBlock, LoadUsed, OrUsed, StoreUsed, LoadMarks, OrMarks}
+use Rattle.sg_words.specs.declared.steps.BlockStep.TheVariants.{StoreMarks, Zero}
 use Rattle.sg_words.specs.declared.steps.Step.{Step}
 use Rattle.sg_words.specs.declared.steps.Step.TheVariants.{Load, Store, Won, Lost, OnBlock}
 use Rattle.sg_words.specs.declared.steps.BlockCall.{BlockCall}
@@ -22,11 +24,14 @@ use Rattle.sg_words.specs.Words.{Words, read, SawBlock, Saw}
 use Rattle.sg_words.proofs.Blocks.{bit_cases}
 use Rattle.sg_round.specs.Area.{Area, IsYoung, IsFixed, HasCard, Traces, card_at}
 use Rattle.sg_round.specs.Items.{Item, SlotOf, WholeOf, cell_word, own_cell, looked_cell}
-use Rattle.sg_round.specs.Worker.{Object, Stage, Look, Size, Room, Take, Slots, Mark, Body, Puts, Swap, Pin, Send, Dirty, Mid, Idle, Took, Count, On, Offer, Seek, Grab, Over, Worker, size_for, on}
+use Rattle.sg_round.specs.Worker.{Object, Stage, Look, Size, Room, Take, Slots, Mark, Body, Puts, Swap, Pin, Send, Dirty, Mid, Idle, Took, Count, On, Offer}
+use Rattle.sg_round.specs.Worker.{Seek, Grab, Over, Worker, size_for, on}
 use Rattle.sg_round.specs.Rules.{Effect, IsNext, MayOffer, IsLooking, Comes}
 use Rattle.sg_round.specs.Rules.IsNext.{Of_hand, Of_list, Of_cell}
-use Rattle.sg_round.specs.Rules.Comes.{opens, counts, sees_none, sees, looks_forwarded, looks_fixed, looks_bare, looks_plain, has_spare, has_none, finds_free, finds_swept, finds_other, takes, takes_not}
-use Rattle.sg_round.specs.Rules.Comes.{finds_clear, finds_full, marks, marks_not, reads, writes, clears, heads, forwards, loses, fails, fails_bare, fails_not, sends, dirties}
+use Rattle.sg_round.specs.Rules.Comes.{opens, counts, sees_none, sees, looks_forwarded, looks_fixed, looks_bare, looks_plain, has_spare, has_none, finds_free}
+use Rattle.sg_round.specs.Rules.Comes.{finds_swept, finds_other, takes, takes_not}
+use Rattle.sg_round.specs.Rules.Comes.{finds_clear, finds_full, marks, marks_not, reads, writes, clears, heads, forwards, loses, fails, fails_bare, fails_not}
+use Rattle.sg_round.specs.Rules.Comes.{sends, dirties}
 use Rattle.sg_round.specs.Rules.Comes.{keeps, prepares, offers, offers_not, seeks, ends, finds, grabs, grabs_not}
 use Rattle.sg_round.specs.Acting.{Acts}
 use Rattle.sg_round.specs.Round.{Start, IsRoundOpening, Round}
@@ -277,26 +282,34 @@ module _ {t : Start} {v : Words} {workers : ℕ → Worker} (o : IsRoundOpening 
   on-block a call (Won q from to) e saw g = cc
   on-block a call (Lost q from to found) e saw g = cc
 
-  on-load-block : (a : Worker) (b : ℕ) (other : Step) → call_of other ≡ OnBlocks (LoadsBlock b) → Saw v other → Goes a (OnBlock (LoadBlock b (v.block b))) → Goes a other
-  on-load-block a b other e saw g = on-block a (LoadsBlock b) other e saw (λ step f s. subst (λ (s : BlockStep). Goes a (OnBlock s)) (sym (block-loads v b step f s)) g)
+  on-load-block : (a : Worker) (b : ℕ) (other : Step) → call_of other ≡ OnBlocks (LoadsBlock b) → Saw v other → Goes a (OnBlock (LoadBlock b (v.block b))) →
+      Goes a other
+  on-load-block a b other e saw g = on-block a (LoadsBlock b) other e saw
+      (λ step f s. subst (λ (s : BlockStep). Goes a (OnBlock s)) (sym (block-loads v b step f s)) g)
 
-  on-load-used : (a : Worker) (b : ℕ) (other : Step) → call_of other ≡ OnBlocks (LoadsUsed b) → Saw v other → Goes a (OnBlock (LoadUsed b (v.used b))) → Goes a other
-  on-load-used a b other e saw g = on-block a (LoadsUsed b) other e saw (λ step f s. subst (λ (s : BlockStep). Goes a (OnBlock s)) (sym (used-loads v b step f s)) g)
+  on-load-used : (a : Worker) (b : ℕ) (other : Step) → call_of other ≡ OnBlocks (LoadsUsed b) → Saw v other → Goes a (OnBlock (LoadUsed b (v.used b))) →
+      Goes a other
+  on-load-used a b other e saw g = on-block a (LoadsUsed b) other e saw
+      (λ step f s. subst (λ (s : BlockStep). Goes a (OnBlock s)) (sym (used-loads v b step f s)) g)
 
   on-or : (a : Worker) (b i : ℕ) (other : Step) → call_of other ≡ OnBlocks (OrsUsed b i) → Saw v other → Goes a (OnBlock (OrUsed b i (v.used b))) → Goes a other
   on-or a b i other e saw g = on-block a (OrsUsed b i) other e saw (λ step f s. subst (λ (s : BlockStep). Goes a (OnBlock s)) (sym (used-ors v b i step f s)) g)
 
-  take-goes : (a : Worker) (s : ℕ) (ob : Object) (b : ℕ) (other : Step) → call_of other ≡ OnBlocks (SwapsBlock b Free (Swept (size_for ob))) → Saw v other → Goes (on a s (Take ob b)) other
-  take-goes a s ob b other e saw = on-block (on a s (Take ob b)) (SwapsBlock b Free (Swept (size_for ob))) other e saw (λ step f u. elim (block-swaps b Free (Swept (size_for ob)) step f) [
-    | block_wins g ↦ subst (λ (s' : BlockStep). Goes (on a s (Take ob b)) (OnBlock s')) (sym g) (goes _ _ _ _ (takes a s ob b))
-    | block_misses found g ↦ subst (λ (s' : BlockStep). Goes (on a s (Take ob b)) (OnBlock s')) (sym g) (goes _ _ _ _ (takes_not a s ob b found))
-  ])
+  take-goes : (a : Worker) (s : ℕ) (ob : Object) (b : ℕ) (other : Step) → call_of other ≡ OnBlocks (SwapsBlock b Free (Swept (size_for ob))) → Saw v other →
+      Goes (on a s (Take ob b)) other
+  take-goes a s ob b other e saw = on-block (on a s (Take ob b)) (SwapsBlock b Free (Swept (size_for ob))) other e saw
+      (λ step f u. elim (block-swaps b Free (Swept (size_for ob)) step f) [
+        | block_wins g ↦ subst (λ (s' : BlockStep). Goes (on a s (Take ob b)) (OnBlock s')) (sym g) (goes _ _ _ _ (takes a s ob b))
+        | block_misses found g ↦ subst (λ (s' : BlockStep). Goes (on a s (Take ob b)) (OnBlock s')) (sym g) (goes _ _ _ _ (takes_not a s ob b found))
+      ])
 
   -- whatever a call for a next step sees, a rule goes on
-  pub goes-on : (a : Worker) (step : Step) (effect : Effect) (b : Worker) → Comes t.area t.team k a step effect b → AtMid t v wo.round k a.spare a.list a.hand a.mid →
+  pub goes-on : (a : Worker) (step : Step) (effect : Effect) (b : Worker) → Comes t.area t.team k a step effect b →
+      AtMid t v wo.round k a.spare a.list a.hand a.mid →
       (other : Step) → call_of other ≡ call_of step → Saw v other → Goes a other
   goes-on _ _ _ _ (opens a b x u nx) q other e saw = on-load _ (Word x) other e saw (opening-goes a b x nx)
-  goes-on _ _ _ _ (counts a x class u l) q other e saw = on-load _ (Word (x + 1)) other e saw (goes _ _ _ _ (counts a x class (v.word (x + 1)) (known-length x q.0)))
+  goes-on _ _ _ _ (counts a x class u l) q other e saw = on-load _ (Word (x + 1)) other e saw
+      (goes _ _ _ _ (counts a x class (v.word (x + 1)) (known-length x q.0)))
   goes-on _ _ _ _ (sees_none a b s u nx none) q other e saw = on-load _ (Word s) other e saw (slot-goes a b s nx)
   goes-on _ _ _ _ (sees a b s x nx young) q other e saw = on-load _ (Word s) other e saw (slot-goes a b s nx)
   goes-on _ _ _ _ (looks_forwarded a s x to) q other e saw = on-load _ (Word x) other e saw (look-goes a s x (read-traced o.opening wo.going s x q))
@@ -319,9 +332,11 @@ module _ {t : Start} {v : Words} {workers : ℕ → Worker} (o : IsRoundOpening 
   goes-on _ _ _ _ (clears a s ob at j past less) q other e saw = on-store _ (Word (at + j)) 0 other e (goes _ _ _ _ (clears a s ob at j past less))
   goes-on _ _ _ _ (heads a s ob at j past) q other e saw = on-store _ (Word at) (plain_word ob.class) other e (goes _ _ _ _ (heads a s ob at j past))
   goes-on _ _ _ _ (forwards a s ob at) q other e saw =
-      on-swap _ (Word ob.x) (plain_word ob.class) (forward_word (byte_at at)) other e saw (goes _ _ _ _ (forwards a s ob at)) (goes _ _ _ _ (loses a s ob at (v.word ob.x)))
+      on-swap _ (Word ob.x) (plain_word ob.class) (forward_word (byte_at at)) other e saw (goes _ _ _ _ (forwards a s ob at))
+      (goes _ _ _ _ (loses a s ob at (v.word ob.x)))
   goes-on _ _ _ _ (loses a s ob at found) q other e saw =
-      on-swap _ (Word ob.x) (plain_word ob.class) (forward_word (byte_at at)) other e saw (goes _ _ _ _ (forwards a s ob at)) (goes _ _ _ _ (loses a s ob at (v.word ob.x)))
+      on-swap _ (Word ob.x) (plain_word ob.class) (forward_word (byte_at at)) other e saw (goes _ _ _ _ (forwards a s ob at))
+      (goes _ _ _ _ (loses a s ob at (v.word ob.x)))
   goes-on _ _ _ _ (fails a s ob card) q other e saw =
       on-swap _ (Word ob.x) (plain_word ob.class) (pinned_word ob.class) other e saw (pin-goes a s ob) (goes _ _ _ _ (fails_not a s ob (v.word ob.x)))
   goes-on _ _ _ _ (fails_bare a s ob bare) q other e saw =
@@ -330,19 +345,25 @@ module _ {t : Start} {v : Words} {workers : ℕ → Worker} (o : IsRoundOpening 
       on-swap _ (Word ob.x) (plain_word ob.class) (pinned_word ob.class) other e saw (pin-goes a s ob) (goes _ _ _ _ (fails_not a s ob (v.word ob.x)))
   goes-on _ _ _ _ (sends a s to) q other e saw = on-store _ (Word s) (byte_at to) other e (goes _ _ _ _ (sends a s to))
   goes-on _ _ _ _ (dirties a s) q other e saw = on-store _ (Card (card_at t.area s)) 1 other e (goes _ _ _ _ (dirties a s))
-  goes-on _ _ _ _ (keeps a items item i u several l may f some) q other e saw = on-load _ (Cell (own_cell k i)) other e saw (cell-goes a items item i several l may f)
-  goes-on _ _ _ _ (prepares a items item i several l may f) q other e saw = on-load _ (Cell (own_cell k i)) other e saw (cell-goes a items item i several l may f)
+  goes-on _ _ _ _ (keeps a items item i u several l may f some) q other e saw =
+      on-load _ (Cell (own_cell k i)) other e saw (cell-goes a items item i several l may f)
+  goes-on _ _ _ _ (prepares a items item i several l may f) q other e saw =
+      on-load _ (Cell (own_cell k i)) other e saw (cell-goes a items item i several l may f)
   goes-on _ _ _ _ (offers a items item i next) q other e saw =
-      on-swap _ (Cell (own_cell k i)) 0 (cell_word item) other e saw (goes _ _ _ _ (offers a items item i next)) (goes _ _ _ _ (offers_not a items item i next (v.cell (own_cell k i))))
+      on-swap _ (Cell (own_cell k i)) 0 (cell_word item) other e saw (goes _ _ _ _ (offers a items item i next))
+      (goes _ _ _ _ (offers_not a items item i next (v.cell (own_cell k i))))
   goes-on _ _ _ _ (offers_not a items item i next found) q other e saw =
-      on-swap _ (Cell (own_cell k i)) 0 (cell_word item) other e saw (goes _ _ _ _ (offers a items item i next)) (goes _ _ _ _ (offers_not a items item i next (v.cell (own_cell k i))))
+      on-swap _ (Cell (own_cell k i)) 0 (cell_word item) other e saw (goes _ _ _ _ (offers a items item i next))
+      (goes _ _ _ _ (offers_not a items item i next (v.cell (own_cell k i))))
   goes-on _ _ _ _ (seeks a i is more) q other e saw = on-load _ (Cell (looked_cell t.team k i)) other e saw (looking-goes a i is)
   goes-on _ _ _ _ (ends a i is last) q other e saw = on-load _ (Cell (looked_cell t.team k i)) other e saw (looking-goes a i is)
   goes-on _ _ _ _ (finds a i item is) q other e saw = on-load _ (Cell (looked_cell t.team k i)) other e saw (looking-goes a i is)
   goes-on _ _ _ _ (grabs a i item) q other e saw =
-      on-swap _ (Cell (looked_cell t.team k i)) (cell_word item) 0 other e saw (goes _ _ _ _ (grabs a i item)) (goes _ _ _ _ (grabs_not a i item (v.cell (looked_cell t.team k i))))
+      on-swap _ (Cell (looked_cell t.team k i)) (cell_word item) 0 other e saw (goes _ _ _ _ (grabs a i item))
+      (goes _ _ _ _ (grabs_not a i item (v.cell (looked_cell t.team k i))))
   goes-on _ _ _ _ (grabs_not a i item found) q other e saw =
-      on-swap _ (Cell (looked_cell t.team k i)) (cell_word item) 0 other e saw (goes _ _ _ _ (grabs a i item)) (goes _ _ _ _ (grabs_not a i item (v.cell (looked_cell t.team k i))))
+      on-swap _ (Cell (looked_cell t.team k i)) (cell_word item) 0 other e saw (goes _ _ _ _ (grabs a i item))
+      (goes _ _ _ _ (grabs_not a i item (v.cell (looked_cell t.team k i))))
 
   -- a step that the words allow
   abbrev CanGo : Worker → Type 0
@@ -381,8 +402,10 @@ module _ {t : Start} {v : Words} {workers : ℕ → Worker} (o : IsRoundOpening 
     ]
   ]
   can-stage a s (Puts ob at j u) q = (Store (Word (at + j)) u, _, tt, (_, writes a s ob at j u))
-  can-stage a s (Swap ob at) q = can-swap _ (Word ob.x) (plain_word ob.class) (forward_word (byte_at at)) (goes _ _ _ _ (forwards a s ob at)) (goes _ _ _ _ (loses a s ob at (v.word ob.x)))
-  can-stage a s (Pin ob) q = can-swap _ (Word ob.x) (plain_word ob.class) (pinned_word ob.class) (pin-goes a s ob) (goes _ _ _ _ (fails_not a s ob (v.word ob.x)))
+  can-stage a s (Swap ob at) q = can-swap _ (Word ob.x) (plain_word ob.class) (forward_word (byte_at at)) (goes _ _ _ _ (forwards a s ob at))
+      (goes _ _ _ _ (loses a s ob at (v.word ob.x)))
+  can-stage a s (Pin ob) q = can-swap _ (Word ob.x) (plain_word ob.class) (pinned_word ob.class) (pin-goes a s ob)
+      (goes _ _ _ _ (fails_not a s ob (v.word ob.x)))
   can-stage a s (Send to) q = (Store (Word s) (byte_at to), _, tt, (_, sends a s to))
   can-stage a s Dirty q = (Store (Card (card_at t.area s)) 1, _, tt, (_, dirties a s))
 
@@ -393,7 +416,8 @@ module _ {t : Start} {v : Words} {workers : ℕ → Worker} (o : IsRoundOpening 
   can-idle : (a : Worker) (list : List Item) (hand : List ℕ) → CanGo (record a { list = list; hand = hand; mid = Idle })
   can-idle a list (s ∷ rest) = can-next _ _ (SlotOf s) (Of_hand (record a { list = list }) s rest)
   can-idle a (item ∷ rest) [] = can-next _ _ item (Of_list a item rest)
-  can-idle a [] [] = can-load _ (Cell (looked_cell t.team k 0)) (looking-goes (record a { list = []; hand = []; mid = Idle }) 0 (record { nothing = (refl, refl); at = inl (refl, refl) }))
+  can-idle a [] [] = can-load _ (Cell (looked_cell t.team k 0))
+      (looking-goes (record a { list = []; hand = []; mid = Idle }) 0 (record { nothing = (refl, refl); at = inl (refl, refl) }))
 
   can-mid : (a : Worker) (mid : Mid) → AtMid t v wo.round k a.spare a.list a.hand mid → mid ≢ Over → CanGo (record a { mid = mid })
   can-mid a Idle q n = can-idle a a.list a.hand
@@ -402,10 +426,13 @@ module _ {t : Start} {v : Words} {workers : ℕ → Worker} (o : IsRoundOpening 
   can-mid a (On s stage) q n = can-stage a s stage q
   can-mid a (Offer i next) q n = let e = q.2.2 in
       subst (λ (list : List Item). CanGo (record a { list = list; mid = Offer i next })) (sym e)
-      (can-swap _ (Cell (own_cell k i)) 0 (cell_word q.2.1) (goes _ _ _ _ (offers a q.2.0 q.2.1 i next)) (goes _ _ _ _ (offers_not a q.2.0 q.2.1 i next (v.cell (own_cell k i)))))
-  can-mid a (Seek i) q n = can-load _ (Cell (looked_cell t.team k i)) (looking-goes (record a { mid = Seek i }) i (record { nothing = (q.0, q.1); at = inr refl }))
+      (can-swap _ (Cell (own_cell k i)) 0 (cell_word q.2.1) (goes _ _ _ _ (offers a q.2.0 q.2.1 i next))
+      (goes _ _ _ _ (offers_not a q.2.0 q.2.1 i next (v.cell (own_cell k i)))))
+  can-mid a (Seek i) q n = can-load _ (Cell (looked_cell t.team k i))
+      (looking-goes (record a { mid = Seek i }) i (record { nothing = (q.0, q.1); at = inr refl }))
   can-mid a (Grab i item) q n =
-      can-swap _ (Cell (looked_cell t.team k i)) (cell_word item) 0 (goes _ _ _ _ (grabs a i item)) (goes _ _ _ _ (grabs_not a i item (v.cell (looked_cell t.team k i))))
+      can-swap _ (Cell (looked_cell t.team k i)) (cell_word item) 0 (goes _ _ _ _ (grabs a i item))
+      (goes _ _ _ _ (grabs_not a i item (v.cell (looked_cell t.team k i))))
   can-mid a Over q n = absurd (n refl)
 
   -- a worker that hasn't ended can take a step

@@ -1,5 +1,6 @@
 -- Lists of slots, of what they refer to, and of the objects found.
-use Rattle.std.proofs.Common.{◌≡◌, ℕ, zero, suc, ◌+◌, ◌*◌, ◌≤◌, ◌<◌, ◌⊎◌, leb, ltb, eqb, cond, if◌then◌else◌, Bool, true, false, List, [], ◌∷◌, ◌++◌, map, sym, refl, ap, ◌∙◌, subst, inl, inr, arith}
+use Rattle.std.proofs.Common.{◌≡◌, ℕ, zero, suc, ◌+◌, ◌*◌, ◌≤◌, ◌<◌, ◌⊎◌, leb, ltb, eqb, cond, if◌then◌else◌, Bool, true, false, List, [], ◌∷◌, ◌++◌, map}
+use Rattle.std.proofs.Common.{sym, refl, ap, ◌∙◌, subst, inl, inr, arith}
 use Rattle.std.proofs.lemmas.Bool.{cond-true, cond-false, cases_Bool, eq-eqb, eqb-true, leb-true, ltb-true, le-leb, lt-ltb}
 use Rattle.std.proofs.lemmas.List.{append-nil, append_assoc}
 use Rattle.sg_words.specs.Address.{byte_at, word_at}
@@ -21,11 +22,13 @@ firsts before (x ∷ xs) = if has x before then firsts before xs else x ∷ firs
 -- the lists one longer
 pub targets-last : (area : Area) (w : ℕ → ℕ) (items : List ℕ) (s : ℕ) → targets area w (items ++ s ∷ []) ≡ targets area w items ++ target area w (w s)
 targets-last area w [] s = append-nil (target area w (w s))
-targets-last area w (x ∷ items) s = ap (λ (l : List ℕ). target area w (w x) ++ l) (targets-last area w items s) ∙ sym (append_assoc (target area w (w x)) (targets area w items) (target area w (w s)))
+targets-last area w (x ∷ items) s = ap (λ (l : List ℕ). target area w (w x) ++ l) (targets-last area w items s)
+    ∙ sym (append_assoc (target area w (w x)) (targets area w items) (target area w (w s)))
 
 pub targets-append : (area : Area) (w : ℕ → ℕ) (items more : List ℕ) → targets area w (items ++ more) ≡ targets area w items ++ targets area w more
 targets-append area w [] more = refl
-targets-append area w (x ∷ items) more = ap (λ (l : List ℕ). target area w (w x) ++ l) (targets-append area w items more) ∙ sym (append_assoc (target area w (w x)) (targets area w items) (targets area w more))
+targets-append area w (x ∷ items) more = ap (λ (l : List ℕ). target area w (w x) ++ l) (targets-append area w items more)
+    ∙ sym (append_assoc (target area w (w x)) (targets area w items) (targets area w more))
 
 -- each number of a list is one of its first ones, or came before
 pub in-firsts : (before xs : List ℕ) (y : ℕ) → In y xs → In y before ⊎ In y (firsts before xs)
@@ -72,7 +75,8 @@ firsts-old before (y ∷ xs) x h = elim (cases_Bool (has y before)) [
 pub firsts-new : (before xs : List ℕ) (x : ℕ) → (In x before → ⊥) → (In x (firsts before xs) → ⊥) → firsts before (xs ++ x ∷ []) ≡ firsts before xs ++ x ∷ []
 firsts-new before [] x nb nx = cond-false _ [] _ (out x before nb)
 firsts-new before (y ∷ xs) x nb nx = elim (cases_Bool (has y before)) [
-  | inl e ↦ cond-true _ _ _ e ∙ firsts-new before xs x nb (λ i. nx (subst (λ (l : List ℕ). In x l) (sym (cond-true _ _ _ e)) i)) ∙ ap (λ (l : List ℕ). l ++ x ∷ []) (sym (cond-true _ _ _ e))
+  | inl e ↦ cond-true _ _ _ e ∙ firsts-new before xs x nb (λ i. nx (subst (λ (l : List ℕ). In x l) (sym (cond-true _ _ _ e)) i))
+      ∙ ap (λ (l : List ℕ). l ++ x ∷ []) (sym (cond-true _ _ _ e))
   | inr e ↦ (let there : In x (y ∷ firsts (y ∷ before) xs) → ⊥ = λ i. nx (subst (λ (l : List ℕ). In x l) (sym (cond-false _ (firsts before xs) _ e)) i) in
       cond-false _ (firsts before (xs ++ x ∷ [])) _ e
       ∙ ap (λ (l : List ℕ). y ∷ l) (firsts-new (y ∷ before) xs x (λ i. elim (has-cases x y before i) [
@@ -101,7 +105,8 @@ module _ (area : Area) (w : ℕ → ℕ) where
     ]
   ]
     where
-      known : (x : ℕ) → v ≡ byte_at x → is_plain area w x ≡ true → target area w v ≡ x ∷ [] → (x c : ℕ) × (v ≡ byte_at x) × IsYoung area x × (w x ≡ plain_word c) × (target area w v ≡ x ∷ [])
+      known : (x : ℕ) → v ≡ byte_at x → is_plain area w x ≡ true → target area w v ≡ x ∷ [] →
+          (x c : ℕ) × (v ≡ byte_at x) × IsYoung area x × (w x ≡ plain_word c) × (target area w v ≡ x ∷ [])
       known x e p t = elim (cases_Bool (leb area.low x)) [
         | inr a ↦ absurd (let z = sym (cond-false _ (cond (ltb x area.high) (eqb (w x) (plain_word (class_of (w x)))) false) _ a) ∙ p in cc)
         | inl a ↦ elim (cases_Bool (ltb x area.high)) [
@@ -112,42 +117,52 @@ module _ (area : Area) (w : ℕ → ℕ) where
 
 pub map-same : (f g : ℕ → ℕ) (xs : List ℕ) → ((a : ℕ) → In a xs → g a ≡ f a) → map g xs ≡ map f xs
 map-same f g [] h = refl
-map-same f g (x ∷ xs) h = ap (λ (z : ℕ). z ∷ map g xs) (h x (in-here x x xs refl)) ∙ ap (λ (z : List ℕ). f x ∷ z) (map-same f g xs (λ a i. h a (in-there a x xs i)))
+map-same f g (x ∷ xs) h = ap (λ (z : ℕ). z ∷ map g xs) (h x (in-here x x xs refl))
+    ∙ ap (λ (z : List ℕ). f x ∷ z) (map-same f g xs (λ a i. h a (in-there a x xs i)))
 
 pub map-self : (xs : List ℕ) → map (λ x. x) xs ≡ xs ++ []
 map-self [] = refl
 map-self (x ∷ xs) = ap (λ (l : List ℕ). x ∷ l) (map-self xs)
 
-
 -- the strong slots of one more object
-pub strong_of-last : (area : Area) (w : ℕ → ℕ) (objects : List ℕ) (x : ℕ) → strong_of area w (objects ++ x ∷ []) ≡ strong_of area w objects ++ slots_by area (class_of (w x)) x (w (x + 1))
+pub strong_of-last : (area : Area) (w : ℕ → ℕ) (objects : List ℕ) (x : ℕ) →
+    strong_of area w (objects ++ x ∷ []) ≡ strong_of area w objects ++ slots_by area (class_of (w x)) x (w (x + 1))
 strong_of-last area w [] x = append-nil (slots_by area (class_of (w x)) x (w (x + 1)))
 strong_of-last area w (a ∷ objects) x =
     ap (λ (l : List ℕ). slots_by area (class_of (w a)) a (w (a + 1)) ++ l) (strong_of-last area w objects x)
     ∙ sym (append_assoc (slots_by area (class_of (w a)) a (w (a + 1))) (strong_of area w objects) (slots_by area (class_of (w x)) x (w (x + 1))))
 
-pub its-slots : (area : Area) (w : ℕ → ℕ) (found : List ℕ) (x c n : ℕ) → w x ≡ plain_word c → w (x + 1) ≡ n → strong_of area w (found ++ x ∷ []) ≡ strong_of area w found ++ slots_by area c x n
+pub its-slots : (area : Area) (w : ℕ → ℕ) (found : List ℕ) (x c n : ℕ) → w x ≡ plain_word c → w (x + 1) ≡ n →
+    strong_of area w (found ++ x ∷ []) ≡ strong_of area w found ++ slots_by area c x n
 its-slots area w found x c n p len =
-    strong_of-last area w found x ∙ ap (λ (z : ℕ). strong_of area w found ++ slots_by area z x (w (x + 1))) (class-is w x c p) ∙ ap (λ (m : ℕ). strong_of area w found ++ slots_by area c x m) len
+    strong_of-last area w found x ∙ ap (λ (z : ℕ). strong_of area w found ++ slots_by area z x (w (x + 1))) (class-is w x c p)
+    ∙ ap (λ (m : ℕ). strong_of area w found ++ slots_by area c x m) len
 
 -- where the slots of a copy come from
-source-strong : (strong : ℕ → Bool) (x at : ℕ) (f : ℕ → ℕ) (i n k : ℕ) → i + n ≤ k → ((j : ℕ) → j < k → f (at + 2 + j) ≡ x + 2 + j) → map f (strong_slots strong at i n) ≡ strong_slots strong x i n
+source-strong : (strong : ℕ → Bool) (x at : ℕ) (f : ℕ → ℕ) (i n k : ℕ) → i + n ≤ k → ((j : ℕ) → j < k → f (at + 2 + j) ≡ x + 2 + j) →
+    map f (strong_slots strong at i n) ≡ strong_slots strong x i n
 source-strong strong x at f i zero k l h = refl
 source-strong strong x at f i (suc n) k l h =
     let more = source-strong strong x at f (suc i) n k (omega arith) h in
     elim (cases_Bool (strong i)) [
-      | inl e ↦ ap (λ (z : List ℕ). map f z) (cond-true _ ((at + 2 + i) ∷ strong_slots strong at (suc i) n) _ e) ∙ ap (λ (z : ℕ). z ∷ map f (strong_slots strong at (suc i) n)) (h i (omega arith))
+      | inl e ↦ ap (λ (z : List ℕ). map f z) (cond-true _ ((at + 2 + i) ∷ strong_slots strong at (suc i) n) _ e)
+          ∙ ap (λ (z : ℕ). z ∷ map f (strong_slots strong at (suc i) n)) (h i (omega arith))
           ∙ ap (λ (z : List ℕ). (x + 2 + i) ∷ z) more ∙ sym (cond-true _ ((x + 2 + i) ∷ strong_slots strong x (suc i) n) _ e)
-      | inr e ↦ ap (λ (z : List ℕ). map f z) (cond-false _ ((at + 2 + i) ∷ strong_slots strong at (suc i) n) _ e) ∙ more ∙ sym (cond-false _ ((x + 2 + i) ∷ strong_slots strong x (suc i) n) _ e)
+      | inr e ↦ ap (λ (z : List ℕ). map f z) (cond-false _ ((at + 2 + i) ∷ strong_slots strong at (suc i) n) _ e) ∙ more
+          ∙ sym (cond-false _ ((x + 2 + i) ∷ strong_slots strong x (suc i) n) _ e)
     ]
 
-pub source-slots : (area : Area) (c x at n : ℕ) (f : ℕ → ℕ) → ((j : ℕ) → j < n → f (at + 2 + j) ≡ x + 2 + j) → map f (slots_by area c at n) ≡ slots_by area c x n
+pub source-slots : (area : Area) (c x at n : ℕ) (f : ℕ → ℕ) → ((j : ℕ) → j < n → f (at + 2 + j) ≡ x + 2 + j) →
+    map f (slots_by area c at n) ≡ slots_by area c x n
 source-slots area c x at n f h = source-strong (area.strong c) x at f 0 n n (omega arith) h
 
-pub line-on : (gone a b items old new line : List ℕ) (s : ℕ) → gone ++ s ∷ a ≡ items ++ old → line ≡ a ++ b → new ≡ old ++ b → (gone ++ s ∷ []) ++ line ≡ items ++ new
+pub line-on : (gone a b items old new line : List ℕ) (s : ℕ) → gone ++ s ∷ a ≡ items ++ old → line ≡ a ++ b → new ≡ old ++ b →
+    (gone ++ s ∷ []) ++ line ≡ items ++ new
 line-on gone a b items old new line s e l n =
-    append_assoc gone (s ∷ []) line ∙ ap (λ (z : List ℕ). gone ++ s ∷ z) l ∙ sym (append_assoc gone (s ∷ a) b) ∙ ap (λ (z : List ℕ). z ++ b) e ∙ append_assoc items old b ∙ ap (λ (z : List ℕ). items ++ z) (sym n)
+    append_assoc gone (s ∷ []) line ∙ ap (λ (z : List ℕ). gone ++ s ∷ z) l ∙ sym (append_assoc gone (s ∷ a) b) ∙ ap (λ (z : List ℕ). z ++ b) e
+    ∙ append_assoc items old b ∙ ap (λ (z : List ℕ). items ++ z) (sym n)
 
 pub line-more : (gone a b items old new line : List ℕ) → gone ++ a ≡ items ++ old → line ≡ a ++ b → new ≡ old ++ b → gone ++ line ≡ items ++ new
 line-more gone a b items old new line e l n =
-    ap (λ (z : List ℕ). gone ++ z) l ∙ sym (append_assoc gone a b) ∙ ap (λ (z : List ℕ). z ++ b) e ∙ append_assoc items old b ∙ ap (λ (z : List ℕ). items ++ z) (sym n)
+    ap (λ (z : List ℕ). gone ++ z) l ∙ sym (append_assoc gone a b) ∙ ap (λ (z : List ℕ). z ++ b) e ∙ append_assoc items old b
+    ∙ ap (λ (z : List ℕ). items ++ z) (sym n)

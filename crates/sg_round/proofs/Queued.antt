@@ -20,11 +20,14 @@ use Rattle.sg_words.proofs.Blocks.{has_slots, bit_cases}
 use Rattle.sg_words.proofs.Members.{in-here, in-there}
 use Rattle.sg_round.specs.Area.{Area, IsYoung, HasCard, IsFixed, place, class_of}
 use Rattle.sg_round.specs.Items.{Item, SlotOf, WholeOf, slots_by, slots_in, slots_of}
-use Rattle.sg_round.specs.Worker.{Object, Stage, Look, Size, Room, Take, Slots, Mark, Body, Puts, Swap, Pin, Send, Dirty, Mid, Idle, Took, Count, On, Offer, Seek, Grab, Over, Worker, size_for, idle, on, looking}
+use Rattle.sg_round.specs.Worker.{Object, Stage, Look, Size, Room, Take, Slots, Mark, Body, Puts, Swap, Pin, Send, Dirty, Mid, Idle, Took, Count, On, Offer}
+use Rattle.sg_round.specs.Worker.{Seek, Grab, Over, Worker, size_for, idle, on, looking}
 use Rattle.sg_round.specs.Rules.{Effect, Nothing, Ends, Moves, Fails, FailsEnding, IsNext, IsLooking, Comes}
 use Rattle.sg_round.specs.Rules.IsNext.{Of_hand, Of_list, Of_cell}
-use Rattle.sg_round.specs.Rules.Comes.{opens, counts, sees_none, sees, looks_forwarded, looks_fixed, looks_bare, looks_plain, has_spare, has_none, finds_free, finds_swept, finds_other, takes, takes_not}
-use Rattle.sg_round.specs.Rules.Comes.{finds_clear, finds_full, marks, marks_not, reads, writes, clears, heads, forwards, loses, fails, fails_bare, fails_not, sends, dirties}
+use Rattle.sg_round.specs.Rules.Comes.{opens, counts, sees_none, sees, looks_forwarded, looks_fixed, looks_bare, looks_plain, has_spare, has_none, finds_free}
+use Rattle.sg_round.specs.Rules.Comes.{finds_swept, finds_other, takes, takes_not}
+use Rattle.sg_round.specs.Rules.Comes.{finds_clear, finds_full, marks, marks_not, reads, writes, clears, heads, forwards, loses, fails, fails_bare, fails_not}
+use Rattle.sg_round.specs.Rules.Comes.{sends, dirties}
 use Rattle.sg_round.specs.Rules.Comes.{keeps, prepares, offers, offers_not, seeks, ends, finds, grabs, grabs_not}
 use Rattle.sg_round.specs.Order.{targets, strong_of, IsLowest, Fits}
 use Rattle.sg_round.specs.Round.{Start, Round, IsSettled, IsPassed}
@@ -39,7 +42,8 @@ use Rattle.sg_round.proofs.Swaps.{no-item}
 use Rattle.sg_round.proofs.Rooms.{swept-not-free}
 use Rattle.sg_round.proofs.Queue.{its-slots, source-slots, line-on, line-more}
 use Rattle.sg_round.proofs.Fits.{with_block, with_bit, fits-moved, fits-failed, fits-map}
-use Rattle.sg_round.proofs.Alone.{seen, IsAlone, IsWholeAt, IsNow, IsOpened, IsPlacing, AtFit, IsQueued, in-round, map-kept, moves-same, fails-same, whole-same, IsHandKnown, new-order, new-each, same, learns, quiet-end, end-seen}
+use Rattle.sg_round.proofs.Alone.{seen, IsAlone, IsWholeAt, IsNow, IsOpened, IsPlacing, AtFit, IsQueued, in-round, map-kept, moves-same, fails-same}
+use Rattle.sg_round.proofs.Alone.{whole-same, IsHandKnown, new-order, new-each, same, learns, quiet-end, end-seen}
 
 -- a block that has this word already
 block-self : (block : ℕ → BlockWord) (b z : ℕ) → block b ≡ Swept z → block ≡ with_block block b z
@@ -49,11 +53,14 @@ block-self block b z e = fun_ext (λ c. elim (cases_eq c b) [
 ])
 
 -- where the worker goes on to look for a place
-at-looking : (area : Area) (now : ℕ → BlockWord) (bits : ℕ → ℕ) (block : ℕ → BlockWord) (used : ℕ → ℕ) (s : ℕ) (o : Object) (b : ℕ) → IsNow now bits block used →
+at-looking : (area : Area) (now : ℕ → BlockWord) (bits : ℕ → ℕ) (block : ℕ → BlockWord) (used : ℕ → ℕ) (s : ℕ) (o : Object) (b : ℕ) →
+    IsNow now bits block used →
     AtFit area now bits block used (On s (looking area o b))
 at-looking area now bits block used s o b h = elim (cases_lt b area.blocks) [
-  | inl l ↦ subst (λ (stage : Stage). AtFit area now bits block used (On s stage)) (sym (cond-true (nat_lt b area.blocks) (Room o b) (Pin o) (lt-ltb b area.blocks l))) (inl h)
-  | inr l ↦ subst (λ (stage : Stage). AtFit area now bits block used (On s stage)) (sym (cond-false (nat_lt b area.blocks) (Room o b) (Pin o) (le-ltb b area.blocks l))) h
+  | inl l ↦ subst (λ (stage : Stage). AtFit area now bits block used (On s stage))
+      (sym (cond-true (nat_lt b area.blocks) (Room o b) (Pin o) (lt-ltb b area.blocks l))) (inl h)
+  | inr l ↦ subst (λ (stage : Stage). AtFit area now bits block used (On s stage))
+      (sym (cond-false (nat_lt b area.blocks) (Room o b) (Pin o) (le-ltb b area.blocks l))) h
 ]
 
 -- what is so of a stage wherever the worker looks
@@ -80,7 +87,8 @@ module _ (t : Start) (items : List ℕ) (others : ℕ → Type 0) (v : Words) (r
   pub queue-opens : (a b : Worker) (x class : ℕ) → IsNext a (WholeOf x) b → Result a Nothing v (record b { mid = Count x class })
   queue-opens a b x class nx n s q =
       let e = next-mid a (WholeOf x) b nx q.alone in
-      same t items others v v r a (record b { mid = Count x class }) Nothing n s q refl refl (next-stands a (WholeOf x) b nx n).known (next-known a (WholeOf x) b nx n)
+      same t items others v v r a (record b { mid = Count x class }) Nothing n s q refl refl (next-stands a (WholeOf x) b nx n).known
+      (next-known a (WholeOf x) b nx n)
       (subst (AtFit t.area v.block v.used q.block q.used) e q.now) tt (λ z. ap (λ (f : ℕ → ℕ). f z) (next-spare a (WholeOf x) b nx) ∙ q.none z) tt q.cells
       (sym (next-todo a (WholeOf x) b nx n)) (ap (seen r) e) refl
 
@@ -98,9 +106,11 @@ module _ (t : Start) (items : List ℕ) (others : ℕ → Type 0) (v : Words) (r
       (subst (AtFit t.area v.block v.used q.block q.used) e q.now) tt (λ z. ap (λ (f : ℕ → ℕ). f z) (next-spare a (SlotOf sl) b nx) ∙ q.none z) tt q.cells
       (sym (next-todo a (SlotOf sl) b nx n)) (ap (seen r) e) refl
 
-  pub queue-counts : (a : Worker) (x class u : ℕ) → v.word (x + 1) ≡ u → Result (record a { mid = Count x class }) Nothing v (record a { hand = slots_by t.area class x u; mid = Idle })
+  pub queue-counts : (a : Worker) (x class u : ℕ) → v.word (x + 1) ≡ u →
+      Result (record a { mid = Count x class }) Nothing v (record a { hand = slots_by t.area class x u; mid = Idle })
   queue-counts a x class u saw n s q =
-      same t items others v v r (record a { mid = Count x class }) (record a { hand = slots_by t.area class x u; mid = Idle }) Nothing n s q refl refl n.stands.known tt
+      same t items others v v r (record a { mid = Count x class }) (record a { hand = slots_by t.area class x u; mid = Idle }) Nothing n s q refl refl
+      n.stands.known tt
       q.now tt q.none tt q.cells (counted-todo a x class u saw n) refl refl
 
   pub queue-forwarded : (a : Worker) (sl x to : ℕ) → v.word x ≡ forward_word (byte_at to) → Result (on a sl (Look x)) Nothing v (on a sl (Send to))
@@ -131,9 +141,11 @@ module _ (t : Start) (items : List ℕ) (others : ℕ → Type 0) (v : Words) (r
       ((q : IsQueued t items v r (on a sl stage)) → Before t others 0 v r (on a sl stage) → AtFit t.area v'.block v'.used q.block q.used (On sl stage')) →
       seen r (On sl stage) ≡ [] → ((r : Round) → seen r (On sl stage') ≡ []) → IsAlone (On sl stage') → Result (on a sl stage) Nothing v' (on a sl stage')
   stage-on a sl stage stage' v' cells whole now f g alone n s q =
-      same t items others v v' r (on a sl stage) (on a sl stage') Nothing n s q refl refl n.stands.known tt (now q n) (whole s q.whole) q.none alone (λ i. cells i ∙ q.cells i) refl f (g s.round)
+      same t items others v v' r (on a sl stage) (on a sl stage') Nothing n s q refl refl n.stands.known tt (now q n) (whole s q.whole) q.none alone
+      (λ i. cells i ∙ q.cells i) refl f (g s.round)
 
-  keep-whole : (a : Worker) (sl : ℕ) (stage stage' : Stage) (v' : Words) (x : ℕ) → (s : Kept t others 0 v r (on a sl stage) Nothing v' (on a sl stage')) → IsWhole r x → IsWhole s.round x
+  keep-whole : (a : Worker) (sl : ℕ) (stage stage' : Stage) (v' : Words) (x : ℕ) → (s : Kept t others 0 v r (on a sl stage) Nothing v' (on a sl stage')) →
+      IsWhole r x → IsWhole s.round x
   keep-whole a sl stage stage' v' x s h =
       (ap (has x) (s.told.1 ∙ append-nil r.moves) ∙ h.0, ap (has x) (s.told.2 ∙ append-nil r.fails) ∙ h.1)
 
@@ -142,8 +154,10 @@ module _ (t : Start) (items : List ℕ) (others : ℕ → Type 0) (v : Words) (r
   queue-none a sl o n s q =
       let b = a.passed (size_for o) in
       stage-on a sl (Size o.x o.class) (looking t.area o b) v (λ i. refl)
-      (λ s h. by-looking t.area (λ (stage : Stage). IsWholeAt s.round (On sl stage)) o b (keep-whole a sl (Size o.x o.class) (looking t.area o b) v o.x s h) (keep-whole a sl (Size o.x o.class) (looking t.area o b) v o.x s h))
-      (λ q n. at-looking t.area v.block v.used q.block q.used sl o b q.now) refl (λ r. by-looking t.area (λ (stage : Stage). seen r (On sl stage) ≡ []) o b refl refl) tt n s q
+      (λ s h. by-looking t.area (λ (stage : Stage). IsWholeAt s.round (On sl stage)) o b (keep-whole a sl (Size o.x o.class) (looking t.area o b) v o.x s h)
+      (keep-whole a sl (Size o.x o.class) (looking t.area o b) v o.x s h))
+      (λ q n. at-looking t.area v.block v.used q.block q.used sl o b q.now) refl
+      (λ r. by-looking t.area (λ (stage : Stage). seen r (On sl stage) ≡ []) o b refl refl) tt n s q
 
   -- a look at a block that leads on to the next one
   pub queue-passes : (a : Worker) (sl : ℕ) (stage : Stage) (o : Object) (b : ℕ) →
@@ -152,25 +166,30 @@ module _ (t : Start) (items : List ℕ) (others : ℕ → Type 0) (v : Words) (r
       Result (on a sl stage) Nothing v (on a sl (looking t.area o b))
   queue-passes a sl stage o b whole f now n s q =
       stage-on a sl stage (looking t.area o b) v (λ i. refl)
-      (λ s h. by-looking t.area (λ (stage : Stage). IsWholeAt s.round (On sl stage)) o b (keep-whole a sl stage (looking t.area o b) v o.x s (whole r h)) (keep-whole a sl stage (looking t.area o b) v o.x s (whole r h)))
-      (λ q n. at-looking t.area v.block v.used q.block q.used sl o b (now q n)) f (λ r. by-looking t.area (λ (stage : Stage). seen r (On sl stage) ≡ []) o b refl refl) tt n s q
+      (λ s h. by-looking t.area (λ (stage : Stage). IsWholeAt s.round (On sl stage)) o b (keep-whole a sl stage (looking t.area o b) v o.x s (whole r h))
+      (keep-whole a sl stage (looking t.area o b) v o.x s (whole r h)))
+      (λ q n. at-looking t.area v.block v.used q.block q.used sl o b (now q n)) f
+      (λ r. by-looking t.area (λ (stage : Stage). seen r (On sl stage) ≡ []) o b refl refl) tt n s q
 
   -- a block that was just taken has its size, and no bit set
   opened-swept : (block : ℕ → BlockWord) (used : ℕ → ℕ) (z b : ℕ) → IsOpened v.block v.used block used z b → v.block b ≡ Swept z
   opened-swept block used z b h = ap (λ (f : ℕ → BlockWord). f b) h.is ∙ put-at block b (Swept z) b refl
 
-  pub queue-other : (a : Worker) (sl : ℕ) (o : Object) (b : ℕ) (state : BlockWord) → state ≢ Swept (size_for o) → v.block b ≡ state → Result (on a sl (Room o b)) Nothing v (on a sl (looking t.area o (b + 1)))
+  pub queue-other : (a : Worker) (sl : ℕ) (o : Object) (b : ℕ) (state : BlockWord) → state ≢ Swept (size_for o) → v.block b ≡ state →
+      Result (on a sl (Room o b)) Nothing v (on a sl (looking t.area o (b + 1)))
   queue-other a sl o b state other saw =
       queue-passes a sl (Room o b) o (b + 1) (λ r h. h) refl (λ q n. elim q.now [
         | inl h ↦ h
         | inr h ↦ absurd (other (sym saw ∙ opened-swept q.block q.used (size_for o) b h))
       ])
 
-  pub queue-full : (a : Worker) (sl : ℕ) (o : Object) (b u : ℕ) → ((j : ℕ) → j < slots (size_for o) → bit_at u j ≡ 1) → v.used b ≡ u → Result (on a sl (Slots o b)) Nothing v (on a sl (looking t.area o (b + 1)))
+  pub queue-full : (a : Worker) (sl : ℕ) (o : Object) (b u : ℕ) → ((j : ℕ) → j < slots (size_for o) → bit_at u j ≡ 1) → v.used b ≡ u →
+      Result (on a sl (Slots o b)) Nothing v (on a sl (looking t.area o (b + 1)))
   queue-full a sl o b u set saw =
       queue-passes a sl (Slots o b) o (b + 1) (λ r h. h) refl (λ q n. elim q.now [
         | inl h ↦ h
-        | inr h ↦ absurd (let e = set 0 (has_slots (o.n + 2)) in let f = h.bare 0 in let g = ap (λ (f : ℕ → ℕ). bit_at (f b) 0) h.same in let k = ap (λ (c : ℕ). bit_at c 0) saw in omega arith)
+        | inr h ↦ absurd (let e = set 0 (has_slots (o.n + 2)) in let f = h.bare 0 in let g = ap (λ (f : ℕ → ℕ). bit_at (f b) 0) h.same in let k =
+            ap (λ (c : ℕ). bit_at c 0) saw in omega arith)
       ])
 
   pub queue-free : (a : Worker) (sl : ℕ) (o : Object) (b : ℕ) → v.block b ≡ Free → Result (on a sl (Room o b)) Nothing v (on a sl (Take o b))
@@ -183,7 +202,8 @@ module _ (t : Start) (items : List ℕ) (others : ℕ → Type 0) (v : Words) (r
   pub queue-takes : (a : Worker) (sl : ℕ) (o : Object) (b : ℕ) → v.block b ≡ Free →
       Result (on a sl (Take o b)) Nothing (record v { block = put v.block b (Swept (size_for o)) }) (on a sl (Room o b))
   queue-takes a sl o b saw =
-      stage-on a sl (Take o b) (Room o b) (record v { block = put v.block b (Swept (size_for o)) }) (λ i. refl) (keep-whole a sl (Take o b) (Room o b) (record v { block = put v.block b (Swept (size_for o)) }) o.x)
+      stage-on a sl (Take o b) (Room o b) (record v { block = put v.block b (Swept (size_for o)) }) (λ i. refl)
+      (keep-whole a sl (Take o b) (Room o b) (record v { block = put v.block b (Swept (size_for o)) }) o.x)
       (λ q n. inr (record {
         free = ap (λ (f : ℕ → BlockWord). f b) (sym q.now.0) ∙ saw;
         bare = λ i. ap (λ (f : ℕ → ℕ). bit_at (f b) i) (sym q.now.1) ∙ bare n i;
@@ -196,7 +216,8 @@ module _ (t : Start) (items : List ℕ) (others : ℕ → Type 0) (v : Words) (r
         | inr e ↦ e
         | inl e ↦ elim (bit_cases (t.words.used b) i) [
           | inr f ↦ absurd (let g = n.claims.taken b i e f in swept-not-free g.0 (v.block b) g.4 saw)
-          | inl f ↦ absurd (let g = n.opening.zoned.bare b n.stands.at.2 (free0 n) in let h = bit_at-zero i in let k = ap (λ (u : ℕ). bit_at u i) g in omega arith)
+          | inl f ↦ absurd (let g = n.opening.zoned.bare b n.stands.at.2 (free0 n) in let h = bit_at-zero i in let k =
+              ap (λ (u : ℕ). bit_at u i) g in omega arith)
         ]
       ]
         where
@@ -204,12 +225,14 @@ module _ (t : Start) (items : List ℕ) (others : ℕ → Type 0) (v : Words) (r
           free0 n = elim (n.claims.opened b) [ inl e ↦ sym e ∙ saw | inr e ↦ e.1 ]
 
   pub queue-takes-not : (a : Worker) (sl : ℕ) (o : Object) (b : ℕ) → Result (on a sl (Take o b)) Nothing v (on a sl (Room o b))
-  queue-takes-not a sl o b = stage-on a sl (Take o b) (Room o b) v (λ i. refl) (keep-whole a sl (Take o b) (Room o b) v o.x) (λ q n. inl q.now) refl (λ r. refl) tt
+  queue-takes-not a sl o b = stage-on a sl (Take o b) (Room o b) v (λ i. refl) (keep-whole a sl (Take o b) (Room o b) v o.x) (λ q n. inl q.now) refl
+      (λ r. refl) tt
 
   pub queue-swept : (a : Worker) (sl : ℕ) (o : Object) (b : ℕ) → Result (on a sl (Room o b)) Nothing v (on a sl (Slots o b))
   queue-swept a sl o b = stage-on a sl (Room o b) (Slots o b) v (λ i. refl) (keep-whole a sl (Room o b) (Slots o b) v o.x) (λ q n. q.now) refl (λ r. refl) tt
 
-  pub queue-clear : (a : Worker) (sl : ℕ) (o : Object) (b i u : ℕ) → bit_at u i ≡ 0 → ((j : ℕ) → j < i → bit_at u j ≡ 1) → v.used b ≡ u → Result (on a sl (Slots o b)) Nothing v (on a sl (Mark o b i))
+  pub queue-clear : (a : Worker) (sl : ℕ) (o : Object) (b i u : ℕ) → bit_at u i ≡ 0 → ((j : ℕ) → j < i → bit_at u j ≡ 1) → v.used b ≡ u →
+      Result (on a sl (Slots o b)) Nothing v (on a sl (Mark o b i))
   queue-clear a sl o b i u clear set saw =
       stage-on a sl (Slots o b) (Mark o b i) v (λ i. refl) (keep-whole a sl (Slots o b) (Mark o b i) v o.x)
       (λ q n. (q.now, ap (λ (w : ℕ). bit_at w i) saw ∙ clear, λ j l. ap (λ (w : ℕ). bit_at w j) saw ∙ set j l)) refl (λ r. refl) tt
@@ -232,7 +255,8 @@ module _ (t : Start) (items : List ℕ) (others : ℕ → Type 0) (v : Words) (r
         | inl h ↦ inr (ap (λ (f : ℕ → BlockWord). f b) (sym h.0) ∙ at.3)
         | inr h ↦ inl h.free
       ] in
-      let below : (c : ℕ) → c < b → q.block c ≡ v.block c = λ c l. sym (put-other q.block b (Swept z) c (λ e. absurd (omega arith))) ∙ ap (λ (f : ℕ → BlockWord). f c) (sym block-is) in
+      let below : (c : ℕ) → c < b → q.block c ≡ v.block c = λ c l. sym (put-other q.block b (Swept z) c (λ e. absurd (omega arith)))
+      ∙ ap (λ (f : ℕ → BlockWord). f c) (sym block-is) in
       let low : IsLowest t.area q.block q.used z b i = record {
         there = at.2;
         fits = at.4;
@@ -250,48 +274,64 @@ module _ (t : Start) (items : List ℕ) (others : ℕ → Type 0) (v : Words) (r
 
   -- the copy
   pub queue-reads : (a : Worker) (sl : ℕ) (o : Object) (at j u : ℕ) → Result (on a sl (Body o at j)) Nothing v (on a sl (Puts o at j u))
-  queue-reads a sl o at j u = stage-on a sl (Body o at j) (Puts o at j u) v (λ i. refl) (keep-whole a sl (Body o at j) (Puts o at j u) v o.x) (λ q n. q.now) refl (λ r. refl) tt
+  queue-reads a sl o at j u = stage-on a sl (Body o at j) (Puts o at j u) v (λ i. refl) (keep-whole a sl (Body o at j) (Puts o at j u) v o.x)
+      (λ q n. q.now) refl (λ r. refl) tt
 
-  pub queue-writes : (a : Worker) (sl : ℕ) (o : Object) (at j u x y : ℕ) → Result (on a sl (Puts o at j u)) Nothing (record v { word = put v.word x y }) (on a sl (Body o at (j + 1)))
+  pub queue-writes : (a : Worker) (sl : ℕ) (o : Object) (at j u x y : ℕ) →
+      Result (on a sl (Puts o at j u)) Nothing (record v { word = put v.word x y }) (on a sl (Body o at (j + 1)))
   queue-writes a sl o at j u x y =
-      stage-on a sl (Puts o at j u) (Body o at (j + 1)) (record v { word = put v.word x y }) (λ i. refl) (keep-whole a sl (Puts o at j u) (Body o at (j + 1)) (record v { word = put v.word x y }) o.x)
+      stage-on a sl (Puts o at j u) (Body o at (j + 1)) (record v { word = put v.word x y }) (λ i. refl)
+      (keep-whole a sl (Puts o at j u) (Body o at (j + 1)) (record v { word = put v.word x y }) o.x)
       (λ q n. q.now) refl (λ r. refl) tt
 
-  pub queue-clears : (a : Worker) (sl : ℕ) (o : Object) (at j x y : ℕ) → Result (on a sl (Body o at j)) Nothing (record v { word = put v.word x y }) (on a sl (Body o at (j + 1)))
+  pub queue-clears : (a : Worker) (sl : ℕ) (o : Object) (at j x y : ℕ) →
+      Result (on a sl (Body o at j)) Nothing (record v { word = put v.word x y }) (on a sl (Body o at (j + 1)))
   queue-clears a sl o at j x y =
-      stage-on a sl (Body o at j) (Body o at (j + 1)) (record v { word = put v.word x y }) (λ i. refl) (keep-whole a sl (Body o at j) (Body o at (j + 1)) (record v { word = put v.word x y }) o.x)
+      stage-on a sl (Body o at j) (Body o at (j + 1)) (record v { word = put v.word x y }) (λ i. refl)
+      (keep-whole a sl (Body o at j) (Body o at (j + 1)) (record v { word = put v.word x y }) o.x)
       (λ q n. q.now) refl (λ r. refl) tt
 
-  pub queue-heads : (a : Worker) (sl : ℕ) (o : Object) (at j x y : ℕ) → Result (on a sl (Body o at j)) Nothing (record v { word = put v.word x y }) (on a sl (Swap o at))
+  pub queue-heads : (a : Worker) (sl : ℕ) (o : Object) (at j x y : ℕ) →
+      Result (on a sl (Body o at j)) Nothing (record v { word = put v.word x y }) (on a sl (Swap o at))
   queue-heads a sl o at j x y =
-      stage-on a sl (Body o at j) (Swap o at) (record v { word = put v.word x y }) (λ i. refl) (keep-whole a sl (Body o at j) (Swap o at) (record v { word = put v.word x y }) o.x)
+      stage-on a sl (Body o at j) (Swap o at) (record v { word = put v.word x y }) (λ i. refl)
+      (keep-whole a sl (Body o at j) (Swap o at) (record v { word = put v.word x y }) o.x)
       (λ q n. q.now) refl (λ r. refl) tt
 
   pub queue-fails-not : (a : Worker) (sl : ℕ) (o : Object) → Result (on a sl (Pin o)) Nothing v (on a sl (Look o.x))
   queue-fails-not a sl o = stage-on a sl (Pin o) (Look o.x) v (λ i. refl) (λ s h. tt) (λ q n. q.now) refl (λ r. refl) tt
 
   -- no exchange to Forwarded is lost
-  pub never-lost : (a : Worker) (sl : ℕ) (o : Object) (at : ℕ) → Before t others 0 v r (on a sl (Swap o at)) → IsQueued t items v r (on a sl (Swap o at)) → v.word o.x ≡ plain_word o.class
+  pub never-lost : (a : Worker) (sl : ℕ) (o : Object) (at : ℕ) → Before t others 0 v r (on a sl (Swap o at)) → IsQueued t items v r (on a sl (Swap o at)) →
+      v.word o.x ≡ plain_word o.class
   never-lost a sl o at n q =
       let h = n.stands.at.0 in
       word-of n.opening.opening n.going o.x (target-of (on a sl (Swap o at)) sl o.x n h.seen) q.whole.0 q.whole.1 ∙ h.plain
 
   pub queue-sends : (a : Worker) (sl to : ℕ) → Result (on a sl (Send to)) (Ends sl) (record v { word = put v.word sl (byte_at to) }) (idle a)
   queue-sends a sl to n s q =
-      end-seen t items others v (record v { word = put v.word sl (byte_at to) }) r (on a sl (Send to)) (idle a) (Ends sl) n s q refl refl n.stands.known tt q.now tt q.none tt q.cells sl refl refl refl
+      end-seen t items others v (record v { word = put v.word sl (byte_at to) }) r (on a sl (Send to)) (idle a)
+      (Ends sl) n s q refl refl n.stands.known tt q.now tt q.none tt q.cells sl refl refl refl
 
   pub queue-dirties : (a : Worker) (sl c : ℕ) → Result (on a sl Dirty) (Ends sl) (record v { card = put v.card c 1 }) (idle a)
   queue-dirties a sl c n s q =
-      end-seen t items others v (record v { card = put v.card c 1 }) r (on a sl Dirty) (idle a) (Ends sl) n s q refl refl n.stands.known tt q.now tt q.none tt q.cells sl refl refl refl
+      end-seen t items others v (record v { card = put v.card c 1 }) r (on a sl Dirty) (idle a)
+      (Ends sl) n s q refl refl n.stands.known tt q.now tt q.none tt q.cells sl refl refl refl
 
-  pub queue-looks : (a : Worker) (i : ℕ) (mid : Mid) → IsLooking a i → IsAlone mid → in_hand t r.source mid ≡ [] → ((now : ℕ → BlockWord) (bits : ℕ → ℕ) (block : ℕ → BlockWord) (used : ℕ → ℕ) → IsNow now bits block used → AtFit t.area now bits block used mid) →
+  pub queue-looks : (a : Worker) (i : ℕ) (mid : Mid) → IsLooking a i → IsAlone mid → in_hand t r.source mid ≡ [] →
+      ((now : ℕ → BlockWord) (bits : ℕ → ℕ) (block : ℕ → BlockWord) (used : ℕ → ℕ) → IsNow now bits block used → AtFit t.area now bits block used mid) →
       ((r : Round) → IsWholeAt r mid) → ((r : Round) → seen r mid ≡ []) → ((r : Round) → IsHandKnown t r mid) → Result a Nothing v (record a { mid = mid })
   queue-looks a i mid is alone hand fit whole quiet known n s q =
-      same t items others v v r a (record a { mid = mid }) Nothing n s q refl refl n.stands.known (known r) (fit v.block v.used q.block q.used now) (whole s.round) q.none alone q.cells
+      same t items others v v r a (record a { mid = mid }) Nothing n s q refl refl n.stands.known (known r) (fit v.block v.used q.block q.used now)
+      (whole s.round) q.none alone q.cells
       (ap (λ (l : List ℕ). l ++ (a.hand ++ slots_of t.area t.words.word r.source a.list)) (hand ∙ sym mine)) unseen (quiet s.round)
     where
       now : IsNow v.block v.used q.block q.used
-      now = elim is.at [ inl e ↦ subst (AtFit t.area v.block v.used q.block q.used) e.0 q.now | inr e ↦ subst (AtFit t.area v.block v.used q.block q.used) e q.now ]
+      now = elim is.at [
+        | inl e ↦ subst (AtFit t.area v.block v.used q.block q.used) e.0 q.now
+        | inr e ↦ subst
+            (AtFit t.area v.block v.used q.block q.used) e q.now
+      ]
 
       mine : in_hand t r.source a.mid ≡ []
       mine = elim is.at [ inl e ↦ ap (in_hand t r.source) e.0 | inr e ↦ ap (in_hand t r.source) e ]

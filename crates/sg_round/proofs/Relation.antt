@@ -12,7 +12,8 @@ use Rattle.sg_words.specs.declared.steps.BlockWord.{BlockWord}
 use Rattle.sg_words.specs.declared.steps.BlockWord.TheVariants.{Free, Swept}
 use Rattle.sg_round.specs.Area.{Area, IsYoung, IsFixed, HasCard, place, card_at, class_of}
 use Rattle.sg_round.specs.Items.{Item, SlotOf, WholeOf, cell_word, own_cell, slots_in, slots_of}
-use Rattle.sg_round.specs.Worker.{Object, Stage, Look, Size, Room, Take, Slots, Mark, Body, Puts, Swap, Pin, Send, Dirty, Mid, Idle, Took, Count, On, Offer, Seek, Grab, Over, Worker, size_for}
+use Rattle.sg_round.specs.Worker.{Object, Stage, Look, Size, Room, Take, Slots, Mark, Body, Puts, Swap, Pin, Send, Dirty, Mid, Idle, Took, Count, On, Offer}
+use Rattle.sg_round.specs.Worker.{Seek, Grab, Over, Worker, size_for}
 use Rattle.sg_round.specs.Rules.{Effect, MayOffer, ended, moved, failed}
 use Rattle.sg_round.specs.Round.{Start, InSlot, IsClear, Owner, Nobody, Claimed, Round, Slot, IsGoing, Owns, IsPassed, IsTaken}
 
@@ -131,7 +132,8 @@ Sized t r spare s o = IsSized t.area t.words.word t.items r.m r.source r.moves r
 -- The words of its copy from `from` to before j are, as long as the target is whole, the opening's, and behind it zeros.
 abbrev pub IsWritten : Start → Words → Round → Object → ℕ → ℕ → ℕ → Type 0
 IsWritten t v r o at from j =
-    (IsWhole r o.x → (i : ℕ) → from ≤ i → i < j → i < o.n + 2 → v.word (at + i) ≡ t.words.word (o.x + i)) × ((i : ℕ) → o.n + 2 ≤ i → i < j → v.word (at + i) ≡ 0)
+    (IsWhole r o.x → (i : ℕ) → from ≤ i → i < j → i < o.n + 2 → v.word (at + i) ≡ t.words.word (o.x + i)) ×
+    ((i : ℕ) → o.n + 2 ≤ i → i < j → v.word (at + i) ≡ 0)
 
 -- the own cells of worker k before the i-th are empty
 abbrev pub AreEmpty : Words → ℕ → ℕ → Type 0
@@ -159,7 +161,8 @@ AtMid t v r k spare list hand (Took item) = IsKnownItem t r item × (hand ≡ []
 AtMid t v r k spare list hand (Count x class) = IsKnown t.wholes r x × (class ≡ class_of (t.words.word (r.source x))) × (hand ≡ [])
 AtMid t v r k spare list hand (On s stage) = AtStage t v r k spare s stage
 AtMid t v r k spare list hand (Offer i next) =
-    (i < 8) × (v.cell (own_cell k i) ≡ 0) × ((items : List Item) × (item : Item) × (list ≡ items ++ item ∷ [])) × AtMid t v r k spare list hand next × MayOffer next
+    (i < 8) × (v.cell (own_cell k i) ≡ 0) × ((items : List Item) × (item : Item) × (list ≡ items ++ item ∷ [])) × AtMid t v r k spare list hand next ×
+    MayOffer next
 AtMid t v r k spare list hand (Seek i) = (list ≡ []) × (hand ≡ []) × (i < 8 * t.team) × AreEmpty v k i
 AtMid t v r k spare list hand (Grab i item) = (list ≡ []) × (hand ≡ []) × (i < 8 * t.team) × AreEmpty v k i × IsKnownItem t r item
 AtMid t v r k spare list hand Over = (list ≡ []) × (hand ≡ []) × AreEmpty v k 8

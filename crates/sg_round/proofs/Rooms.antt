@@ -1,5 +1,6 @@
 -- The rules by which a worker looks for a place for a copy, takes a block, and claims a slot.
-use Rattle.std.proofs.Common.{◌≡◌, ◌≢◌, ℕ, ◌+◌, ◌*◌, ◌^◌, ◌≤◌, ◌<◌, ◌⊎◌, true, false, List, [], ◌∷◌, ◌++◌, length, nat_lt, sym, refl, ap, ◌∙◌, subst, inl, inr, arith, le_refl}
+use Rattle.std.proofs.Common.{◌≡◌, ◌≢◌, ℕ, ◌+◌, ◌*◌, ◌^◌, ◌≤◌, ◌<◌, ◌⊎◌, true, false, List, [], ◌∷◌, ◌++◌, length, nat_lt, sym, refl, ap, ◌∙◌, subst, inl}
+use Rattle.std.proofs.Common.{inr, arith, le_refl}
 use Rattle.std.proofs.lemmas.Bool.{cases_eq, cases_lt, cond-true, cond-false, lt-ltb, le-ltb}
 use Rattle.std.specs.Int.{bit_at}
 use Rattle.std.specs.Int.Bits.{bit_or}
@@ -30,7 +31,8 @@ pub swept-same : (y z : ℕ) (state : BlockWord) → state ≡ Swept y → state
 swept-same y z state e f = let q : Swept y ≡ Swept z = sym e ∙ f in cc
 
 -- a slot that is claimed stays so
-pub taken-later : {area : Area} {block : ℕ → BlockWord} {used0 used : ℕ → ℕ} {at z : ℕ} (block' : ℕ → BlockWord) (used' : ℕ → ℕ) → ((b : ℕ) → block b ≢ Free → block' b ≡ block b) →
+pub taken-later : {area : Area} {block : ℕ → BlockWord} {used0 used : ℕ → ℕ} {at z : ℕ} (block' : ℕ → BlockWord) (used' : ℕ → ℕ) →
+    ((b : ℕ) → block b ≢ Free → block' b ≡ block b) →
     ((b i : ℕ) → bit_at (used b) i ≡ 1 → bit_at (used' b) i ≡ 1) → IsTaken area block used0 used at z → IsTaken area block' used0 used' at z
 taken-later {area} {block} {used0} {used} {at} {z} block' used' blocks bits q = record {
   b = q.b;
@@ -46,21 +48,25 @@ taken-later {area} {block} {used0} {used} {at} {z} block' used' blocks bits q = 
 
 module _ {t : Start} {others : ℕ → Type 0} {k : ℕ} {v : Words} {r : Round} where
   -- one more block can't take it
-  one-more : (a : Worker) (o : Object) (b : ℕ) → Before t others k v r a → ArePassed t v (size_for o) b → (b < t.area.blocks → IsPassed v.block v.used (size_for o) b) → ArePassed t v (size_for o) (b + 1)
+  one-more : (a : Worker) (o : Object) (b : ℕ) → Before t others k v r a → ArePassed t v (size_for o) b →
+      (b < t.area.blocks → IsPassed v.block v.used (size_for o) b) → ArePassed t v (size_for o) (b + 1)
   one-more a o b n q p d l h = elim (cases_lt d b) [
     | inl less ↦ q d less h
     | inr more ↦ (let e : b ≡ d = omega arith in subst (λ (d : ℕ). IsPassed v.block v.used (size_for o) d) e (p (omega arith)))
   ]
 
-  at-looking : (a : Worker) (spare : ℕ → ℕ) (s : ℕ) (o : Object) (b : ℕ) → Before t others k v r a → Sized t r spare s o → ArePassed t v (size_for o) b → AtStage t v r k spare s (looking t.area o b)
+  at-looking : (a : Worker) (spare : ℕ → ℕ) (s : ℕ) (o : Object) (b : ℕ) → Before t others k v r a → Sized t r spare s o → ArePassed t v (size_for o) b →
+      AtStage t v r k spare s (looking t.area o b)
   at-looking a spare s o b n sized passed = elim (cases_lt b t.area.blocks) [
-    | inl l ↦ subst (λ (stage : Stage). AtStage t v r k spare s stage) (sym (cond-true (nat_lt b t.area.blocks) (Room o b) (Pin o) (lt-ltb b t.area.blocks l))) (sized, passed, l)
+    | inl l ↦ subst (λ (stage : Stage). AtStage t v r k spare s stage)
+        (sym (cond-true (nat_lt b t.area.blocks) (Room o b) (Pin o) (lt-ltb b t.area.blocks l))) (sized, passed, l)
     | inr l ↦ subst (λ (stage : Stage). AtStage t v r k spare s stage) (sym (cond-false (nat_lt b t.area.blocks) (Room o b) (Pin o) (le-ltb b t.area.blocks l)))
         (sized, λ d m h. passed d (omega arith) h)
   ]
 
   -- the worker looks for a place from block b on
-  looks-from : (a : Worker) (s : ℕ) (stage : Stage) (o : Object) (b : ℕ) → Before t others k v r (on a s stage) → ((at z : ℕ) → IsFilling at z (On s stage) → ⊥) → Sized t r a.spare s o →
+  looks-from : (a : Worker) (s : ℕ) (stage : Stage) (o : Object) (b : ℕ) → Before t others k v r (on a s stage) →
+      ((at z : ℕ) → IsFilling at z (On s stage) → ⊥) → Sized t r a.spare s o →
       ArePassed t v (size_for o) b → Kept t others k v r (on a s stage) Nothing v (on a s (looking t.area o b))
   looks-from a s stage o b n none sized passed =
       walks (on a s stage) (On s (looking t.area o b)) n tt refl (λ at z h. absurd (none at z h)) (at-looking (on a s stage) a.spare s o b n sized passed)
@@ -70,34 +76,41 @@ module _ {t : Start} {others : ℕ → Type 0} {k : ℕ} {v : Words} {r : Round}
   none-spare a s o none saw n =
       looks-from a s (Size o.x o.class) o (a.passed (size_for o)) n (λ at z h. h) (object-read a s o none saw n) (n.stands.passed (size_for o)).1
 
-  pub free-seen : (a : Worker) (s : ℕ) (o : Object) (b : ℕ) → Before t others k v r (on a s (Room o b)) → Kept t others k v r (on a s (Room o b)) Nothing v (on a s (Take o b))
+  pub free-seen : (a : Worker) (s : ℕ) (o : Object) (b : ℕ) → Before t others k v r (on a s (Room o b)) →
+      Kept t others k v r (on a s (Room o b)) Nothing v (on a s (Take o b))
   free-seen a s o b n = walks (on a s (Room o b)) (On s (Take o b)) n tt refl (λ at z h. h) n.stands.at
 
   pub swept-seen : (a : Worker) (s : ℕ) (o : Object) (b : ℕ) → v.block b ≡ Swept (size_for o) → Before t others k v r (on a s (Room o b)) →
       Kept t others k v r (on a s (Room o b)) Nothing v (on a s (Slots o b))
   swept-seen a s o b saw n = let q = n.stands.at in walks (on a s (Room o b)) (On s (Slots o b)) n tt refl (λ at z h. h) (q.0, q.1, q.2, saw)
 
-  pub other-seen : (a : Worker) (s : ℕ) (o : Object) (b : ℕ) (state : BlockWord) → state ≢ Free → state ≢ Swept (size_for o) → v.block b ≡ state → Before t others k v r (on a s (Room o b)) →
+  pub other-seen : (a : Worker) (s : ℕ) (o : Object) (b : ℕ) (state : BlockWord) → state ≢ Free → state ≢ Swept (size_for o) → v.block b ≡ state →
+      Before t others k v r (on a s (Room o b)) →
       Kept t others k v r (on a s (Room o b)) Nothing v (on a s (looking t.area o (b + 1)))
   other-seen a s o b state some other saw n =
       let q = n.stands.at in
-      looks-from a s (Room o b) o (b + 1) n (λ at z h. h) q.0 (one-more (on a s (Room o b)) o b n q.1 (λ l. record { taken = λ e. some (sym saw ∙ e); full = λ e. absurd (other (sym saw ∙ e)) }))
+      looks-from a s (Room o b) o (b + 1) n (λ at z h. h) q.0
+      (one-more (on a s (Room o b)) o b n q.1 (λ l. record { taken = λ e. some (sym saw ∙ e); full = λ e. absurd (other (sym saw ∙ e)) }))
 
-  pub take-missed : (a : Worker) (s : ℕ) (o : Object) (b : ℕ) → Before t others k v r (on a s (Take o b)) → Kept t others k v r (on a s (Take o b)) Nothing v (on a s (Room o b))
+  pub take-missed : (a : Worker) (s : ℕ) (o : Object) (b : ℕ) → Before t others k v r (on a s (Take o b)) →
+      Kept t others k v r (on a s (Take o b)) Nothing v (on a s (Room o b))
   take-missed a s o b n = walks (on a s (Take o b)) (On s (Room o b)) n tt refl (λ at z h. h) n.stands.at
 
   pub clear-seen : (a : Worker) (s : ℕ) (o : Object) (b i : ℕ) → i < slots (size_for o) → Before t others k v r (on a s (Slots o b)) →
       Kept t others k v r (on a s (Slots o b)) Nothing v (on a s (Mark o b i))
   clear-seen a s o b i l n = let q = n.stands.at in walks (on a s (Slots o b)) (On s (Mark o b i)) n tt refl (λ at z h. h) (q.0, q.1, q.2, q.3, l)
 
-  pub full-seen : (a : Worker) (s : ℕ) (o : Object) (b u : ℕ) → ((j : ℕ) → j < slots (size_for o) → bit_at u j ≡ 1) → v.used b ≡ u → Before t others k v r (on a s (Slots o b)) →
+  pub full-seen : (a : Worker) (s : ℕ) (o : Object) (b u : ℕ) → ((j : ℕ) → j < slots (size_for o) → bit_at u j ≡ 1) → v.used b ≡ u →
+      Before t others k v r (on a s (Slots o b)) →
       Kept t others k v r (on a s (Slots o b)) Nothing v (on a s (looking t.area o (b + 1)))
   full-seen a s o b u set saw n =
       let q = n.stands.at in
       looks-from a s (Slots o b) o (b + 1) n (λ at z h. h) q.0
-      (one-more (on a s (Slots o b)) o b n q.1 (λ l. record { taken = swept-not-free (size_for o) (v.block b) q.3; full = λ e i h. ap (λ (w : ℕ). bit_at w i) saw ∙ set i h }))
+      (one-more (on a s (Slots o b)) o b n q.1 (λ l.
+      record { taken = swept-not-free (size_for o) (v.block b) q.3; full = λ e i h. ap (λ (w : ℕ). bit_at w i) saw ∙ set i h }))
 
-  pub mark-missed : (a : Worker) (s : ℕ) (o : Object) (b i : ℕ) → Before t others k v r (on a s (Mark o b i)) → Kept t others k v r (on a s (Mark o b i)) Nothing v (on a s (Room o b))
+  pub mark-missed : (a : Worker) (s : ℕ) (o : Object) (b i : ℕ) → Before t others k v r (on a s (Mark o b i)) →
+      Kept t others k v r (on a s (Mark o b i)) Nothing v (on a s (Room o b))
   mark-missed a s o b i n = let q = n.stands.at in walks (on a s (Mark o b i)) (On s (Room o b)) n tt refl (λ at z h. h) (q.0, q.1, q.2)
 
   -- a free block gets a size
@@ -112,7 +125,8 @@ module _ {t : Start} {others : ℕ → Type 0} {k : ℕ} {v : Words} {r : Round}
       let other : (d : ℕ) → d ≢ b → block' d ≡ v.block d = λ d h. put-other v.block b (Swept z0) d h in
       let here : (d : ℕ) → d ≡ b → block' d ≡ Swept z0 = λ d e. put-at v.block b (Swept z0) d e in
       let blocks : (d : ℕ) → v.block d ≢ Free → block' d ≡ v.block d = λ d some. other d (λ e. some (ap v.block e ∙ saw)) in
-      let passes : (z d : ℕ) → IsPassed v.block v.used z d → IsPassed block' v.used z d = λ z d p. passed-later v.block block' v.used v.used blocks (λ b i e. e) z d p in
+      let passes : (z d : ℕ) → IsPassed v.block v.used z d → IsPassed block' v.used z d =
+      λ z d p. passed-later v.block block' v.used v.used blocks (λ b i e. e) z d p in
       record {
         round = r;
         later = record {
@@ -133,7 +147,11 @@ module _ {t : Start} {others : ℕ → Type 0} {k : ℕ} {v : Words} {r : Round}
         claims = record {
           opened = λ d. elim (cases_eq d b) [
             | inr h ↦ elim (cl.opened d) [ inl e ↦ inl (other d h ∙ e) | inr e ↦ inr (e.0, e.1, (e.2.0, e.2.1, other d h ∙ e.2.2)) ]
-            | inl h ↦ inr (subst (λ (c : ℕ). c < t.area.blocks) (sym h) q.2, elim (cl.opened d) [ inl e ↦ sym e ∙ ap v.block h ∙ saw | inr e ↦ e.1 ], (z0, slot_size-class (o.n + 2), here d h))
+            | inl h ↦ inr (
+              subst (λ (c : ℕ). c < t.area.blocks) (sym h) q.2,
+              elim (cl.opened d) [ inl e ↦ sym e ∙ ap v.block h ∙ saw | inr e ↦ e.1 ],
+              (z0, slot_size-class (o.n + 2), here d h),
+            )
           ];
           risen = cl.risen;
           clear = λ d z i y h c. cl.clear d z i y h (elim (cases_eq d b) [
@@ -193,8 +211,10 @@ module _ {t : Start} {others : ℕ → Type 0} {k : ℕ} {v : Words} {r : Round}
           | inr f ↦ inr (ap (λ (c : ℕ). bit_at (v.used c) j) h ∙ sym (bit_same (v.used b) i j f) ∙ ap (λ (w : ℕ). bit_at w j) (sym (here d h)) ∙ e)
         ]
       ] in
-      let set-here : (d j : ℕ) → d ≡ b → j ≡ i → bit_at (used' d) j ≡ 1 = λ d j e f. ap (λ (w : ℕ). bit_at w j) (here d e) ∙ ap (bit_at (bit_or (v.used b) (2 ^ i))) f ∙ bit_set (v.used b) i in
-      let passes : (z d : ℕ) → IsPassed v.block v.used z d → IsPassed v.block used' z d = λ z d p. passed-later v.block v.block v.used used' (λ b h. refl) bits z d p in
+      let set-here : (d j : ℕ) → d ≡ b → j ≡ i → bit_at (used' d) j ≡ 1 = λ d j e f. ap (λ (w : ℕ). bit_at w j) (here d e)
+      ∙ ap (bit_at (bit_or (v.used b) (2 ^ i))) f ∙ bit_set (v.used b) i in
+      let passes : (z d : ℕ) → IsPassed v.block v.used z d → IsPassed v.block used' z d =
+      λ z d p. passed-later v.block v.block v.used used' (λ b h. refl) bits z d p in
       let free : (y : ℕ) → at ≤ y → y < at + z0 → (r.owner y ≡ Nobody) × (t.zone y ≡ true) = λ y lo hi. (
         cl.clear b z0 i y (q.2, q.4, lo, hi) (inr (q.3, clear)),
         n.opening.zoned.clear b z0 i y (q.2, q.4, lo, hi) (elim (cl.opened b) [
@@ -253,15 +273,31 @@ module _ {t : Start} {others : ℕ → Type 0} {k : ℕ} {v : Words} {r : Round}
           clear = λ d z j y h f. outside y (apart d z j y h f) ∙ cl.clear d z j y h (elim f [ inl e ↦ inl e | inr e ↦ inr (e.0, unset' d j e.1) ]);
           held = λ j at' z y e. by_range (IsTaken t.area v.block t.words.used used' at' z) at (at + z0) y
               (λ lo hi. (let f = claim-place k j at at' z0 z (sym (inside y lo hi) ∙ e) in
-              subst (λ (p : ℕ). IsTaken t.area v.block t.words.used used' p z) (sym f.0) (subst (λ (z : ℕ). IsTaken t.area v.block t.words.used used' at z) (sym f.1) taken)))
+              subst (λ (p : ℕ). IsTaken t.area v.block t.words.used used' p z) (sym f.0)
+              (subst (λ (z : ℕ). IsTaken t.area v.block t.words.used used' at z) (sym f.1) taken)))
               (λ h. taken-later v.block used' (λ b h. refl) bits (cl.held j at' z y (sym (outside y h) ∙ e)));
           homed = λ x h. taken-later v.block used' (λ b h. refl) bits (cl.homed x h);
           taken = λ d j e c. elim (set-only d j e) [
-            | inl h ↦ (z0, class, subst (λ (c : ℕ). c < t.area.blocks) (sym h.0) q.2, subst (λ (c : ℕ). c < slots z0) (sym h.1) q.4, ap v.block h.0 ∙ q.3,
-              λ f. nobody-not-claimed (owner' at) k at z0 (ap owner' (ap (λ (c : ℕ). place t.area c z0 i) (sym h.0) ∙ ap (λ (c : ℕ). place t.area d z0 c) (sym h.1)) ∙ f) (inside at (omega arith) (omega arith)))
-            | inr h ↦ (let g = cl.taken d j h c in (g.0, g.1, g.2, g.3, g.4, λ f. by_range ⊥ at (at + z0) (place t.area d g.0 j)
-              (λ lo hi. nobody-not-claimed (owner' (place t.area d g.0 j)) k at z0 f (inside (place t.area d g.0 j) lo hi))
-              (λ out-of. g.5 (sym (outside (place t.area d g.0 j) out-of) ∙ f))))
+            | inl h ↦ (
+              z0,
+              class,
+              subst (λ (c : ℕ). c < t.area.blocks) (sym h.0) q.2,
+              subst (λ (c : ℕ). c < slots z0) (sym h.1) q.4,
+              ap v.block h.0 ∙ q.3,
+              λ f. nobody-not-claimed (owner' at) k at z0
+                  (ap owner' (ap (λ (c : ℕ). place t.area c z0 i) (sym h.0) ∙ ap (λ (c : ℕ). place t.area d z0 c) (sym h.1)) ∙ f)
+                  (inside at (omega arith) (omega arith)),
+            )
+            | inr h ↦ (let g = cl.taken d j h c in (
+              g.0,
+              g.1,
+              g.2,
+              g.3,
+              g.4,
+              λ f. by_range ⊥ at (at + z0) (place t.area d g.0 j)
+                  (λ lo hi. nobody-not-claimed (owner' (place t.area d g.0 j)) k at z0 f (inside (place t.area d g.0 j) lo hi))
+                  (λ out-of. g.5 (sym (outside (place t.area d g.0 j) out-of) ∙ f)),
+            ))
           ];
           full = λ x d h l. passes (slot_size (size_of t.words.word x)) d (cl.full x d h l);
           short = λ x h. (let c = cl.short x h in (

@@ -16,16 +16,19 @@ module _ {area : Area} {w : ℕ → ℕ} {items wholes : List ℕ} {zone : ℕ �
     {word : ℕ → ℕ} {todo : ℕ → Type 0} {r : Round} (go : IsGoing area w items zone word todo r) where
   -- a claimed slot whose words are zero again is given back
   pub given_back : (k at z : ℕ) → Owns r.owner k at z → ((y : ℕ) → at ≤ y → y < at + z → word y ≡ 0) → (owner : ℕ → Owner) →
-      ((y : ℕ) → at ≤ y → y < at + z → owner y ≡ Nobody) → ((y : ℕ) → (at ≤ y → y < at + z → ⊥) → owner y ≡ r.owner y) → IsGoing area w items zone word todo (record r { owner = owner })
+      ((y : ℕ) → at ≤ y → y < at + z → owner y ≡ Nobody) → ((y : ℕ) → (at ≤ y → y < at + z → ⊥) → owner y ≡ r.owner y) →
+      IsGoing area w items zone word todo (record r { owner = owner })
   given_back k at z own zero owner free out-of = record {
     once = go.once;
     others = go.others;
     rest = λ y h. by_range (owner y ≡ Nobody) at (at + z) y (λ u v. free y u v) (λ n. out-of y n ∙ go.rest y h);
-    target = λ a j h l. out-of (r.m a + j) (λ u v. target-not-claimed (r.owner (r.m a + j)) a k at z (go.target a j h l) (own (r.m a + j) u v)) ∙ go.target a j h l;
+    target = λ a j h l. out-of (r.m a + j) (λ u v. target-not-claimed (r.owner (r.m a + j)) a k at z (go.target a j h l) (own (r.m a + j) u v))
+        ∙ go.target a j h l;
     target_is = λ a y e. by_range (In a r.moves × ((j : ℕ) × (j < size_of w a) × (y ≡ r.m a + j))) at (at + z) y
         (λ u v. absurd (nobody-not-target (owner y) a (free y u v) e))
         (λ n. go.target_is a y (sym (out-of y n) ∙ e));
-    source_out = λ y h. by_range (r.source y ≡ y) at (at + z) y (λ u v. go.source_out y (ap is_target (own y u v))) (λ n. go.source_out y (ap is_target (sym (out-of y n)) ∙ h));
+    source_out = λ y h. by_range (r.source y ≡ y) at (at + z) y (λ u v. go.source_out y (ap is_target (own y u v)))
+        (λ n. go.source_out y (ap is_target (sym (out-of y n)) ∙ h));
     source_in = go.source_in;
     words = λ y nm nf nc. by_range (word y ≡ (cond (has y r.handled) (sent r.m (w (r.source y))) (w (r.source y)))) at (at + z) y
         (λ u v. zero y u v ∙ sym (op.zero y (owned-zone op go y (λ f. nobody-not-claimed (r.owner y) k at z f (own y u v))))

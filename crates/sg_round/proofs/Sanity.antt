@@ -1,5 +1,6 @@
 -- Each worker is sane in the midst of a round.
-use Rattle.std.proofs.Common.{◌≡◌, ◌≢◌, ℕ, zero, suc, ◌+◌, ◌-◌, ◌*◌, ◌^◌, ◌≤◌, ◌<◌, ◌⊎◌, List, [], ◌∷◌, ◌++◌, length, sym, refl, ap, ◌∙◌, subst, inl, inr, arith, zero-le}
+use Rattle.std.proofs.Common.{◌≡◌, ◌≢◌, ℕ, zero, suc, ◌+◌, ◌-◌, ◌*◌, ◌^◌, ◌≤◌, ◌<◌, ◌⊎◌, List, [], ◌∷◌, ◌++◌, length, sym, refl, ap, ◌∙◌, subst, inl, inr}
+use Rattle.std.proofs.Common.{arith, zero-le}
 use Rattle.std.proofs.lemmas.List.{length-append}
 use Rattle.sg_words.specs.Lists.{In}
 use Rattle.sg_words.specs.Tags.{plain_word}
@@ -12,7 +13,8 @@ use Rattle.sg_words.proofs.Distinct.{few}
 use Rattle.sg_words.proofs.Blocks.{slot_fits, class_bounds, slot_size-class, slot_size-holds}
 use Rattle.sg_round.specs.Area.{Area, IsArea, IsYoung, IsFixed, HasCard, class_of, place}
 use Rattle.sg_round.specs.Items.{Item, SlotOf, WholeOf, slots_in, slots_of}
-use Rattle.sg_round.specs.Worker.{Object, Stage, Look, Size, Room, Take, Slots, Mark, Body, Puts, Swap, Pin, Send, Dirty, Mid, Idle, Took, Count, On, Offer, Seek, Grab, Over, Worker, size_for}
+use Rattle.sg_round.specs.Worker.{Object, Stage, Look, Size, Room, Take, Slots, Mark, Body, Puts, Swap, Pin, Send, Dirty, Mid, Idle, Took, Count, On, Offer}
+use Rattle.sg_round.specs.Worker.{Seek, Grab, Over, Worker, size_for}
 use Rattle.sg_round.specs.Rules.{MayOffer}
 use Rattle.sg_round.specs.Sane.{IsWord, IsSaneItem, AreSaneItems, IsSaneObject, IsSaneCopy, IsSaneStage, IsSaneAt, IsSane}
 use Rattle.sg_round.specs.Round.{Start, IsRoundOpening, Owner, Claimed, Round, Slot, Given, Copied, Failed, Owns, IsTaken}
@@ -43,8 +45,10 @@ shifted-fresh low x (y ∷ xs) l all f =
 
 shifted-distinct : (low : ℕ) (xs : List ℕ) → ((y : ℕ) → In y xs → low ≤ y) → AreDistinct xs → AreDistinct (shifted low xs)
 shifted-distinct low [] all d = tt
-shifted-distinct low (x ∷ xs) all d =
-    (shifted-fresh low x xs (all x (in-here x x xs refl)) (λ z h. all z (in-there z x xs h)) d.0, shifted-distinct low xs (λ z h. all z (in-there z x xs h)) d.1)
+shifted-distinct low (x ∷ xs) all d = (
+  shifted-fresh low x xs (all x (in-here x x xs refl)) (λ z h. all z (in-there z x xs h)) d.0,
+  shifted-distinct low xs (λ z h. all z (in-there z x xs h)) d.1,
+)
 
 shifted-among : (low high : ℕ) (xs : List ℕ) → ((y : ℕ) → In y xs → (low ≤ y) × (y < high)) → AreAmong (high - low) (shifted low xs)
 shifted-among low high [] all = tt
@@ -79,7 +83,8 @@ module _ {t : Start} {v : Words} {workers : ℕ → Worker} (o : IsRoundOpening 
 
   pub slot-word : (s : ℕ) → InRound t r s → IsWord t.area s
   slot-word s (Given h) = o.opening.item_word s h
-  slot-word s (Copied a i h l e q) = let c = copy-place a h in let c0 = c.0 in let c1 = c.1 in let n = o.limits.nursery in let m = o.limits.sections in let u = q in (omega arith, omega arith)
+  slot-word s (Copied a i h l e q) = let c = copy-place a h in let c0 = c.0 in let c1 = c.1 in let n = o.limits.nursery in let m =
+      o.limits.sections in let u = q in (omega arith, omega arith)
   slot-word s (Failed a i h l e q) =
       let c = o.opening.inside a (inl (wo.going.failed a h).0) in let c0 = c.0.0 in let c1 = c.1 in
       let n = o.limits.heap in let m = o.limits.sections in let u = q in (omega arith, omega arith)
@@ -89,7 +94,8 @@ module _ {t : Start} {v : Words} {workers : ℕ → Worker} (o : IsRoundOpening 
   known-sane (WholeOf x) (inl h) = let c = o.opening.inside x (inr h) in let c0 = c.0.0 in let c1 = c.1 in let n = o.limits.heap in (omega arith, omega arith)
   known-sane (WholeOf x) (inr (inl h)) =
       let c = o.opening.inside x (inl (wo.going.failed x h).0) in let c0 = c.0.0 in let c1 = c.1 in let n = o.limits.heap in (omega arith, omega arith)
-  known-sane (WholeOf x) (inr (inr h)) = let c = copy-place h.0 h.1 in let c0 = c.0 in let c1 = c.1 in let n = o.limits.nursery in let e = h.2 in (omega arith, omega arith)
+  known-sane (WholeOf x) (inr (inr h)) = let c = copy-place h.0 h.1 in let c0 = c.0 in let c1 = c.1 in let n = o.limits.nursery in let e =
+      h.2 in (omega arith, omega arith)
 
   list-sane : (items : List Item) → AreKnown t r items → AreSaneItems t.area items
   list-sane [] h = tt
@@ -98,12 +104,17 @@ module _ {t : Start} {v : Words} {workers : ℕ → Worker} (o : IsRoundOpening 
   -- the class of an object whose slots are to come
   known-class : (x : ℕ) → IsKnown t.wholes r x → class_of (t.words.word (r.source x)) < 256
   known-class x (inl h) = let c = o.opening.first x (inr h) in
-      subst (λ (y : ℕ). class_of (t.words.word y) < 256) (sym (free-source o.opening wo.going x (below-free o.opening wo.going x (o.opening.inside x (inr h)).0.1))) (small-class (t.words.word x) c.0 c.1 c.2)
+      subst (λ (y : ℕ). class_of (t.words.word y) < 256)
+      (sym (free-source o.opening wo.going x (below-free o.opening wo.going x (o.opening.inside x (inr h)).0.1)))
+      (small-class (t.words.word x) c.0 c.1 c.2)
   known-class x (inr (inl h)) = let c = o.opening.first x (inl (wo.going.failed x h).0) in
-      subst (λ (y : ℕ). class_of (t.words.word y) < 256) (sym (free-source o.opening wo.going x (below-free o.opening wo.going x (o.opening.inside x (inl (wo.going.failed x h).0)).0.1)))
+      subst (λ (y : ℕ). class_of (t.words.word y) < 256)
+      (sym (free-source o.opening wo.going x (below-free o.opening wo.going x (o.opening.inside x (inl (wo.going.failed x h).0)).0.1)))
       (small-class (t.words.word x) c.0 c.1 c.2)
   known-class x (inr (inr h)) = let c = o.opening.first h.0 (inl (wo.going.moved h.0 h.1).0) in
-      subst (λ (y : ℕ). class_of (t.words.word y) < 256) (sym (ap r.source (let e = h.2 in let g : x ≡ r.m h.0 + 0 = omega arith in g) ∙ wo.going.source_in h.0 0 h.1 (omega arith) ∙ (let g : h.0 + 0 ≡ h.0 = omega arith in g)))
+      subst (λ (y : ℕ). class_of (t.words.word y) < 256)
+      (sym (ap r.source (let e = h.2 in let g : x ≡ r.m h.0 + 0 = omega arith in g) ∙ wo.going.source_in h.0 0 h.1 (omega arith)
+      ∙ (let g : h.0 + 0 ≡ h.0 = omega arith in g)))
       (small-class (t.words.word h.0) c.0 c.1 c.2)
 
   read-young : (s x : ℕ) → Reads t r s x → IsYoung t.area x × (x + size_of t.words.word x ≤ t.area.high) × (t.words.word (x + 1) ≤ 62)
@@ -135,7 +146,8 @@ module _ {t : Start} {v : Words} {workers : ℕ → Worker} (o : IsRoundOpening 
   stage-sane k spare s (Puts ob at j u) q = (slot-word s q.0.seen.slot, (object-sane spare s ob q.0, copy-sane k at ob q.1, q.2, q.3))
   stage-sane k spare s (Swap ob at) q = (slot-word s q.0.seen.slot, (object-sane spare s ob q.0, copy-sane k at ob q.1))
   stage-sane k spare s (Pin ob) q = (slot-word s q.0.seen.slot, object-sane spare s ob q.0)
-  stage-sane k spare s (Send to) q = let c = copy-place q.0 q.2 in let e = q.3 in let c0 = c.0 in let c1 = c.1 in (slot-word s q.1.slot, ((omega arith), (omega arith)))
+  stage-sane k spare s (Send to) q = let c = copy-place q.0 q.2 in let e = q.3 in let c0 = c.0 in let c1 =
+      c.1 in (slot-word s q.1.slot, ((omega arith), (omega arith)))
   stage-sane k spare s Dirty q = (slot-word s q.1.slot, q.2)
 
   mid-sane : (k : ℕ) (spare : ℕ → ℕ) (list : List Item) (hand : List ℕ) (mid : Mid) → AtMid t v r k spare list hand mid → IsSaneAt t.area t.team list hand mid
@@ -153,8 +165,9 @@ module _ {t : Start} {v : Words} {workers : ℕ → Worker} (o : IsRoundOpening 
   few-settled =
       let e = length-append r.moves r.fails in
       let f = few-between t.area.low t.area.high (r.moves ++ r.fails)
-        (λ y h. elim (in-cases y r.moves r.fails h) [ inl i ↦ (o.opening.inside y (inl (wo.going.moved y i).0)).0 | inr i ↦ (o.opening.inside y (inl (wo.going.failed y i).0)).0 ])
-        (distinct-append r.moves r.fails wo.going.once.0 wo.going.once.1 (λ z h i. not-in z r.moves (wo.going.failed z h).2 i)) in
+      (λ y h. elim (in-cases y r.moves r.fails h)
+      [ inl i ↦ (o.opening.inside y (inl (wo.going.moved y i).0)).0 | inr i ↦ (o.opening.inside y (inl (wo.going.failed y i).0)).0 ])
+      (distinct-append r.moves r.fails wo.going.once.0 wo.going.once.1 (λ z h i. not-in z r.moves (wo.going.failed z h).2 i)) in
       omega arith
 
   pub is-sane : (k : ℕ) → IsSane t.area t.team t.most k (workers k)
@@ -163,10 +176,15 @@ module _ {t : Start} {v : Words} {workers : ℕ → Worker} (o : IsRoundOpening 
     member = elim st.member [ inl l ↦ inl l | inr e ↦ inr e.0 ];
     list = list-sane (workers k).list st.known;
     few = (let f = st.few in let m = few-settled in omega arith);
-    hand = λ s h. slot-word s (wo.going.slots s (inl (inl (k, in-right s (in_hand t r.source (workers k).mid) ((workers k).hand ++ slots_of t.area t.words.word r.source (workers k).list)
-        (in-left s (workers k).hand (slots_of t.area t.words.word r.source (workers k).list) h)))));
+    hand = λ s h. slot-word s (wo.going.slots s
+        (inl (inl (
+          k,
+          in-right s (in_hand t r.source (workers k).mid) ((workers k).hand ++ slots_of t.area t.words.word r.source (workers k).list)
+              (in-left s (workers k).hand (slots_of t.area t.words.word r.source (workers k).list) h),
+        ))));
     spares = λ z some. (let class = st.classes z some in let b = class_bounds z class in
-        let c = claimed-place ((workers k).spare z) z (wo.claims.held k ((workers k).spare z) z ((workers k).spare z) (st.spares z some ((workers k).spare z) (omega arith) (omega arith))) in
+        let c = claimed-place ((workers k).spare z) z
+        (wo.claims.held k ((workers k).spare z) z ((workers k).spare z) (st.spares z some ((workers k).spare z) (omega arith) (omega arith))) in
         (class, c.0, c.1));
     passed = λ z. (st.passed z).0;
     at = mid-sane k (workers k).spare (workers k).list (workers k).hand (workers k).mid st.at;

@@ -50,7 +50,8 @@ module _ {others : ℕ → Type 0} {inside : ℕ → ℕ → Type 0} where
   }
 
   -- new slots come
-  pub pushes-single : (xs new handled : List ℕ) → IsSingle others inside xs handled → AreDistinct new → ((z : ℕ) → In z new → todo_with others inside xs z ⊎ In z handled → ⊥) →
+  pub pushes-single : (xs new handled : List ℕ) → IsSingle others inside xs handled → AreDistinct new →
+      ((z : ℕ) → In z new → todo_with others inside xs z ⊎ In z handled → ⊥) →
       IsSingle others inside (xs ++ new) handled
   pushes-single xs new handled q d n = record {
     mine = distinct-append xs new q.mine d (λ z h i. n z h (inl (inr (inl i))));
@@ -71,7 +72,8 @@ module _ {others : ℕ → Type 0} {inside : ℕ → ℕ → Type 0} where
   }
 
   -- the last slots go into cell k, which held none
-  pub offered-single : (inside' : ℕ → ℕ → Type 0) (k : ℕ) (xs ys handled : List ℕ) → ((s : ℕ) → inside' k s → In s ys) → ((j s : ℕ) → j ≢ k → inside' j s → inside j s) →
+  pub offered-single : (inside' : ℕ → ℕ → Type 0) (k : ℕ) (xs ys handled : List ℕ) → ((s : ℕ) → inside' k s → In s ys) →
+      ((j s : ℕ) → j ≢ k → inside' j s → inside j s) →
       IsSingle others inside (xs ++ ys) handled → IsSingle others inside' xs handled
   offered-single inside' k xs ys handled here there q = record {
     mine = distinct-left xs ys q.mine;

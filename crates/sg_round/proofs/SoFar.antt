@@ -34,7 +34,8 @@ legal-more : (w : Words) (ss ts : List Step) → IsLegal w ss → IsLegal (repla
 legal-more w [] ts p q = q
 legal-more w (s ∷ ss) ts p q = (p.0, legal-more (after_step w s) ss ts p.1 q)
 
-follows-more : (area : Area) (team k : ℕ) (a b c : Worker) (ss ts : List Deed) → Follows area team k a ss b → Follows area team k b ts c → Follows area team k a (ss ++ ts) c
+follows-more : (area : Area) (team k : ℕ) (a b c : Worker) (ss ts : List Deed) → Follows area team k a ss b → Follows area team k b ts c →
+    Follows area team k a (ss ++ ts) c
 follows-more area team k a b c [] ts f g = subst (λ x. Follows area team k x ts c) f g
 follows-more area team k a b c (s ∷ ss) ts f g = (f.0, f.1, follows-more area team k f.0 b c ss ts f.2 g)
 
@@ -59,7 +60,7 @@ goes_so_far t v workers k a v' so went =
     let mine = by_one k went.deeds in
     let w = t.words in
     let all : steps (so.events ++ mine) ≡ steps so.events ++ steps_of went.deeds =
-      steps-more so.events mine ∙ ap (λ ts. steps so.events ++ ts) (steps-own k went.deeds) in
+    steps-more so.events mine ∙ ap (λ ts. steps so.events ++ ts) (steps-own k went.deeds) in
     record {
       events = so.events ++ mine;
       opening = so.opening;

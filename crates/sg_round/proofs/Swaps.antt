@@ -1,5 +1,6 @@
 -- The rules of the exchange of an object's first word: it moves, or it fails, or the exchange is lost.
-use Rattle.std.proofs.Common.{◌≡◌, ◌≢◌, ℕ, suc, ◌+◌, ◌-◌, ◌*◌, ◌≤◌, ◌<◌, ◌⊎◌, false, List, [], ◌∷◌, ◌++◌, length, sym, refl, ap, ◌∙◌, subst, inl, inr, arith, le_refl}
+use Rattle.std.proofs.Common.{◌≡◌, ◌≢◌, ℕ, suc, ◌+◌, ◌-◌, ◌*◌, ◌≤◌, ◌<◌, ◌⊎◌, false, List, [], ◌∷◌, ◌++◌, length, sym, refl, ap, ◌∙◌, subst, inl, inr, arith}
+use Rattle.std.proofs.Common.{le_refl}
 use Rattle.std.proofs.lemmas.Bool.{cases_eq}
 use Rattle.sg_words.specs.Address.{byte_at}
 use Rattle.sg_words.specs.Tags.{plain_word, pinned_word, forward_word}
@@ -17,10 +18,13 @@ use Rattle.sg_round.specs.Items.{Item, SlotOf, WholeOf, cell_word, slots_by, slo
 use Rattle.sg_round.specs.Worker.{Object, Stage, Look, Body, Puts, Swap, Pin, Send, Dirty, Mid, Idle, On, Worker, size_for, idle, on}
 use Rattle.sg_round.specs.Rules.{Effect, Nothing, Ends, Moves, Fails, FailsEnding}
 use Rattle.sg_round.specs.Round.{Start, Owner, Nobody, Claimed, Target, Round, Slot, Owns, IsPassed, IsTaken}
-use Rattle.sg_round.proofs.Relation.{InRound, Reads, IsWhole, IsStaying, IsKnown, IsKnownItem, AreKnown, todo_of, InCell, AreCells, IsMarking, AreCards, AtStage, IsFilling, Stands, Later, todo_with, IsSingle, Kept}
-use Rattle.sg_round.proofs.Going.{nobody-not-target, nobody-not-claimed, target-not-claimed, clear-not-claimed, below-free, free-source, slot-unclaimed, no-slot, staying, tag-plain}
+use Rattle.sg_round.proofs.Relation.{InRound, Reads, IsWhole, IsStaying, IsKnown, IsKnownItem, AreKnown, todo_of, InCell, AreCells, IsMarking, AreCards}
+use Rattle.sg_round.proofs.Relation.{AtStage, IsFilling, Stands, Later, todo_with, IsSingle, Kept}
+use Rattle.sg_round.proofs.Going.{nobody-not-target, nobody-not-claimed, target-not-claimed, clear-not-claimed, below-free, free-source, slot-unclaimed}
+use Rattle.sg_round.proofs.Going.{no-slot, staying, tag-plain}
 use Rattle.sg_round.proofs.Copies.{known-free}
-use Rattle.sg_round.proofs.Steps.{class-is, by_part, filled, filled-copy, filled-tail, filled-out, from-in, grown, failing, slot-grown, slot-failing, source-kept, grow, fail}
+use Rattle.sg_round.proofs.Steps.{class-is, by_part, filled, filled-copy, filled-tail, filled-out, from-in, grown, failing, slot-grown, slot-failing}
+use Rattle.sg_round.proofs.Steps.{source-kept, grow, fail}
 use Rattle.sg_round.proofs.Lists.{slots-distinct, todo-last, length-last}
 use Rattle.sg_round.proofs.Single.{single-as, pushes-single}
 use Rattle.sg_round.proofs.Frame.{object-fits, passed-later, list-later, slots_in-later, slots_of-later, reads-later, item-later}
@@ -55,7 +59,8 @@ pub own-place : (t : Start) (d z j : ℕ) → IsSizeClass z → place t.area d z
 own-place t d z j h = let b = class_bounds z h in omega arith
 
 -- the slots of an item that has come
-module _ (others : ℕ → Type 0) (inside inside' : ℕ → ℕ → Type 0) (xs new xs' : List ℕ) (e : xs' ≡ xs ++ new) (into : (j s : ℕ) → inside j s → inside' j s) (back : (j s : ℕ) → inside' j s → inside j s) where
+module _ (others : ℕ → Type 0) (inside inside' : ℕ → ℕ → Type 0) (xs new xs' : List ℕ) (e : xs' ≡ xs ++ new) (into : (j s : ℕ) → inside j s → inside' j s)
+    (back : (j s : ℕ) → inside' j s → inside j s) where
   todo-back : (z : ℕ) → todo_with others inside' xs' z → todo_with others inside xs z ⊎ In z new
   todo-back z h = elim h [
     | inl o ↦ inl (inl o)
@@ -133,7 +138,8 @@ module _ {t : Start} {others : ℕ → Type 0} {k : ℕ} {v : Words} {r : Round}
         at = st.at.0.seen;
       })
 
-  pub fail-lost : (a : Worker) (s : ℕ) (o : Object) → Before t others k v r (on a s (Pin o)) → Kept t others k v r (on a s (Pin o)) Nothing v (on a s (Look o.x))
+  pub fail-lost : (a : Worker) (s : ℕ) (o : Object) → Before t others k v r (on a s (Pin o)) →
+      Kept t others k v r (on a s (Pin o)) Nothing v (on a s (Look o.x))
   fail-lost a s o n = walks (on a s (Pin o)) (On s (Look o.x)) n tt refl (λ at z h. h) n.stands.at.0.seen
 
   pub swap-won : (a : Worker) (s : ℕ) (o : Object) (at : ℕ) → v.word o.x ≡ plain_word o.class → Before t others k v r (on a s (Swap o at)) →
@@ -185,29 +191,33 @@ module _ {t : Start} {others : ℕ → Type 0} {k : ℕ} {v : Words} {r : Round}
         cells = λ j i d l e. e;
       } in
       let item : slots_in t.area w r'.source (WholeOf at) ≡ new =
-        ap (λ (y : ℕ). slots_by t.area (class_of (w y)) at (w (r'.source (at + 1)))) (from-in r.source at (size_of w x) x at (omega arith) (omega arith) ∙ (let g : x + (at - at) ≡ x = omega arith in g))
-        ∙ ap (λ (y : ℕ). slots_by t.area (class_of (w x)) at (w y)) (from-in r.source at (size_of w x) x (at + 1) (omega arith) (omega arith) ∙ (let g : x + (at + 1 - at) ≡ x + 1 = omega arith in g))
-        ∙ ap (λ (c : ℕ). slots_by t.area c at (w (x + 1))) (class-is w x o.class p) ∙ ap (slots_by t.area o.class at) len in
+      ap (λ (y : ℕ). slots_by t.area (class_of (w y)) at (w (r'.source (at + 1))))
+      (from-in r.source at (size_of w x) x at (omega arith) (omega arith) ∙ (let g : x + (at - at) ≡ x = omega arith in g))
+      ∙ ap (λ (y : ℕ). slots_by t.area (class_of (w x)) at (w y)) (from-in r.source at (size_of w x) x (at + 1) (omega arith) (omega arith)
+      ∙ (let g : x + (at + 1 - at) ≡ x + 1 = omega arith in g))
+      ∙ ap (λ (c : ℕ). slots_by t.area c at (w (x + 1))) (class-is w x o.class p) ∙ ap (slots_by t.area o.class at) len in
       let todo : todo_of t r'.source b ≡ todo_of t r.source a0 ++ new =
-        todo-last t.area w r'.source (s ∷ []) a.hand a.list (WholeOf at)
-        ∙ ap (λ (l : List ℕ). (s ∷ (a.hand ++ slots_of t.area w r'.source a.list)) ++ l) item
-        ∙ ap (λ (l : List ℕ). (s ∷ (a.hand ++ l)) ++ new) (slots_of-later later a.list st.known) in
+      todo-last t.area w r'.source (s ∷ []) a.hand a.list (WholeOf at)
+      ∙ ap (λ (l : List ℕ). (s ∷ (a.hand ++ slots_of t.area w r'.source a.list)) ++ l) item
+      ∙ ap (λ (l : List ℕ). (s ∷ (a.hand ++ l)) ++ new) (slots_of-later later a.list st.known) in
       let cells-on : (j z : ℕ) → InCell t r.source v.cell j z → InCell t r'.source v.cell j z =
-        λ j z c. (c.0, c.1, subst (λ (l : List ℕ). In z l) (sym (slots_in-later later c.0 (cell-known t r v.cell j c.0 n.cells c.1))) c.2) in
+      λ j z c. (c.0, c.1, subst (λ (l : List ℕ). In z l) (sym (slots_in-later later c.0 (cell-known t r v.cell j c.0 n.cells c.1))) c.2) in
       let cells-back : (j z : ℕ) → InCell t r'.source v.cell j z → InCell t r.source v.cell j z =
-        λ j z c. (c.0, c.1, subst (λ (l : List ℕ). In z l) (slots_in-later later c.0 (cell-known t r v.cell j c.0 n.cells c.1)) c.2) in
+      λ j z c. (c.0, c.1, subst (λ (l : List ℕ). In z l) (slots_in-later later c.0 (cell-known t r v.cell j c.0 n.cells c.1)) c.2) in
       record {
         round = r';
         later = later;
         going = grow op go x o.class tr p whole k at size word' q.1 room
             (λ j l. q.2.0 whole j (omega arith) (omega arith) (omega arith)) (λ j l h. q.2.1 j (omega arith) h)
             (put-same v.word x (forward_word (byte_at at))) (λ y d. put-other v.word x (forward_word (byte_at at)) y d)
-            (λ z h. elim (todo-back others (InCell t r.source v.cell) (InCell t r'.source v.cell) (todo_of t r.source a0) new (todo_of t r'.source b) todo cells-on cells-back z h) [
+            (λ z h. elim (todo-back others (InCell t r.source v.cell) (InCell t r'.source v.cell) (todo_of t r.source a0) new
+            (todo_of t r'.source b) todo cells-on cells-back z h) [
               | inl i ↦ inl i
               | inr i ↦ inr (subst (λ (m : ℕ). In z (slots_by t.area o.class at m)) (sym len) i)
             ])
             (todo-on others (InCell t r.source v.cell) (InCell t r'.source v.cell) (todo_of t r.source a0) new (todo_of t r'.source b) todo cells-on cells-back)
-            (λ z h. todo-new others (InCell t r.source v.cell) (InCell t r'.source v.cell) (todo_of t r.source a0) new (todo_of t r'.source b) todo cells-on cells-back z (subst (λ (m : ℕ). In z (slots_by t.area o.class at m)) len h));
+            (λ z h. todo-new others (InCell t r.source v.cell) (InCell t r'.source v.cell) (todo_of t r.source a0) new
+            (todo_of t r'.source b) todo cells-on cells-back z (subst (λ (m : ℕ). In z (slots_by t.area o.class at m)) len h));
         claims = record {
           opened = cl.opened;
           risen = cl.risen;
@@ -218,18 +228,27 @@ module _ {t : Start} {others : ℕ → Type 0} {k : ℕ} {v : Words} {r : Round}
                 (sym (put-other r.m x at z (λ e. not-in x r.moves whole.0 (subst (λ (z : ℕ). In z r.moves) e i)))) (cl.homed z i)
             | inl e ↦ subst (λ (u : ℕ). IsTaken t.area v.block t.words.used v.used u (slot_size (size_of w z))) (sym (put-at r.m x at z e))
                 (subst (λ (u : ℕ). IsTaken t.area v.block t.words.used v.used at (slot_size (size_of w u))) (sym e)
-                (subst (λ (u : ℕ). IsTaken t.area v.block t.words.used v.used at (slot_size (u + 2))) (sym len) (cl.held k at size at (q.1 at (omega arith) (omega arith)))))
+                (subst (λ (u : ℕ). IsTaken t.area v.block t.words.used v.used at (slot_size (u + 2))) (sym len)
+                (cl.held k at size at (q.1 at (omega arith) (omega arith)))))
           ];
-          taken = λ d j f c. (let g = cl.taken d j f c in let y = place t.area d g.0 j in (g.0, g.1, g.2, g.3, g.4, λ h. by_part ⊥ at (size_of w x) size y
-              (λ lo hi. nobody-not-target (filled r.owner at (size_of w x) size x y) x h (filled-copy r.owner at (size_of w x) size x y lo hi))
-              (λ lo hi. (let u = cl.held k at size at (q.1 at (omega arith) (omega arith)) in let e = u.is in
-                let same : d ≡ u.b = block_once t.area.high d u.b g.0 size j u.i y g.3 u.fits (omega arith) (own-place t d g.0 j g.1) (omega arith) (omega arith) in
+          taken = λ d j f c. (let g = cl.taken d j f c in let y = place t.area d g.0 j in (
+            g.0,
+            g.1,
+            g.2,
+            g.3,
+            g.4,
+            λ h. by_part ⊥ at (size_of w x) size y
+                (λ lo hi. nobody-not-target (filled r.owner at (size_of w x) size x y) x h (filled-copy r.owner at (size_of w x) size x y lo hi))
+                (λ lo hi. (let u = cl.held k at size at (q.1 at (omega arith) (omega arith)) in let e = u.is in
+                let same : d ≡ u.b = block_once t.area.high d u.b g.0 size j u.i y g.3 u.fits (omega arith) (own-place t d g.0 j g.1) (omega arith)
+                (omega arith) in
                 let sized : g.0 ≡ size = swept-same g.0 size (v.block d) g.4 (ap v.block same ∙ u.state) in
                 let e1 : y ≡ place t.area u.b size j = ap (λ (c : ℕ). place t.area c g.0 j) same ∙ ap (λ (z : ℕ). place t.area u.b z j) sized in
                 let slot : j ≡ u.i = slot_once t.area.high u.b size j u.i y (omega arith) (omega arith) (omega arith) (omega arith) in
                 let e2 : place t.area u.b size j ≡ at = ap (λ (c : ℕ). place t.area u.b size c) slot ∙ sym u.is in
                 absurd (omega arith)))
-              (λ out-of. g.5 (sym (filled-out r.owner at (size_of w x) size x y room out-of) ∙ h))));
+                (λ out-of. g.5 (sym (filled-out r.owner at (size_of w x) size x y room out-of) ∙ h)),
+          ));
           full = cl.full;
           short = λ z h. (let c = cl.short z h in (c.0, c.1, λ at' y e. c.2 at' y (back c.0 at' (slot_size (size_of w z)) y e).0));
         };
@@ -239,7 +258,9 @@ module _ {t : Start} {others : ℕ → Type 0} {k : ℕ} {v : Words} {r : Round}
           kept = n.cards.kept;
           changed = λ c. elim (n.cards.changed c) [
             | inl e ↦ inl e
-            | inr m ↦ (let g = m.1 in inr (m.0, record {
+            | inr m ↦ (let g = m.1 in inr (
+              m.0,
+              record {
                 s = g.s;
                 x = g.x;
                 done = g.done;
@@ -248,7 +269,8 @@ module _ {t : Start} {others : ℕ → Type 0} {k : ℕ} {v : Words} {r : Round}
                 held = ap w (later.sources g.s (go.slots g.s (inr g.done))) ∙ g.held;
                 young = g.young;
                 stays = g.stays;
-              }))
+              },
+            ))
           ];
         };
         cells = record {
@@ -268,7 +290,8 @@ module _ {t : Start} {others : ℕ → Type 0} {k : ℕ} {v : Words} {r : Round}
             c.2,
             c.3,
           ));
-          classes = st.classes; passed = st.passed;
+          classes = st.classes;
+          passed = st.passed;
           known = known-last t r' a.list (WholeOf at) (list-later later a.list st.known) (inr (inr (x, in-last x x r.moves refl, sym (put-same r.m x at))));
           few = (let f = st.few in let l = length-last a.list (WholeOf at) in let m = length-last r.moves x in omega arith);
           at = (x, reads-later later s x q.0.seen, in-last x x r.moves refl, put-same r.m x at);
@@ -276,9 +299,9 @@ module _ {t : Start} {others : ℕ → Type 0} {k : ℕ} {v : Words} {r : Round}
         told = (refl, refl, (nothing r).2);
         single = λ h. single-as (todo_of t r.source a0 ++ new) (todo_of t r'.source b) r.handled (λ s o. o) cells-back (sym todo)
             (pushes-single (todo_of t r.source a0) new r.handled h (slots-distinct t.area o.class at o.n) (λ z i u. (
-              let g = slots-are (t.area.strong o.class) at 0 o.n z i in
-              let e = g.3 in let l = g.1 in let f = object-fits o q.0.short in
-              clear-not-claimed (r.owner z) k at size (slot-unclaimed op go z (go.slots z u)) (q.1 z (omega arith) (omega arith)))));
+            let g = slots-are (t.area.strong o.class) at 0 o.n z i in
+            let e = g.3 in let l = g.1 in let f = object-fits o q.0.short in
+            clear-not-claimed (r.owner z) k at size (slot-unclaimed op go z (go.slots z u)) (q.1 z (omega arith) (omega arith)))));
       }
 
   -- an object fails, and its slots come: the worker goes on with the slot in hand
@@ -321,21 +344,25 @@ module _ {t : Start} {others : ℕ → Type 0} {k : ℕ} {v : Words} {r : Round}
         cells = λ j i d l e. e;
       } in
       let item : slots_in t.area w r.source (WholeOf x) ≡ new =
-        ap (λ (y : ℕ). slots_by t.area (class_of (w y)) x (w (r.source (x + 1)))) (free-source op go x x-free)
-        ∙ ap (λ (y : ℕ). slots_by t.area (class_of (w x)) x (w y)) (free-source op go (x + 1) (below-free op go (x + 1) (let i = inside.1 in omega arith)))
-        ∙ ap (λ (c : ℕ). slots_by t.area c x (w (x + 1))) (class-is w x o.class p) ∙ ap (slots_by t.area o.class x) len in
+      ap (λ (y : ℕ). slots_by t.area (class_of (w y)) x (w (r.source (x + 1)))) (free-source op go x x-free)
+      ∙ ap (λ (y : ℕ). slots_by t.area (class_of (w x)) x (w y)) (free-source op go (x + 1) (below-free op go (x + 1) (let i = inside.1 in omega arith)))
+      ∙ ap (λ (c : ℕ). slots_by t.area c x (w (x + 1))) (class-is w x o.class p) ∙ ap (slots_by t.area o.class x) len in
       let todo : todo_of t r.source b ≡ todo_of t r.source a0 ++ new =
-        todo-last t.area w r.source (s ∷ []) a.hand a.list (WholeOf x) ∙ ap (λ (l : List ℕ). todo_of t r.source a0 ++ l) item in
+      todo-last t.area w r.source (s ∷ []) a.hand a.list (WholeOf x) ∙ ap (λ (l : List ℕ). todo_of t r.source a0 ++ l) item in
       record {
         round = r';
         later = later;
-        going = fail op go x o.class tr p whole word' (put-same v.word x (pinned_word o.class) ∙ ap (λ (z : ℕ). z + 2) (sym p)) (λ y d. put-other v.word x (pinned_word o.class) y d)
-            (λ z h. elim (todo-back others (InCell t r.source v.cell) (InCell t r.source v.cell) (todo_of t r.source a0) new (todo_of t r.source b) todo (λ j z c. c) (λ j z c. c) z h) [
+        going = fail op go x o.class tr p whole word' (put-same v.word x (pinned_word o.class) ∙ ap (λ (z : ℕ). z + 2) (sym p))
+            (λ y d. put-other v.word x (pinned_word o.class) y d)
+            (λ z h. elim (todo-back others (InCell t r.source v.cell) (InCell t r.source v.cell) (todo_of t r.source a0) new (todo_of t r.source b) todo
+            (λ j z c. c) (λ j z c. c) z h) [
               | inl i ↦ inl i
               | inr i ↦ inr (subst (λ (m : ℕ). In z (slots_by t.area o.class x m)) (sym len) i)
             ])
-            (todo-on others (InCell t r.source v.cell) (InCell t r.source v.cell) (todo_of t r.source a0) new (todo_of t r.source b) todo (λ j z c. c) (λ j z c. c))
-            (λ z h. todo-new others (InCell t r.source v.cell) (InCell t r.source v.cell) (todo_of t r.source a0) new (todo_of t r.source b) todo (λ j z c. c) (λ j z c. c) z (subst (λ (m : ℕ). In z (slots_by t.area o.class x m)) len h));
+            (todo-on others (InCell t r.source v.cell) (InCell t r.source v.cell) (todo_of t r.source a0) new (todo_of t r.source b) todo (λ j z c. c)
+            (λ j z c. c))
+            (λ z h. todo-new others (InCell t r.source v.cell) (InCell t r.source v.cell) (todo_of t r.source a0) new (todo_of t r.source b) todo
+            (λ j z c. c) (λ j z c. c) z (subst (λ (m : ℕ). In z (slots_by t.area o.class x m)) len h));
         claims = record {
           opened = cl.opened;
           risen = cl.risen;
@@ -363,7 +390,9 @@ module _ {t : Start} {others : ℕ → Type 0} {k : ℕ} {v : Words} {r : Round}
           kept = n.cards.kept;
           changed = λ c. elim (n.cards.changed c) [
             | inl e ↦ inl e
-            | inr m ↦ (let g = m.1 in inr (m.0, record {
+            | inr m ↦ (let g = m.1 in inr (
+              m.0,
+              record {
                 s = g.s;
                 x = g.x;
                 done = g.done;
@@ -372,7 +401,8 @@ module _ {t : Start} {others : ℕ → Type 0} {k : ℕ} {v : Words} {r : Round}
                 held = g.held;
                 young = g.young;
                 stays = elim g.stays [ inl h ↦ inl (in-before g.x x r.fails h) | inr h ↦ inr h ];
-              }))
+              },
+            ))
           ];
         };
         cells = record {
@@ -401,9 +431,9 @@ module _ {t : Start} {others : ℕ → Type 0} {k : ℕ} {v : Words} {r : Round}
         told = (refl, (nothing r).1, refl);
         single = λ h. single-as (todo_of t r.source a0 ++ new) (todo_of t r.source b) r.handled (λ s o. o) (λ j s c. c) (sym todo)
             (pushes-single (todo_of t r.source a0) new r.handled h (slots-distinct t.area o.class x o.n) (λ z i u. (
-              let g = slots-are (t.area.strong o.class) x 0 o.n z i in let l = g.1 in
-              no-slot op go x (2 + g.0) o.class tr p whole.1 (omega arith)
-              (subst (λ (y : ℕ). InRound t r y) (let e = g.3 in let f : z ≡ x + (2 + g.0) = omega arith in f) (go.slots z u)))));
+            let g = slots-are (t.area.strong o.class) x 0 o.n z i in let l = g.1 in
+            no-slot op go x (2 + g.0) o.class tr p whole.1 (omega arith)
+            (subst (λ (y : ℕ). InRound t r y) (let e = g.3 in let f : z ≡ x + (2 + g.0) = omega arith in f) (go.slots z u)))));
       }
 
   pub fail-won : (a : Worker) (s : ℕ) (o : Object) → HasCard t.area s → v.word o.x ≡ plain_word o.class → Before t others k v r (on a s (Pin o)) →
@@ -418,7 +448,8 @@ module _ {t : Start} {others : ℕ → Type 0} {k : ℕ} {v : Words} {r : Round}
       let b : Worker = record a { list = a.list ++ WholeOf o.x ∷ []; passed = put a.passed (size_for o) t.area.blocks; mid = On s (Look o.x) } in
       let v' : Words = record v { word = put v.word o.x (pinned_word o.class) } in
       let one = failed-at a s o (Look o.x) saw n (read-failing t r s o.x o.x n.stands.at.0.seen) in
-      let n' : Before t others k v' one.round b = record { opening = n.opening; going = one.going; claims = one.claims; cards = one.cards; cells = one.cells; stands = one.stands } in
+      let n' : Before t others k v' one.round b =
+      record { opening = n.opening; going = one.going; claims = one.claims; cards = one.cards; cells = one.cells; stands = one.stands } in
       let h = one.stands.at in
       let in-fails : In o.x one.round.fails = subst (λ (l : List ℕ). In o.x l) (sym one.told.2) (in-last o.x o.x r.fails refl) in
       let unmoved = (one.going.failed o.x in-fails).2 in
