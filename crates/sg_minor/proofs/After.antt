@@ -13,7 +13,7 @@ use Rattle.sg_graph.specs.Laws.{QuietPause}
 use Rattle.sg_graph.specs.Invariants.{IsPlain}
 use Rattle.sg_space.specs.declared.objects.Object.{Object}
 use Rattle.sg_graph.specs.Heap.{Owner, Of, Frag, Buf, Nobody, IsHeap, layout_of}
-use Rattle.sg_copy.specs.Area.{Area, IsYoung}
+use Rattle.sg_round.specs.Area.{Area, IsYoung}
 use Rattle.sg_words.specs.Lists.{In, has}
 use Rattle.sg_words.specs.Objects.{size_of}
 use Rattle.sg_words.proofs.Members.{out}

@@ -5,7 +5,7 @@ use Rattle.sg_words.specs.Objects.{size_of, Placed}
 use Rattle.sg_words.proofs.Members.{in-here, in-there}
 use Rattle.sg_graph.specs.Book.{old_end}
 use Rattle.sg_graph.specs.Copies.{AreCopied}
-use Rattle.sg_copy.specs.Order.{Fits}
+use Rattle.sg_round.specs.Order.{Fits}
 use Rattle.sg_minor.proofs.After.{Ended, booked, sizes, at-sent, moved-section, stays-still}
 
 module _ (c : Ended) where

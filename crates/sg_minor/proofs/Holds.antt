@@ -8,7 +8,7 @@ use Rattle.sg_graph.specs.Graph.{Entry, Ref, Int, Inner}
 use Rattle.sg_graph.specs.Book.{Young, Old, nursery_end, word_of}
 use Rattle.sg_words.specs.Sections.{nursery_base, ready_base}
 use Rattle.sg_graph.specs.Heap.{Of, IsHeaded, IsKnown, IsKnownEntry, IsOfSort, Objects, Fields, Globals, Clear, Fragments, IsHeap, layout_of}
-use Rattle.sg_copy.specs.Area.{IsYoung, is_strong}
+use Rattle.sg_round.specs.Area.{IsYoung, is_strong}
 use Rattle.sg_words.specs.Lists.{In}
 use Rattle.sg_words.specs.Objects.{size_of, sent}
 use Rattle.sg_words.proofs.Objects.{sent-at}
