@@ -114,7 +114,7 @@ module _ (c : Ended) where
   }
 
   -- in which order they are copied, and what the blocks are like in the end
-  abbrev IsCopiedBy : Book → List ℕ → (ℕ → BlockWord) → (ℕ → ℕ) → Type 0
+  abbrev pub IsCopiedBy : Book → List ℕ → (ℕ → BlockWord) → (ℕ → ℕ) → Type 0
   IsCopiedBy d names block' used' = AreCopied c.p c.g c.b (booked c) d names × AreBlocksBy c.p c.g (booked c) block' used'
 
   module _ (block' : ℕ → BlockWord) (used' : ℕ → ℕ) where

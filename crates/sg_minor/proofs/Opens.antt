@@ -109,7 +109,7 @@ module _ (p : Program) (w : ℕ → ℕ) (g : Graph) (b : Book) (owner : ℕ →
   ]
 
   -- a slot of the beginning is a field of an object, or lies behind the blocks
-  start-owned : (s : ℕ) → IsStart p g b pins s → ((n : ℕ) × (owner s ≡ Of n)) ⊎ (old_end p ≤ s)
+  pub start-owned : (s : ℕ) → IsStart p g b pins s → ((n : ℕ) × (owner s ≡ Of n)) ⊎ (old_end p ≤ s)
   start-owned s (AtGlobal x l e) = inr (let z = e in omega arith)
   start-owned s (AtField n i d st o l e q) = inl (n, t.laid.objects.owns n s st (let z = q in omega arith) (let z = q in omega arith))
 
