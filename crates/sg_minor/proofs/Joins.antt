@@ -31,7 +31,7 @@ use Rattle.sg_graph.specs.Pause.{IsPinned}
 use Rattle.sg_space.specs.Space.{Contents, IsContents, words_of}
 use Rattle.sg_space.specs.Standing.{word, block_in, used_in}
 use Rattle.sg_space.specs.Changes.{contents_still}
-use Rattle.sg_cards.specs.declared.seeds.Seed.{Seed}
+use Rattle.sg_cards.specs.declared.found.Seed.{Seed}
 use Rattle.sg_cards.specs.Seeds.{AreSeeds}
 use Rattle.sg_round.specs.Area.{Area, IsYoung, is_strong, Traces, card_at}
 use Rattle.sg_round.specs.Image.{IsImage}

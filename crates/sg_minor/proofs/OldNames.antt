@@ -23,7 +23,7 @@ use Rattle.sg_graph.specs.Copies.{StandsOld, AreByAddress}
 use Rattle.sg_graph.specs.Heap.{Owner, Of, Frag, Buf, Nobody, IsHeap, layout_of}
 use Rattle.sg_space.specs.Space.{Contents, IsContents, words_of}
 use Rattle.sg_space.specs.Standing.{word}
-use Rattle.sg_cards.specs.declared.seeds.Seed.{Seed}
+use Rattle.sg_cards.specs.declared.found.Seed.{Seed}
 use Rattle.sg_cards.specs.Seeds.{AreSeeds}
 use Rattle.sg_copy.specs.Copying.{area_of}
 use Rattle.sg_minor.specs.Holding.{IsSpaceOf}

@@ -12,7 +12,7 @@ use Rattle.sg_space.specs.declared.objects.Object.{Object}
 use Rattle.sg_space.specs.Space.{Contents, IsContents}
 use Rattle.sg_space.specs.Standing.{word, IsSoundBy, TellsYoung}
 use Rattle.sg_space.specs.Changes.{IsStill, contents_still}
-use Rattle.sg_cards.specs.declared.seeds.Seed.{Seed}
+use Rattle.sg_cards.specs.declared.found.Seed.{Seed}
 use Rattle.sg_round.specs.Area.{Area}
 use Rattle.sg_copy.specs.Copying.{area_of, CanCopy, HasCopiedTo}
 use Rattle.sg_pins.specs.Pins.{ArePinned}
