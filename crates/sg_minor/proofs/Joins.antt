@@ -50,7 +50,7 @@ use Rattle.sg_minor.proofs.OldNames.{old_names, old_named, are_slots, found_slot
 use Rattle.sg_minor.proofs.Opens.{named, traced-young, opening}
 use Rattle.sg_minor.proofs.Pictures.{picture}
 use Rattle.sg_minor.proofs.Rises.{Rises, rises-append, rises-filter, rises-distinct, strict-rises, distinct-append}
-use Rattle.sg_minor.proofs.Slots.{IsStart, AtGlobal, AtField, AreStarts, starts}
+use Rattle.sg_minor.proofs.Starts.{IsStart, AtGlobal, AtField, AreStarts, starts}
 use Rattle.sg_minor.proofs.Sound.{owner_of, sound_by}
 use Rattle.sg_minor.proofs.Zoned.{zone_in, zone_zero, zoned, blocks_by}
 

@@ -34,7 +34,7 @@ use Rattle.sg_minor.proofs.Named.{young-section, size-at}
 use Rattle.sg_minor.proofs.OldNames.{same_object}
 use Rattle.sg_minor.proofs.Opens.{named, traced-young, start-owned}
 use Rattle.sg_minor.proofs.Quiet.{first-word}
-use Rattle.sg_minor.proofs.Slots.{AreStarts}
+use Rattle.sg_minor.proofs.Starts.{AreStarts}
 use Rattle.sg_minor.proofs.Sound.{owner_of, named_front, is_owned, owns, owns_first, owned, one_owner, length_is, class_is, young_inside, young_there, few_classes, nursery_is, blocks_is}
 
 named_or_free : (o : Owner) → ((n : ℕ) × (o ≡ Of n)) ⊎ ((n : ℕ) → o ≢ Of n)

@@ -5,7 +5,7 @@ use Rattle.sg_space.specs.Standing.{word}
 use Rattle.sg_copy.specs.Copying.{area_of}
 use Rattle.sg_minor.specs.Joined.{global_slots, holds_young}
 use Rattle.sg_minor.proofs.Added.{adds-none, adds-more, global-more}
-use Rattle.sg_minor.proofs.seeds.add_globals.Goals as goal
+use Rattle.sg_minor.proofs.slots.add_globals.Goals as goal
 
 pub loop-x-init : goal.loop-x-init
 loop-x-init c = let s = c.args.space.now in adds-none (holds_young (area_of s) (word s)) (map word_at c.args.slots.now.items)

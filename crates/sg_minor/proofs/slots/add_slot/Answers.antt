@@ -5,7 +5,7 @@ use Rattle.sg_space.specs.Standing.{word}
 use Rattle.sg_copy.specs.Copying.{area_of}
 use Rattle.sg_minor.specs.Joined.{holds_young, is_young_word}
 use Rattle.sg_minor.proofs.Added.{adds-one, adds-not, tests-young}
-use Rattle.sg_minor.proofs.seeds.add_slot.Goals as goal
+use Rattle.sg_minor.proofs.slots.add_slot.Goals as goal
 
 pub returns-in_ok-push : goal.returns-in_ok-push
 returns-in_ok-push c =

@@ -1,7 +1,7 @@
 use Rattle.std.proofs.Common.{◌≡◌, ◌*◌, ◌/◌, arith, ap, ◌∙◌}
 use Rattle.std.proofs.lemmas.Bool.{ltb-true, lt-ltb}
 use Rattle.sg_words.specs.Sections.{old_base}
-use Rattle.sg_minor.proofs.seeds.is_young.Goals as goal
+use Rattle.sg_minor.proofs.slots.is_young.Goals as goal
 
 pub returns-in-Some : goal.returns-in-Some
 returns-in-Some c =
