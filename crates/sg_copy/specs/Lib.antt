@@ -1,5 +1,1 @@
-pub mod Area
-pub mod Round
-pub mod Image
-pub mod Order
 pub mod Copying

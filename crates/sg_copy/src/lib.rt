@@ -1,13 +1,2 @@
-//! The copying of live young objects to the major heap, by one worker.
+//! The copying of live young objects to the slots of the major heap's blocks, by workers over ports; and a round of one worker.
 #![tactic(auto)]
-
-mod copier;
-mod law;
-mod round;
-mod wholes;
-
-pub use law::copier_law;
-pub use round::{Round, copy_from, copy_one};
-
-#[cfg(test)]
-mod tests;
