@@ -2,6 +2,7 @@ ghost use Rattle.std.specs.Prelude.{◌≡◌, ◌+◌, ◌*◌, ◌<◌, ◌≤
 ghost use Rattle.sg_words.specs.Sections.{old_base};
 ghost use Rattle.sg_space.specs.Space.{Contents, cards_in};
 ghost use Rattle.sg_space.specs.Standing.{IsSoundBy};
+ghost use Rattle.sg_cards.specs.Numbering.{cards_from};
 ghost use Rattle.sg_cards.specs.Seeds.{AreSeeds, AreCarded};
 ghost use Rattle.sg_cards.specs.Scanned.{AreSoundWords, AreSeedsTo, card_base};
 
@@ -32,10 +33,8 @@ pub fn seeds<W: Words, L: Ledger>(
         add_block(words, layout, shapes, block, &mut items, steps)?;
     }
     for card in 4 * layout.blocks..cards(layout) {
-        let number = cards_number(layout) + card as u64;
-        if words.word(number, steps) != 0 {
-            add_card(words, layout, shapes, card, &mut items, steps)?;
-        }
+        let word = words.word(cards_number(layout) + card as u64, steps);
+        add_dirty(words, layout, shapes, card, word, &mut items, steps)?;
     }
     Ok(Seeds::of(items))
 }
@@ -55,20 +54,41 @@ fn add_block<W: Words, L: Ledger>(
     ensures { IfOk result (λ _. (s : Contents) → AreSoundWords layout.now shapes.now (W.count words.now) (W.word_of words.now) s → AreCarded s → AreSeedsTo s items.old.items (card_base layout.now (4 * block)) →
         AreSeedsTo s items.new.items (card_base layout.now (4 * (block + 1)))) }
 {
-    let number = cards_number(layout) + 4 * block as u64;
-    let dirty = [
-        words.word(number, steps),
-        words.word(number + 1, steps),
-        words.word(number + 2, steps),
-        words.word(number + 3, steps),
-    ];
-    if dirty[0] | dirty[1] | dirty[2] | dirty[3] == 0 {
+    let card = 4 * block;
+    let number = cards_number(layout) + card as u64;
+    let first = words.word(number, steps);
+    let second = words.word(number + 1, steps);
+    let third = words.word(number + 2, steps);
+    let fourth = words.word(number + 3, steps);
+    if first | second | third | fourth == 0 {
         return Ok(());
     }
-    for k in 0..4 {
-        if dirty[k as usize] != 0 {
-            add_card(words, layout, shapes, 4 * block + k, items, steps)?;
-        }
+    add_dirty(words, layout, shapes, card, first, items, steps)?;
+    add_dirty(words, layout, shapes, card + 1, second, items, steps)?;
+    add_dirty(words, layout, shapes, card + 2, third, items, steps)?;
+    add_dirty(words, layout, shapes, card + 3, fourth, items, steps)?;
+    Ok(())
+}
+
+// Adds the seeds of a card with this word, where it is dirty.
+#[inline]
+fn add_dirty<W: Words, L: Ledger>(
+    words: &W,
+    layout: &Layout,
+    shapes: &[Shape],
+    card: u32,
+    word: u64,
+    items: &mut Vec<Seed>,
+    steps: &mut Steps<L>,
+) -> Result<(), AllocError>
+    requires sound { (s : Contents) × AreSoundWords layout.now shapes.now (W.count words.now) (W.word_of words.now) s × AreCarded s }
+    requires card { card < cards_in layout.now }
+    requires word { word ≡ W.word_of words.now (cards_from layout.now + card) }
+    ensures { IfOk result (λ _. (s : Contents) → AreSoundWords layout.now shapes.now (W.count words.now) (W.word_of words.now) s → AreCarded s → AreSeedsTo s items.old.items (card_base layout.now card) →
+        AreSeedsTo s items.new.items (card_base layout.now (card + 1))) }
+{
+    if word != 0 {
+        add_card(words, layout, shapes, card, items, steps)?;
     }
     Ok(())
 }
