@@ -167,3 +167,18 @@ seed_below s owner sound z q =
     let at = q.field.at in
     let within = q.field.within in
     omega arith
+
+-- over clean cards, by the words f of the space
+module _ (layout : Layout) (shapes : List Shape) (count : ℕ) (f : ℕ → ℕ) (s : Contents) (are : AreSoundWords layout shapes count f s) (carded : AreCarded s) (seeds : List Seed) where
+  pub seeds_over_range : (a k : ℕ) → a + k ≤ cards_in layout → ((c : ℕ) → a ≤ c → c < a + k → f (cards_from layout + c) ≡ 0) → AreSeedsTo s seeds (card_base layout a) → AreSeedsTo s seeds (card_base layout (a + k))
+  seeds_over_range a zero within clean h = subst (λ (n : ℕ). AreSeedsTo s seeds (card_base layout n)) (omega arith) h
+  seeds_over_range a (suc k) within clean h =
+      subst (λ (n : ℕ). AreSeedsTo s seeds (card_base layout n)) (omega arith)
+      (seeds_over layout shapes count f s are carded seeds (a + k) (omega arith) (clean (a + k) (omega arith) (omega arith))
+      (seeds_over_range a k (omega arith) (λ c low high. clean c low (omega arith)) h))
+
+  -- the same to a card that is told
+  pub seeds_on_to : (a b : ℕ) → a ≤ b → b ≤ cards_in layout → ((c : ℕ) → a ≤ c → c < b → f (cards_from layout + c) ≡ 0) → AreSeedsTo s seeds (card_base layout a) → AreSeedsTo s seeds (card_base layout b)
+  seeds_on_to a b up within clean h =
+      let end : a + (b - a) ≡ b = omega arith in
+      subst (λ (n : ℕ). AreSeedsTo s seeds (card_base layout n)) end (seeds_over_range a (b - a) (omega arith) (λ c low high. clean c low (omega arith)) h)

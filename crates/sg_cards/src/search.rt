@@ -9,15 +9,15 @@ ghost use Rattle.sg_cards.specs.Scanned.{AreSoundWords, AreSeedsTo, card_base};
 use crate::found::{Seed, Seeds};
 use crate::scan::{CARD_WORDS, young_in};
 use crate::steps::Steps;
-use crate::words::{Words, cards, cards_number};
+use crate::words::{Words, cards_number, cards_of};
 use sg_desc::Shape;
 use sg_words::{Addr, Layout};
 use std::alloc::{AllocError, Global};
 use std::sync::ledger::Ledger;
 
 /// The strong fields of standing old and large objects that hold young references, by address, each with what it holds. The words are those of a
-/// sound space, and each such field has a dirty card. Reads each card's word once, and of a dirty card's words each at most once, beside at most 5
-/// others.
+/// sound space, and each such field has a dirty card. Reads the words of the cards in the range of the dirty ones, each once, and of a dirty card's
+/// words each at most once, beside at most 5 others.
 pub fn seeds<W: Words, L: Ledger>(
     alloc: Global,
     words: &W,
@@ -29,10 +29,16 @@ pub fn seeds<W: Words, L: Ledger>(
     ensures { IfOk result (λ seeds. (s : Contents) (owner : ℕ → Option ℕ) → AreSoundWords layout.now shapes.now (W.count words.now) (W.word_of words.now) s → AreCarded s → IsSoundBy s owner → AreSeeds s owner seeds) }
 {
     let mut items = Vec::new(alloc);
-    for block in 0..layout.blocks {
+    let cards = cards_of(layout);
+    let (from, to) = words.range_of_dirty(cards_number(layout), cards, steps);
+    let first_block = (from / 4).min(layout.blocks);
+    let end_block = ((to + 3) / 4).min(layout.blocks);
+    for block in first_block..end_block {
         add_block(words, layout, shapes, block, &mut items, steps)?;
     }
-    for card in 4 * layout.blocks..cards(layout) {
+    let first = (4 * layout.blocks).max(from);
+    let end = to.max(first);
+    for card in first..end {
         let word = words.word(cards_number(layout) + card as u64, steps);
         add_dirty(words, layout, shapes, card, word, &mut items, steps)?;
     }
