@@ -1,5 +1,5 @@
 // What a stop does, in steps: the pause, and then the answers to the requests, in order of mutators.
-ghost use Rattle.std.specs.Prelude.{◌≡◌, ℕ, ◌<◌, ◌≤◌, ◌++◌, true, Some, List as Sequence, [], ◌∷◌, length, slice_get, IfOk, MatchOption};
+ghost use Rattle.std.specs.Prelude.{◌≡◌, ℕ, ◌≤◌, ◌++◌, true, Some, List as Sequence, [], ◌∷◌, length, slice_get, IfOk, MatchOption};
 ghost use Rattle.sg_words.specs.Lists.{Pairwise};
 ghost use Rattle.sg_program.specs.declared.program.Program.{Program as AnyProgram};
 ghost use Rattle.sg_graph.specs.Graph.{Graph};
@@ -8,7 +8,6 @@ ghost use Rattle.sg_graph.specs.Invariants.{IsPlain};
 ghost use Rattle.sg_space.specs.Space.{IsContents};
 ghost use Rattle.sg_frag.specs.Plain.{KeepsSections};
 ghost use Rattle.sg_minor.specs.Holding.{HoldsHeap};
-ghost use Rattle.sg_minor.specs.Joined.{AreFound};
 ghost use Rattle.sg_minor.specs.Law.{HasPaused};
 ghost use Rattle.sg_minor.specs.Parts.{HoldsSome};
 ghost use Rattle.sg_actor.specs.State.{Mutating, DropsBuffer};
@@ -18,13 +17,10 @@ ghost use Rattle.sg_world.specs.Stopping.{held_by, held_in, HaveRegisters, IsOpe
 use crate::placing::answer_to;
 use sg_actor::Mutator;
 use sg_graph::{MinorReport, Program, Service};
-use sg_cards::{Seeds, Steps, seeds};
-use sg_minor::{heap_law, minor};
+use sg_minor::{found_in, minor};
 use sg_space::Space;
 use sg_words::List;
 use std::alloc::{AllocError, Global};
-use std::marker::Brand;
-use std::sync::ledger::{Blank, Ledger};
 
 /// The pause of a stop: the stop word is cleared, what no mutator that hasn't ended reaches is dropped, and no mutator has a buffer any
 /// more. Takes the time and the memory of a minor pause, and 80 words for each mutator. Where memory runs out the space is lost.
@@ -49,29 +45,6 @@ pub(crate) fn pause(
     let (space, report) = minor(alloc, space, ambiguous.as_slice(), found)?;
     drop_buffers(mutators);
     Ok((space, report))
-}
-
-/// The seeds of a space that holds a heap. Takes memory for them, and the time of a look at each card and at the words of the dirty ones.
-fn found_in(alloc: Global, space: &Space) -> Result<Seeds, AllocError>
-    requires { HoldsSome space.now }
-    ensures { IfOk result (λ found. AreFound space.now found) }
-{
-    seeds_by::<Brand>(alloc, space, Blank::new(1))
-}
-
-/// The same, counting the steps in this ledger.
-fn seeds_by<L: Ledger>(alloc: Global, space: &Space, blank: Blank) -> Result<Seeds, AllocError>
-    requires some { HoldsSome space.now }
-    requires name { blank.name ≡ L.name }
-    requires parts { blank.parts ≡ L.parts }
-    requires share { 0 < L.parts }
-    ensures { IfOk result (λ found. AreFound space.now found) }
-{
-    // The law that it rests on: this call does nothing.
-    heap_law();
-    let layout = space.layout();
-    let mut steps = Steps::<L>::new(blank);
-    seeds(alloc, space, &layout, space.shapes(), &mut steps)
 }
 
 /// No mutator has a buffer any more.

@@ -5,7 +5,7 @@ use Rattle.sg_space.specs.Space.{Contents, IsContents}
 use Rattle.sg_space.specs.Standing.{IsSoundBy}
 use Rattle.sg_minor.specs.Laws.{HeapLaw, IsSoundHeap}
 use Rattle.sg_minor.specs.Parts.{HoldsSome}
-use Rattle.sg_world.proofs.stop.seeds_by.Goals as goal
+use Rattle.sg_minor.proofs.found.seeds_by.Goals as goal
 
 by_heap : (s : Contents) → HeapLaw → HoldsSome s → IsContents s → IsSoundHeap s
 by_heap s law some contents = law.sound some.0 s some.1 some.2 some.3 contents
