@@ -1,5 +1,5 @@
 -- A round in its midst: lists of steps, one behind another.
-use Rattle.std.proofs.Common.{◌≡◌, ◌≢◌, ℕ, eqb, List, [], ◌∷◌, ◌++◌, inl, inr, refl, ap, sym, ◌∙◌, subst}
+use Rattle.std.proofs.Common.{◌≡◌, ◌≢◌, ℕ, ◌+◌, ◌-◌, ◌≤◌, length, eqb, List, [], ◌∷◌, ◌++◌, inl, inr, refl, ap, sym, ◌∙◌, subst}
 use Rattle.std.proofs.lemmas.Bool.{cases_eq, cond-true, cond-false, eq-eqb, ne_eqb}
 use Rattle.std.proofs.lemmas.List.{append-nil}
 use Rattle.sg_words.specs.declared.steps.Step.{Step}
@@ -7,10 +7,10 @@ use Rattle.sg_words.specs.Words.{Words, after_step, replayed, IsLegal}
 use Rattle.sg_words.proofs.Puts.{put-all}
 use Rattle.sg_round.specs.Area.{Area}
 use Rattle.sg_round.specs.Worker.{Worker}
-use Rattle.sg_round.specs.Rules.{Deed, WorkEvent, steps, part, by_one, Follows}
-use Rattle.sg_round.specs.Laws.{IsSoFar, steps_of, OpensSoFar, GoesSoFar, GoesAlways}
+use Rattle.sg_round.specs.Rules.{Deed, WorkEvent, steps, part, by_one, Follows, moved_by}
+use Rattle.sg_round.specs.Laws.{steps_of, OpensSoFar, GoesSoFar, GoesAlways, BoundedLaw}
 use Rattle.sg_round.proofs.Law.{part-same, part-other, so-far}
-use Rattle.sg_round.proofs.Sanity.{is-sane}
+use Rattle.sg_round.proofs.Sanity.{few-settled, few-handled, is-sane}
 use Rattle.sg_round.proofs.Progress.{goes-on, can-go}
 
 -- the parts of one worker's deeds
@@ -82,3 +82,12 @@ goes_always t v workers so = let x = so-far t v workers so in record {
   goes_on = λ k step a other acts e saw. goes-on so.opening x.world k (workers k) step acts.0 a acts.1 (x.world.stands k).at other e saw;
   can_go = λ k n. can-go so.opening x.world k n;
 }
+
+pub bounded : BoundedLaw
+bounded t v workers so =
+    let x = so-far t v workers so in
+    record {
+      ended = subst (λ (l : List ℕ). length l ≤ t.area.end - t.area.low) x.handled (few-handled so.opening x.world);
+      settled = subst (λ (l : List ℕ). length (moved_by [] so.events) + length l ≤ t.area.high - t.area.low) x.fails
+          (subst (λ (l : List ℕ). length l + length x.world.round.fails ≤ t.area.high - t.area.low) x.moves (few-settled so.opening x.world));
+    }

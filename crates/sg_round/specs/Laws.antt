@@ -1,5 +1,5 @@
 -- The laws of racing copiers.
-use Rattle.std.specs.Prelude.{◌≡◌, ◌≢◌, ℕ, ◌+◌, ◌<◌, ◌≤◌, ◌⊎◌, Bool, true, List, [], ◌∷◌, ◌++◌}
+use Rattle.std.specs.Prelude.{◌-◌, length, ◌≡◌, ◌≢◌, ℕ, ◌+◌, ◌<◌, ◌≤◌, ◌⊎◌, Bool, true, List, [], ◌∷◌, ◌++◌}
 use Rattle.std.specs.Int.{bit_at}
 use Rattle.sg_words.specs.Address.{byte_at}
 use Rattle.sg_words.specs.Lists.{In}
@@ -128,6 +128,14 @@ pub record AreGoing (t : Start) (v : Words) (workers : ℕ → Worker) : Type 0 
 
 abbrev pub GoesAlways : Type 0
 GoesAlways = (t : Start) (v : Words) (workers : ℕ → Worker) → IsSoFar t v workers → AreGoing t v workers
+
+-- No more slots have ended than there are words, and no more objects have moved or failed than the nursery has words.
+pub record IsBounded (t : Start) (es : List WorkEvent) : Type 0 where
+  pub ended : length (ended_by [] es) ≤ t.area.end - t.area.low
+  pub settled : length (moved_by [] es) + length (failed_by [] es) ≤ t.area.high - t.area.low
+
+abbrev pub BoundedLaw : Type 0
+BoundedLaw = (t : Start) (v : Words) (workers : ℕ → Worker) → (so : IsSoFar t v workers) → IsBounded t so.events
 
 -- From one round to the next over the same opening: a claimed place whose words are zero again is given back ..
 abbrev pub Released : Type 0

@@ -1,4 +1,4 @@
-ghost use Rattle.sg_round.specs.Laws.{OpensSoFar, GoesSoFar, RacingLaw, OneWorkerLaw, OneOrderLaw, GoesAlways, Released, MoreItems};
+ghost use Rattle.sg_round.specs.Laws.{OpensSoFar, GoesSoFar, RacingLaw, OneWorkerLaw, OneOrderLaw, GoesAlways, BoundedLaw, Released, MoreItems};
 
 /// A round's opening is its midst before any step.
 pub fn opens_so_far()
@@ -32,6 +32,12 @@ pub fn one_order_of_copies()
 /// one that hasn't ended can take a step.
 pub fn goes_always()
     ensures { GoesAlways }
+{}
+
+/// In the midst of a round no more slots have ended than there are words, and no more objects have moved or failed than the nursery
+/// has words.
+pub fn bounded()
+    ensures { BoundedLaw }
 {}
 
 /// From one round to the next over the same opening: a spare place whose words are zero again is given back.

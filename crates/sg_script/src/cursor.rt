@@ -69,7 +69,9 @@ impl<'a> Cursor<'a> {
         ensures { (s : AnyStatement) (rest : List AnyStatement) → self.old ≡ s ∷ rest → self.new ≡ rest }
     {
         pass(&mut self.frames);
-        settle(&mut self.frames);
+        if !is_settled(self.frames.as_slice()) {
+            settle(&mut self.frames);
+        }
     }
 }
 

@@ -1,7 +1,6 @@
 -- What the sentence worked out from words has to do with the lines of the grammar.
-use Rattle.std.proofs.Common.{◌≡◌, ℕ, ◌<◌, ◌≤◌, true, false, eqb, leb, ltb, ◌&&◌, Option, Some, None, List, [], ◌∷◌, length, get_or, refl, sym, ap, ◌∙◌, inl, inr, arith}
+use Rattle.std.proofs.Common.{◌≡◌, ℕ, suc, ◌-◌, ◌<◌, ◌≤◌, true, false, eqb, leb, ltb, ◌&&◌, Option, Some, None, List, [], ◌∷◌, length, get_or, refl, sym, ap, ◌∙◌, inl, inr, arith}
 use Rattle.std.specs.Prelude.{codes, IsTrue, ◌^◌, IfSome}
-use Rattle.std.specs.Cmp.Lexicographic.{pointwise}
 use Rattle.std.specs.Fmt.{decimal}
 use Rattle.std.specs.Str.Parse.{digits_value}
 use Rattle.std.proofs.lemmas.Bool.{cases_Bool, eq-eqb, eqb-true, ltb-true, leb-true, lt-ltb, le-leb, and_parts}
@@ -18,7 +17,7 @@ use Rattle.sg_text.specs.Words.{IsNumber, IsRegister, is_name, mask_bits}
 use Rattle.sg_text.specs.Lines.{Maker, AsNew, AsVector, AsMature, Sentence, Heads, Sets, Declares, Begins, Repeats, Ends, Makes, Says, setting_name, IsShape, IsMakerLine, IsStatementLine, IsLine}
 use Rattle.sg_text.specs.Steps.{Only}
 use Rattle.sg_text.specs.Sentences.{same, number_of, number_in, up_to_fifteen, register_in, shape_alone, mask_shape, shape_of_two, shape_of_four, class_line, one_word, pause, head, setting_in, on_register, two_words, on_cell, on_two, three_words, link, on_field, four_words, six_words, sentence_in}
-use Rattle.sg_text.proofs.WordLemmas.{own}
+use Rattle.sg_text.proofs.WordLemmas.{own, digit_found}
 
 pub same_self : (u : List ℕ) → same u u ≡ true
 unfolding same
@@ -184,33 +183,39 @@ line_reads words Ends h = rw h refl
 line_reads words (Makes maker r name) h = makes_reads words maker r name h.0 h.1
 line_reads words (Says s) h = says_reads words s h
 
--- what `==` answers of two words
-pub pointwise_same : (u v : List ℕ) → pointwise eqb u v ≡ same u v
-unfolding same
-pointwise_same [] [] = refl
-pointwise_same [] (d ∷ ds) = refl
-pointwise_same (c ∷ cs) [] = refl
-pointwise_same (c ∷ cs) (d ∷ ds) = rw (pointwise_same cs ds) refl
-
--- words of two lengths, words with two first bytes, and empty words
+-- words of two lengths, words with two bytes at one place, and words with one at each
 pub same_lengths : (u v : List ℕ) → (length u ≡ length v → ⊥) → false ≡ same u v
 same_lengths u v differ = elim (cases_Bool (same u v)) [
   | inl e ↦ absurd (differ (ap (λ (l : List ℕ). length l) (same_true u v e)))
   | inr e ↦ sym e
 ]
 
-pub same_fronts : (u v : List ℕ) → length u ≡ length v → (get_or u 0 0 ≡ get_or v 0 0 → ⊥) → eqb (get_or u 0 0) (get_or v 0 0) ≡ same u v
-unfolding same
-same_fronts [] [] long differ = absurd (differ refl)
-same_fronts [] (d ∷ ds) long differ = absurd (omega (arith, long))
-same_fronts (c ∷ cs) [] long differ = absurd (omega (arith, long))
-same_fronts (c ∷ cs) (d ∷ ds) long differ = elim (cases_Bool (eqb c d)) [
-  | inl e ↦ absurd (differ (eqb-true c d e))
-  | inr e ↦ rw e refl
+pub same_not_at : (u v : List ℕ) (k : ℕ) → (get_or u k 0 ≡ get_or v k 0 → ⊥) → false ≡ same u v
+same_not_at u v k differ = elim (cases_Bool (same u v)) [
+  | inl e ↦ absurd (differ (ap (λ (l : List ℕ). get_or l k 0) (same_true u v e)))
+  | inr e ↦ sym e
 ]
 
-pub same_empty : (u v : List ℕ) → length u < 1 → length u ≡ length v → true ≡ same u v
+pub same_throughout : (u v : List ℕ) → length u ≡ length v → ((k : ℕ) → k < length v → get_or u k 0 ≡ get_or v k 0) → true ≡ same u v
 unfolding same
-same_empty [] [] short long = refl
-same_empty [] (d ∷ ds) short long = absurd (omega (arith, long))
-same_empty (c ∷ cs) v short long = absurd (omega (arith, short))
+same_throughout [] [] long each = refl
+same_throughout [] (d ∷ ds) long each = absurd (omega (arith, long))
+same_throughout (c ∷ cs) [] long each = absurd (omega (arith, long))
+same_throughout (c ∷ cs) (d ∷ ds) long each =
+    let first : c ≡ d = each 0 (omega arith) in
+    let rest : true ≡ same cs ds = same_throughout cs ds (omega (arith, long)) (λ k h. each (suc k) (omega (arith, h))) in
+    rw (eq-eqb c d first, ← rest) refl
+
+-- words with a single digit
+pub digit_reads : (word : List ℕ) (d : ℕ) → length word ≡ 1 → 48 ≤ get_or word 0 0 → get_or word 0 0 ≤ 57 → d ≡ get_or word 0 0 - 48 → Some d ≡ number_in word
+digit_reads [] d one low high e = absurd (omega (arith, one))
+digit_reads (c ∷ []) d one low high e = rw e (sym (number_reads (c ∷ []) (c - 48) (digit_found c low high)))
+digit_reads (c ∷ b ∷ cs) d one low high e = absurd (omega (arith, one))
+
+pub register_digit_reads : (word : List ℕ) (d : ℕ) → length word ≡ 2 → get_or word 0 0 ≡ 114 → 48 ≤ get_or word 1 0 → get_or word 1 0 ≤ 57 → d ≡ get_or word 1 0 - 48 → Some d ≡ register_in word
+register_digit_reads [] d two r low high e = absurd (omega (arith, two))
+register_digit_reads (c ∷ []) d two r low high e = absurd (omega (arith, two))
+register_digit_reads (c ∷ b ∷ []) d two r low high e =
+    let spelled : b ∷ [] ≡ decimal (b - 48) = (digit_found b low high).0 in
+    rw e (sym (register_reads (c ∷ b ∷ []) (b - 48) (rw (r, ← spelled) refl, omega arith)))
+register_digit_reads (c ∷ b ∷ a ∷ cs) d two r low high e = absurd (omega (arith, two))

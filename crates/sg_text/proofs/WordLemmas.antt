@@ -5,15 +5,16 @@ use mir.Val.{bool_byte}
 use Rattle.std.proofs.Math.Seq.{drop-cons}
 use Rattle.std.proofs.Math.Nat.{pow-suc}
 use Rattle.std.proofs.Math.Pow.{pow_mono}
-use Rattle.std.proofs.Common.{Option, Some, ◌≡◌, ◌≢◌, ℕ, zero, suc, ◌+◌, ◌*◌, ◌-◌, ◌^◌, ◌<◌, ◌≤◌, Bool, true, false, cond, eqb, List, [], ◌∷◌, length, get_or, drop, Result, Ok, Err, refl, sym, ap, subst, ◌∙◌, arith}
-use Rattle.std.proofs.lemmas.Bool.Decides.{nat_tests}
-use Rattle.std.proofs.lemmas.Grind.{common_steps}
+use Rattle.std.proofs.Common.{Option, Some, ◌≡◌, ◌≢◌, ℕ, zero, suc, ◌+◌, ◌*◌, ◌-◌, ◌^◌, ◌<◌, ◌≤◌, Bool, true, false, cond, eqb, List, [], ◌∷◌, length, get_or, drop, take, Result, Ok, Err, refl, sym, ap, subst, ◌∙◌, arith}
 use Rattle.std.specs.Fmt.{decimal}
-use Rattle.std.specs.Str.Parse.{ParsesUnsigned, digits_value}
+use Rattle.std.specs.Char.{digit_value}
+use Rattle.std.specs.Str.Parse.{AllDigits, ParsesUnsigned, digits_value}
 use Rattle.std.specs.Str.{all_ascii_digits}
 use Rattle.std.specs.Str.{IsUtf8}
-use Rattle.std.proofs.lemmas.Str.{IsUtf8-from_ascii}
-use Rattle.std.proofs.lemmas.Str.Parse.{IsNumeralModel, numerals_by_value, tells_all_ascii_digits, parse_plain}
+use Rattle.std.proofs.lemmas.List.{length-take-le}
+use Rattle.std.proofs.lemmas.Int.Digits.{digits_value_more, digits_more}
+use Rattle.std.proofs.lemmas.Str.{IsUtf8-from_ascii, digit_value_digit}
+use Rattle.std.proofs.lemmas.Str.Parse.{IsNumeralModel, numerals_by_value, tells_digits, tells_all_ascii_digits, digits_value_short, digit_at, parse_plain}
 use Rattle.std.proofs.lemmas.Fmt.{parse-decimal, decimal_injective, IsAscii-decimal, decimal-digits_value, digits_decimal, first_decimal, decimal_digit, decimal_nonempty}
 use Rattle.sg_text.specs.Words.{IsNumber, mask_bits}
 
@@ -98,13 +99,27 @@ digit_found byte low high =
     let same : byte ≡ 48 + (byte - 48) = omega arith in
     (ap (λ (b : ℕ). b ∷ []) same ∙ sym (decimal_digit (byte - 48) (omega arith)), omega arith)
 
-pub digit_only : (byte n : ℕ) → IsNumber (byte ∷ []) n → (48 ≤ byte) × (byte ≤ 57)
-digit_only byte n is = let digits : all_ascii_digits (byte ∷ []) ≡ true = number_has_digits (byte ∷ []) n is in in_range byte digits
-  where
-    in_range : (b : ℕ) → all_ascii_digits (b ∷ []) ≡ true → (48 ≤ b) × (b ≤ 57)
-    in_range b e = grind (arith, nat_tests, common_steps)
+-- digits, and how far they were read
+tested : IsNumeralModel (AllDigits 10) (digits_value 10)
+tested = numerals_by_value (AllDigits 10) tells_digits
 
-pub one_alone : (word : List ℕ) → length word ≡ 1 → get_or word 0 0 ∷ [] ≡ word
-one_alone [] e = absurd (omega (arith, e))
-one_alone (c ∷ []) e = refl
-one_alone (c ∷ d ∷ cs) e = absurd (omega (arith, e))
+pub one_more_digit : (word : List ℕ) (at number d : ℕ) → at < length word → 48 ≤ get_or word at 0 → get_or word at 0 ≤ 57 → d ≡ get_or word at 0 - 48 → AllDigits 10 (take at word) → number ≡ digits_value 10 (take at word) → AllDigits 10 (take (at + 1) word) × (10 * number + d ≡ digits_value 10 (take (at + 1) word))
+one_more_digit word at number d inside low high one digits value =
+    let is : digit_value (get_or word at 0) + 48 ≡ get_or word at 0 = digit_value_digit (get_or word at 0) (low, high) in
+    (digits_more 10 word at inside digits (omega arith), rw (digits_value_more 10 word at inside) (omega arith))
+
+pub digits_below : (word : List ℕ) (at number : ℕ) → at < length word → length word ≤ 19 → AllDigits 10 (take at word) → number ≡ digits_value 10 (take at word) → number < 10 ^ 18
+digits_below word at number inside few digits value =
+    let long : length (take at word) ≡ at = length-take-le at word (omega arith) in
+    let below : digits_value 10 (take at word) < 10 ^ 18 = digits_value_short tested (take at word) 18 digits (omega (arith, long)) in
+    omega arith
+
+pub digits_spell : (word : List ℕ) (number : ℕ) → 0 < length word → length word ≤ 19 → (get_or word 0 0 ≡ 48 → ⊥) → AllDigits 10 word → number ≡ digits_value 10 word → IsNumber word number
+digits_spell word number some few lead digits value =
+    let below : digits_value 10 word < 10 ^ 19 = digits_value_short tested word 19 digits few in
+    let small : digits_value 10 word < 2 ^ 64 = omega arith in
+    let spelled : decimal (digits_value 10 word) ≡ word = decimal-digits_value tested word digits some (λ e. absurd (lead e)) small in
+    rw value (sym spelled, small)
+
+pub number_digit_at : (word : List ℕ) (n at : ℕ) → IsNumber word n → at < length word → (48 ≤ get_or word at 0) × (get_or word at 0 ≤ 57)
+number_digit_at word n at is inside = digit_at word at (own.to word (number_has_digits word n is)) inside

@@ -9,7 +9,7 @@ use crate::line::Line;
 use crate::sentence::line;
 
 /// The most words of a line of the language.
-const MOST_WORDS: usize = 6;
+pub(crate) const MOST_WORDS: usize = 6;
 
 /// What a line says, if it has words, and the bytes behind its line feed, if it has one.
 #[derive(Clone, Copy, Debug, PartialEq, Eq)]
@@ -127,15 +127,18 @@ fn split_line<'a>(bytes: &'a [u8], words: &mut [&'a [u8]; MOST_WORDS]) -> Option
     Some(Split { count, rest: None })
 }
 
-/// What the first line says; `None` where no text has such a line. It goes over the line's bytes once.
-pub(crate) fn hear_line(bytes: &[u8]) -> Option<Heard<'_>>
+/// What the first line says; `None` where no text has such a line. It goes over the line's bytes once. `words` is room for the
+/// line's words, which a caller keeps from line to line: whatever stands in it is of no matter.
+pub(crate) fn hear_line<'a>(
+    bytes: &'a [u8],
+    words: &mut [&'a [u8]; MOST_WORDS],
+) -> Option<Heard<'a>>
     ensures said { IfSome result (λ h. SaysMaybe (first_line bytes.now) h.said) }
     ensures rest { IfSome result (λ h. lines_below bytes.now ≡ lines_left h.rest) }
     ensures shorter { IfSome result (λ h. IfSome h.rest (λ rest. length rest.now < length bytes.now)) }
     ensures none { IfNone result (IsNoLine (first_line bytes.now)) }
 {
-    let mut words: [&[u8]; MOST_WORDS] = [&[]; MOST_WORDS];
-    let split = split_line(bytes, &mut words)?;
+    let split = split_line(bytes, words)?;
     let said = said_by(&words[..split.count])?;
     Some(Heard {
         said,

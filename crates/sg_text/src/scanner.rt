@@ -5,7 +5,7 @@ ghost use Rattle.sg_text.specs.Reading.{sentence_of, IsScan};
 ghost use Rattle.sg_text.specs.Laws.{HaveOneSaying};
 
 use crate::line::Line;
-use crate::lines::hear_line;
+use crate::lines::{MOST_WORDS, hear_line};
 use std::alloc::{AllocError, Global};
 
 /// How far the lines of a text were read. Lines are numbered from 1.
@@ -34,10 +34,11 @@ pub fn scan(alloc: Global, bytes: &[u8]) -> Result<Scanned<'_>, AllocError>
     let mut lines = Vec::new(alloc);
     let mut numbers = Vec::new(alloc);
     let mut number = 0;
+    let mut words: [&[u8]; MOST_WORDS] = [&[]; MOST_WORDS];
     let mut rest = Some(bytes);
     while let Some(from) = rest {
         number += 1;
-        let Some(heard) = hear_line(from) else {
+        let Some(heard) = hear_line(from, &mut words) else {
             let extent = Extent::Above { wrong: number };
             return Ok(Scanned {
                 lines,

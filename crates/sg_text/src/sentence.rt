@@ -8,26 +8,20 @@ use crate::line::{Cell, Form, Line, Maker, Setting};
 use crate::words::{is_mask, is_name, number, register};
 use sg_program::Statement;
 
-/// Whether the words are the same, worked out byte by byte.
-#[inline(never)]
-fn are_same(word: &[u8], text: &[u8]) -> bool
-    ensures { result ≡ same word.now text.now }
-{
-    word == text
-}
-
-/// Whether the words are the same: most that differ do so in their lengths or their first bytes.
-#[inline]
+/// Whether the words are the same, byte by byte: with a keyword as `text` its length and its bytes become constants.
+#[inline(always)]
 fn says(word: &[u8], text: &[u8]) -> bool
     ensures { result ≡ same word.now text.now }
 {
     if word.len() != text.len() {
         return false;
     }
-    match (word, text) {
-        ([first, ..], [wanted, ..]) => *first == *wanted && are_same(word, text),
-        _ => true,
+    for (at, byte) in text.iter().enumerate() {
+        if word[at] != *byte {
+            return false;
+        }
     }
+    true
 }
 
 /// A register and a number.

@@ -1,13 +1,19 @@
 // What lines say, and the sentences of a text with their numbers.
 use crate::line::{Cell, Form, Line, Maker, Setting};
-use crate::lines::hear_line;
+use crate::lines::{Heard, MOST_WORDS, hear_line};
 use crate::scanner::{Extent, scan};
 use sg_program::Statement;
 use std::test::Fail;
 
+/// What a line says; nothing where no text has it.
+fn heard(text: &str) -> Option<Heard<'_>> {
+    let mut words: [&[u8]; MOST_WORDS] = [&[]; MOST_WORDS];
+    hear_line(text.as_bytes(), &mut words)
+}
+
 /// What a line says; nothing where it has no words, or where no text has it.
 fn said(text: &str) -> Option<Line<'_>> {
-    hear_line(text.as_bytes())?.said
+    heard(text)?.said
 }
 
 #[test]
@@ -247,7 +253,7 @@ fn wrong_lines_are_told(rt: HostRuntime) {
         "drop r1 \x7f",
     ];
     for text in wrong {
-        assert!(rt; hear_line(text.as_bytes()).is_none(), "at {text}");
+        assert!(rt; heard(text).is_none(), "at {text}");
     }
 }
 

@@ -1,9 +1,12 @@
 //! What single words mean.
-ghost use Rattle.std.specs.Prelude.{◌≡◌, ◌<◌, ◌^◌, ℕ, [], ◌∷◌, length, IfSome, Some};
+ghost use Rattle.std.specs.Prelude.{◌≡◌, ◌≢◌, ◌<◌, ◌≤◌, ◌^◌, length, IfSome, slice_index};
 ghost use Rattle.std.specs.List.{list_all};
 ghost use Rattle.sg_text.specs.Words.{IsNumber, IsRegister, is_letter, is_name_byte, is_name, is_mask_byte, mask_bits};
 ghost use Rattle.sg_text.specs.Steps.{Only};
 ghost use Rattle.sg_text.specs.Sentences.{number_in, register_in};
+
+/// So many digits spell a number below 2 ^ 64, whichever they are.
+const MOST_DIGITS: usize = 19;
 
 /// The number that the word spells.
 #[inline(never)]
@@ -26,40 +29,49 @@ fn spelled(word: &[u8]) -> Option<u64>
     }
 }
 
-/// The number that a single byte spells.
-#[inline]
-fn digit(byte: u8) -> Option<u64>
-    ensures found { IfSome result (IsNumber (byte ∷ [])) }
-    ensures only { Only (IsNumber (byte ∷ [])) result }
+/// The number that the word spells, digit by digit: it has too few of them to reach 2 ^ 64.
+#[inline(never)]
+fn few_digits(word: &[u8]) -> Option<u64>
+    requires some { 0 < length word.now }
+    requires few { length word.now ≤ 19 }
+    requires lead { slice_index word.now 0 ≢ 48 }
+    ensures found { IfSome result (IsNumber word.now) }
+    ensures only { Only (IsNumber word.now) result }
 {
-    if byte < b'0' {
-        return None;
+    let mut number: u64 = 0;
+    for at in 0..word.len() {
+        let byte = word[at];
+        if byte < b'0' {
+            return None;
+        }
+        if byte > b'9' {
+            return None;
+        }
+        number = 10 * number + u64::from(byte - b'0');
     }
-    if byte > b'9' {
-        return None;
-    }
-    Some(u64::from(byte - b'0'))
+    Some(number)
 }
 
-/// The number that the word spells: most numbers of a text are single digits.
-#[inline]
-fn spelled_fast(word: &[u8]) -> Option<u64>
+/// The number that the word spells, by the way that fits its length.
+#[inline(never)]
+fn spelled_by_length(word: &[u8]) -> Option<u64>
     ensures found { IfSome result (IsNumber word.now) }
     ensures only { Only (IsNumber word.now) result }
 {
     match word {
-        [byte] => digit(*byte),
+        [first, ..] if *first != b'0' && word.len() <= MOST_DIGITS => few_digits(word),
         _ => spelled(word),
     }
 }
 
 /// The register that the word names.
+#[inline(never)]
 fn named(word: &[u8]) -> Option<u8>
     ensures found { IfSome result (IsRegister word.now) }
     ensures only { Only (IsRegister word.now) result }
 {
     match word {
-        [b'r', digits @ ..] => match spelled_fast(digits) {
+        [b'r', digits @ ..] => match spelled_by_length(digits) {
             Some(found) if found <= 15 => Some(found as u8),
             _ => None,
         },
@@ -67,18 +79,26 @@ fn named(word: &[u8]) -> Option<u8>
     }
 }
 
-/// The number that the word spells.
+/// The number that the word spells: most numbers of a text are single digits.
+#[inline(always)]
 pub(crate) fn number(word: &[u8]) -> Option<u64>
     ensures { result ≡ number_in word.now }
 {
-    spelled_fast(word)
+    match word {
+        [byte] if byte.is_ascii_digit() => Some(u64::from(*byte - b'0')),
+        _ => spelled_by_length(word),
+    }
 }
 
-/// The register that the word names.
+/// The register that the word names: most have a single digit.
+#[inline(always)]
 pub(crate) fn register(word: &[u8]) -> Option<u8>
     ensures { result ≡ register_in word.now }
 {
-    named(word)
+    match word {
+        [b'r', byte] if byte.is_ascii_digit() => Some(*byte - b'0'),
+        _ => named(word),
+    }
 }
 
 fn is_letter(byte: u8) -> bool

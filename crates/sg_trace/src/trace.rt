@@ -153,6 +153,7 @@ fn write_back(line: &mut [u8; LINE], end: usize, number: u64, byte: u8) -> usize
     write_digits(number, line, end - 1)
 }
 
+#[inline(always)]
 fn append_answer(out: &mut Vec<u8>, answer: Answer) -> Result<(), AllocError>
     ensures front { IfErr result (λ _. StartsWith out.new.items out.old.items) }
     ensures appended { IfOk result (λ _. out.new.items ≡ out.old.items ++ answer_text answer) }

@@ -1,11 +1,12 @@
-use Rattle.sg_text.proofs.SentenceLemmas.{same_lengths, same_fronts, same_empty}
+use Rattle.std.proofs.Common.{arith}
+use Rattle.sg_text.proofs.SentenceLemmas.{same_lengths, same_not_at, same_throughout}
 use Rattle.sg_text.proofs.sentence.says.Goals as goal
 
 pub returns-then-word-text : goal.returns-then-word-text
 returns-then-word-text c = same_lengths c.args.word.now c.args.text.now c.if-word-text.true
 
-pub returns-else-first-wanted : goal.returns-else-first-wanted
-returns-else-first-wanted c = same_fronts c.args.word.now c.args.text.now c.if-word-text.false c.if-first-wanted.false
+pub returns-then-word-at : goal.returns-then-word-at
+returns-then-word-at c = same_not_at c.args.word.now c.args.text.now c.loop-at.at c.if-word-at.true
 
-pub returns-in_default : goal.returns-in_default
-returns-in_default c = same_empty c.args.word.now c.args.text.now c.in_default.len_below c.if-word-text.false
+pub returns : goal.returns
+returns c = same_throughout c.args.word.now c.args.text.now c.if-word-text.false (λ k h. c.loop-at.invariant k (omega arith))
