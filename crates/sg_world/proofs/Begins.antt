@@ -22,6 +22,8 @@ use Rattle.sg_graph.specs.Heap.{layout_of as sections_in}
 use Rattle.sg_graph.specs.Follows.{whole_schedule}
 use Rattle.sg_graph.specs.Follows.FollowsTo.{Begins}
 use Rattle.sg_space.specs.Space.{Contents, words_of, AreShapes, IsContents, clear_space}
+use Rattle.sg_words.specs.declared.steps.BlockWord.TheVariants.{Free, Swept}
+use Rattle.sg_space.specs.Standing.{block_in}
 use Rattle.sg_rules.specs.Rules.{Actor, fresh}
 use Rattle.sg_order.specs.Rest.{IsEpochOpening}
 use Rattle.sg_order.specs.Opening.{FirstOpening, AreFirstConstants, AreFirstWords}
@@ -67,8 +69,19 @@ clear_word zero x = refl
 clear_word (suc n) zero = refl
 clear_word (suc n) (suc x) = clear_word n x
 
+clear_block : (n c : ℕ) → get_or (replicate n Free) c Free ≡ Free
+clear_block zero c = refl
+clear_block (suc n) zero = refl
+clear_block (suc n) (suc c) = clear_block n c
+
 first_words : (s : Contents) (shapes : List Shape) (sections : Layout) → s ≡ clear_space sections shapes → AreFirstWords (words_of s)
-first_words s shapes sections e = subst (λ t. AreFirstWords (words_of t)) (sym e) (record { stop = refl; next = refl; word = clear_word (words_end sections) })
+first_words s shapes sections e = subst (λ t. AreFirstWords (words_of t)) (sym e) (record {
+  stop = refl;
+  next = refl;
+  word = clear_word (words_end sections);
+  block = clear_block sections.blocks;
+  used = clear_word sections.blocks;
+})
 
 first_constants : (p : Program) (s : Contents) (shapes : List Shape) → s ≡ clear_space (sections_in p) shapes → AreFirstConstants p (constants_of s)
 first_constants p s shapes e = subst (λ t. AreFirstConstants p (constants_of t)) (sym e) (record { fragments = refl; limit = omega arith })
@@ -130,8 +143,18 @@ module _ (law : FirstOpening) (p : Program) (can : CanRun p) (shapes : List Shap
         next = λ f l. let z : f ≡ 0 = omega arith in ap (λ (s : Contents). get_or s.next f 0) space ∙ ap (λ i. get_or (byte_at nursery_base ∷ []) i 0) z;
         limit = λ f l. let z : f ≡ 0 = omega arith in ap (λ (s : Contents). get_or s.ends f 0) space
             ∙ ap (λ i. get_or (byte_at (old_base (sections_in p)) ∷ []) i 0) z;
+        fits = λ c z i there e set.
+            let free : block_in s c ≡ Free = ap (λ (s : Contents). block_in s c) space ∙ clear_block p.config.blocks c in
+            absurd (let k : Free ≡ Swept z = sym free ∙ e in cc k);
+        unmarked = λ c. ap (λ (s : Contents). get_or s.marks c 0) space ∙ clear_word p.config.blocks c;
+        unowed = λ c there. refl;
+        pages = λ j. ap (λ (s : Contents). get_or s.pages j 0) space ∙ clear_word p.config.pages j;
+        head = ap (λ (s : Contents). s.head) space;
+        made = ap (λ (s : Contents). s.made) space;
+        registered = ap (λ (s : Contents). s.registered) space;
+        pairs = ap (λ (s : Contents). s.pairs) space;
       },
-      (begun.held.owner, begun.held.heap),
+      (begun.held.owner, begun.held.heap, begun.held.settled),
     );
     few = omega arith;
   }

@@ -168,7 +168,7 @@ module _ (keeps : KeepsPointedInto) (stays : StaysReady) (serves : ServesReady) 
       (λ m o d. sym (ap (asked_of o) d.stage ∙ asked_by_stage m o d.same.number d.same.first (ap (λ (a : Actor). a.told) d.actor) m.stage)) world.mutators os
       dropped)
 
-  module _ (services : List Service) (u : Contents) (ns : List Mutating) (go : GoOn p v os services u ns) (kept : KeepsSections v u)
+  module _ (services : List Service) (u : Contents) (ns : List Mutating) (go : GoOn p v os services u ns) (kept : KeepsSections v u) (fresh_contents : IsContents u)
       (stopped : u.stop ≡ 0) where
     all : HaveGoneOn p t.graph paused.book 0 os services u ns
     all = all_go serves makes p t.graph paused.book 0 v u os ns services go (record { contents = contents; plain = t.plain; heap = paused.heap })
@@ -275,7 +275,7 @@ module _ (keeps : KeepsPointedInto) (stays : StaysReady) (serves : ServesReady) 
         between : IsBetween p turns (phases ++ Epoch report order swept ∷ Stop (record { number = world.number; minor = Some minor; served = services }) ∷ [])
             (record { program = world.program; space = u; mutators = ns; number = world.number + 1 }) schedule
         between = record {
-          of = record { can = t.of.can; program = t.of.program; are = are; contents = contents_stay v u kept contents; counted = counted; numbered = numbered };
+          of = record { can = t.of.can; program = t.of.program; are = are; contents = fresh_contents; counted = counted; numbered = numbered };
           graph = all.graph;
           book = all.book;
           follows = subst (λ k. FollowsTo p turns k
@@ -293,7 +293,7 @@ module _ (keeps : KeepsPointedInto) (stays : StaysReady) (serves : ServesReady) 
               going = stopped;
               untold = each_actor (λ k a. a.told ≡ []) (λ k n e. (now k n e).untold) (λ k l. refl);
             };
-            space = record { contents = contents_stay v u kept contents; layout = all.holding.heap.0.layout };
+            space = record { contents = fresh_contents; layout = all.holding.heap.0.layout };
             are = are;
             stages = λ k n e. (now k n e).stage;
             going = λ ended. t.going (λ k l. sym (all.ended k) ∙ ended k l);

@@ -1,5 +1,5 @@
 -- The space of a world and the heap that it holds.
-use Rattle.std.proofs.Common.{◌≡◌, ℕ, ◌<◌, ◌≤◌, List, length, get_or, true, inl, inr, ap, sym, ◌∙◌, subst, arith}
+use Rattle.std.proofs.Common.{◌≡◌, ℕ, ◌+◌, ◌<◌, ◌≤◌, List, length, get_or, Bool, true, false, inl, inr, refl, ap, sym, ◌∙◌, subst, arith}
 use Rattle.sg_words.specs.Address.{word_at}
 use Rattle.sg_words.specs.Sections.{IsLayout, words_end, nursery_base}
 use Rattle.sg_words.specs.declared.layout.Layout.{Layout as Sections}
@@ -7,11 +7,18 @@ use Rattle.sg_program.specs.declared.program.Program.{Program}
 use Rattle.sg_graph.specs.Graph.{Mutator, Graph}
 use Rattle.sg_graph.specs.Book.{Book}
 use Rattle.sg_graph.specs.Invariants.{IsPlain}
+use Rattle.std.specs.Int.{bit_at}
+use Rattle.std.proofs.lemmas.Bool.{cases_Bool, false≢true}
+use Rattle.sg_words.specs.Blocks.{IsOwing}
+use Rattle.sg_words.specs.declared.steps.BlockWord.{BlockWord}
+use Rattle.sg_words.specs.declared.steps.BlockWord.TheVariants.{Need}
 use Rattle.sg_minor.specs.Holding.{HoldsHeap}
-use Rattle.sg_space.specs.Space.{Contents, words_of, AreShapes, IsContents}
+use Rattle.sg_minor.specs.Parts.{HoldsSome}
+use Rattle.sg_space.specs.Space.{Contents, words_of, AreShapes, IsContents, cards_in}
+use Rattle.sg_space.specs.Standing.{block_in, used_in}
 use Rattle.sg_frag.specs.Plain.{KeepsSections}
 use Rattle.sg_order.specs.Rest.{IsHeld}
-use Rattle.sg_mutate.specs.Epochs.{constants_of}
+use Rattle.sg_mutate.specs.Epochs.{constants_of, LeavesBlocks}
 use Rattle.sg_world.specs.Placing.{EndsInside, HasByteAddresses}
 
 pub keeps_then : (s t u : Contents) → KeepsSections s t → KeepsSections t u → KeepsSections s u
@@ -21,15 +28,31 @@ keeps_then s t u f g = record {
   ends = g.ends ∙ f.ends;
   next = g.next ∙ f.next;
   words = g.words ∙ f.words;
+  blocks = g.blocks ∙ f.blocks;
+  used = g.used ∙ f.used;
+  cards = g.cards ∙ f.cards;
+  marks = g.marks ∙ f.marks;
+  pages = g.pages ∙ f.pages;
+  made = g.made ∙ f.made;
+  registered = g.registered ∙ f.registered;
+  pairs = g.pairs ∙ f.pairs;
 }
 
-pub contents_stay : (s t : Contents) → KeepsSections s t → IsContents s → IsContents t
-contents_stay s t keeps c = record {
+pub contents_stay : (s t : Contents) → KeepsSections s t → t.cards ≡ s.cards → IsContents s → IsContents t
+contents_stay s t keeps cards c = record {
   layout = subst IsLayout (sym keeps.layout) c.layout;
   shapes = subst AreShapes (sym keeps.shapes) c.shapes;
   words = keeps.words ∙ c.words ∙ ap words_end (sym keeps.layout);
   fragments = keeps.next ∙ c.fragments ∙ ap length (sym keeps.ends);
   few = omega (arith, c.few, ap length keeps.ends);
+  blocks = keeps.blocks ∙ c.blocks ∙ ap (λ (l : Sections). l.blocks) (sym keeps.layout);
+  used = keeps.used ∙ c.used ∙ ap (λ (l : Sections). l.blocks) (sym keeps.layout);
+  marks = ap length keeps.marks ∙ c.marks ∙ ap (λ (l : Sections). l.blocks) (sym keeps.layout);
+  cards = keeps.cards ∙ c.cards ∙ ap cards_in (sym keeps.layout);
+  bits = λ j. let same = ap (λ (cards : List ℕ). get_or cards j 0) cards in let bit = c.bits j in omega arith;
+  pages = ap length keeps.pages ∙ c.pages ∙ ap (λ (l : Sections). l.pages) (sym keeps.layout);
+  made = let same = keeps.made in let most = c.made in omega arith;
+  registered = let same = ap length keeps.registered in let most = c.registered in omega arith;
 }
 
 pub constants_stay : (s t : Contents) → KeepsSections s t → constants_of t ≡ constants_of s
@@ -40,16 +63,20 @@ pub held_of_heap : (p : Program) (s : Contents) (g : Graph) (b : Book) → IsPla
 held_of_heap p s g b plain holds = record {
   owner = holds.1.0;
   heap = holds.1.1;
+  settled = holds.1.2;
   plain = plain;
   number = holds.0.fragments;
   limits = λ f l. omega (arith, holds.0.limit f l);
   nexts = holds.0.next;
 }
 
+need_owed : (state : BlockWord) (z : ℕ) (owed : Bool) → state ≡ Need z → ((y : ℕ) → IsOwing state y → owed ≡ true) → owed ≡ false → ⊥
+need_owed state z owed e owing not = false≢true (sym not ∙ owing z (subst (λ (w : BlockWord). IsOwing w z) (sym e) refl))
+
 -- and as it ends, the space holds the graph that the words then hold
-pub heap_of_held : (p : Program) (s t : Contents) (g h : Graph) (b c : Book) → KeepsSections s t → HoldsHeap p s g b →
+pub heap_of_held : (p : Program) (s t : Contents) (g h : Graph) (b c : Book) → KeepsSections s t → LeavesBlocks s t → HoldsHeap p s g b →
     IsHeld p (constants_of t) (words_of t) h c → HoldsHeap p t h c
-heap_of_held p s t g h b c keeps holds held = (
+heap_of_held p s t g h b c keeps leaves holds held = (
   record {
     layout = keeps.layout ∙ holds.0.layout;
     shapes = keeps.shapes ∙ holds.0.shapes;
@@ -59,9 +86,27 @@ heap_of_held p s t g h b c keeps holds held = (
     limit = λ f l.
         let there : f < b.fragments = omega (arith, held.number, holds.0.fragments, ap length keeps.ends) in
         omega (arith, held.limits f l, holds.0.limit f there, ap (λ (ends : List ℕ). get_or ends f 0) keeps.ends);
+    fits = λ j z i there state set. holds.0.fits j z i there (sym (block_same j) ∙ state) (ap (λ (u : ℕ). bit_at u i) (sym (used_same j)) ∙ set);
+    unmarked = λ j. ap (λ (marks : List ℕ). get_or marks j 0) keeps.marks ∙ holds.0.unmarked j;
+    unowed = λ j there. elim (cases_Bool (c.owed j)) [
+      | inr no_debt ↦ no_debt
+      | inl debt ↦ let need = held.settled.owes j there debt in
+          absurd (need_owed (block_in s j) need.0 (b.owed j) (sym (block_same j) ∙ need.1) (holds.1.2.blocks.each j there).owing (holds.0.unowed j there))
+    ];
+    pages = λ j. ap (λ (pages : List ℕ). get_or pages j 0) keeps.pages ∙ holds.0.pages j;
+    head = leaves.head ∙ holds.0.head;
+    made = keeps.made ∙ holds.0.made;
+    registered = keeps.registered ∙ holds.0.registered;
+    pairs = keeps.pairs ∙ holds.0.pairs;
   },
-  (held.owner, held.heap),
+  (held.owner, held.heap, held.settled),
 )
+  where
+    block_same : (j : ℕ) → block_in t j ≡ block_in s j
+    block_same j = ap (λ (f : ℕ → BlockWord). f j) leaves.block
+
+    used_same : (j : ℕ) → used_in t j ≡ used_in s j
+    used_same j = ap (λ (f : ℕ → ℕ). f j) leaves.used
 
 -- its fragments end in the nursery, and begin at words of it
 pub ends_of_heap : (p : Program) (s : Contents) (g : Graph) (b : Book) → HoldsHeap p s g b → EndsInside s
@@ -95,15 +140,44 @@ heap_on p s g b mutator holds = let laid = holds.1.1.laid in (
       };
       headed = holds.1.1.headed;
     },
+    record {
+      blocks = holds.1.2.blocks;
+      settled = holds.1.2.settled;
+      inhabited = holds.1.2.inhabited;
+      owes = holds.1.2.owes;
+      cards = record { dirty = holds.1.2.cards.dirty };
+    },
   ),
 )
 
 -- the stop word is no part of the heap
 pub heap_stays : (p : Program) (s t : Contents) (g : Graph) (b : Book) (word : ℕ) → t ≡ record s { stop = word } → HoldsHeap p s g b → HoldsHeap p t g b
 heap_stays p s t g b word e holds = subst (λ u. HoldsHeap p u g b) (sym e) (
-  record { layout = holds.0.layout; shapes = holds.0.shapes; fragments = holds.0.fragments; same = holds.0.same; next = holds.0.next; limit = holds.0.limit },
-  (holds.1.0, holds.1.1),
+  record {
+    layout = holds.0.layout;
+    shapes = holds.0.shapes;
+    fragments = holds.0.fragments;
+    same = holds.0.same;
+    next = holds.0.next;
+    limit = holds.0.limit;
+    fits = holds.0.fits;
+    unmarked = holds.0.unmarked;
+    unowed = holds.0.unowed;
+    pages = holds.0.pages;
+    head = holds.0.head;
+    made = holds.0.made;
+    registered = holds.0.registered;
+    pairs = holds.0.pairs;
+  },
+  (
+    holds.1.0,
+    holds.1.1,
+    record { blocks = holds.1.2.blocks; settled = holds.1.2.settled; inhabited = holds.1.2.inhabited; owes = holds.1.2.owes; cards = holds.1.2.cards },
+  ),
 )
+
+pub some_stays : (s t : Contents) (word : ℕ) → t ≡ record s { stop = word } → HoldsSome s → HoldsSome t
+some_stays s t word e some = (some.0, some.1, some.2, heap_stays some.0 s t some.1 some.2 word e some.3, some.4)
 
 -- a standing object with a name has an address in the heap
 pub high : (p : Program) (s : Contents) (g : Graph) (b : Book) → HoldsHeap p s g b → (n : ℕ) → 1 ≤ n → b.stands n ≡ true → nursery_base ≤ b.address n

@@ -17,7 +17,7 @@ ghost use Rattle.sg_world.specs.Stopping.{held_by, held_in, HaveRegisters, IsOpe
 use crate::placing::answer_to;
 use sg_actor::Mutator;
 use sg_graph::{MinorReport, Program, Service};
-use sg_minor::minor;
+use sg_minor::{found_in, minor};
 use sg_space::Space;
 use sg_words::List;
 use std::alloc::{AllocError, Global};
@@ -41,7 +41,8 @@ pub(crate) fn pause(
     let ambiguous = ambiguous(alloc, mutators)?;
     let mut space = space;
     space.set_stopping(false);
-    let (space, report) = minor(alloc, space, ambiguous.as_slice())?;
+    let found = found_in(alloc, &space)?;
+    let (space, report) = minor(alloc, space, ambiguous.as_slice(), found)?;
     drop_buffers(mutators);
     Ok((space, report))
 }
@@ -93,6 +94,7 @@ pub(crate) fn serve_all(
     requires few { length program.now.classes ≤ 256 }
     requires may { (k : ℕ) (m : Mutating) → slice_get mutators.old k ≡ Some m → MayGoOn program.now m }
     ensures served { IfOk result (λ services. GoOn program.now space.old mutators.old services space.new mutators.new) }
+    ensures contents { IfOk result (λ _. IsContents space.new) }
     ensures keeps { KeepsSections space.old space.new }
     ensures stop { space.new.stop ≡ space.old.stop }
 {

@@ -83,6 +83,7 @@ impl<'a> World<'a> {
         held_whoever();
         let ran = going(alloc, self.mutators.as_slice())?;
         let end = epoch(alloc, self.space, self.mutators, order)?;
+        let _layout = end.space.layout();
         let report = epoch_report(alloc, self.number, ran.as_slice(), end.mutators.as_slice())?;
         let world = World {
             program: self.program,

@@ -15,7 +15,21 @@ loop-k-init c = record {
       (Nobody c.args.space.now);
   rest = refl;
   still = c.requires.open;
-  keeps = record { layout = refl; shapes = refl; ends = refl; next = refl; words = refl };
+  keeps = record {
+    layout = refl;
+    shapes = refl;
+    ends = refl;
+    next = refl;
+    words = refl;
+    blocks = refl;
+    used = refl;
+    cards = refl;
+    marks = refl;
+    pages = refl;
+    made = refl;
+    registered = refl;
+    pairs = refl;
+  };
   stop = refl;
 }
 
