@@ -1,2 +1,4 @@
 pub mod Copying
+pub mod Telling
+pub mod State
 pub mod Plain

@@ -1,22 +1,24 @@
 use crate::gray::Gray;
 use sg_desc::{Descriptor, Shape};
 use sg_space::Space;
-use sg_words::{Addr, FIRST_WORD, Layout, Move};
+use sg_words::{Addr, Layout, Move};
 use std::alloc::{AllocError, Global};
 
-/// A slot in hand, and the plain young object to which it refers, as it was read: its class, and how many fields it has.
+/// A slot in hand, and the plain young object to which it refers, as it was read. Words are given by their numbers.
 #[derive(Clone, Copy)]
 pub struct Job {
-    pub slot: Addr,
-    pub from: Addr,
+    /// The slot.
+    pub slot: u64,
+    /// The object's first word.
+    pub from: u64,
     pub class: u16,
     pub fields: u32,
 }
 
-/// The object in hand, whose strong fields from this one on are still to be gone through.
+/// The object in hand, by the number of its first word: its strong fields from the field `from` on are still to be gone through.
 #[derive(Clone, Copy)]
 pub struct Hand {
-    pub at: Addr,
+    pub at: u64,
     pub kind: Descriptor,
     pub from: u32,
     pub fields: u32,
@@ -31,11 +33,11 @@ pub enum Stage {
     Taking { job: Job, block: u32 },
     /// The claim of this slot of this block for the job's object.
     Claiming { job: Job, block: u32, slot: u32 },
-    /// That of the object's first word, which tells that it was copied to this address.
-    Forwarding { job: Job, to: Addr },
+    /// That of the object's first word, which tells that its copy is at the word `to`.
+    Forwarding { job: Job, to: u64 },
     /// That of the object's first word, which pins it, since no slot is left for it.
     Pinning { job: Job },
-    /// The taking of this item from the cell that comes in this place among those at which the worker looks.
+    /// The taking of this item from the cell in this place among those at which the worker looks.
     Grabbing { cell: u32, item: Gray },
     /// Nothing is left to do.
     Ended,
@@ -54,7 +56,7 @@ pub struct Copier {
     pub(crate) items: Vec<Gray>,
     pub(crate) taken: usize,
     pub(crate) hand: Hand,
-    // For each slot size the byte address of a claimed slot that it has to spare, or 0.
+    // For each slot size the first word of a claimed slot that it has to spare, or 0.
     pub(crate) spares: [u64; 65],
     // For each slot size how many of the lowest blocks can't take it.
     pub(crate) passed: [u32; 65],
@@ -85,7 +87,7 @@ impl Copier {
             items: Vec::with_capacity(alloc, most + room)?,
             taken: 0,
             hand: Hand {
-                at: Addr::at_word(FIRST_WORD),
+                at: 0,
                 kind: Descriptor::PtrFree,
                 from: 0,
                 fields: 0,
@@ -128,15 +130,31 @@ impl Copier {
     }
 
     /// The next slot of the object in hand.
-    pub(crate) fn next_slot(&mut self) -> Option<Addr>
+    pub(crate) fn next_slot(&mut self) -> Option<u64>
     {
-        let hand = self.hand;
-        let i = hand.kind.next_strong(hand.from, hand.fields);
-        if i == hand.fields {
+        let i = self.hand.kind.next_strong(self.hand.from, self.hand.fields);
+        if i == self.hand.fields {
             self.hand.from = i;
             return None;
         }
         self.hand.from = i + 1;
-        Some(hand.at.plus(2 + i))
+        Some(self.hand.at + 2 + i as u64)
+    }
+
+    /// The object has moved, and its copy is an item. It takes no memory.
+    pub(crate) fn tell_move(&mut self, from: u64, to: u64)
+    {
+        self.moves.push(Move {
+            from: Addr::at_word(from),
+            to: Addr::at_word(to),
+        }).unwrap();
+        self.items.push(Gray::Whole { at: Addr::at_word(to) }).unwrap();
+    }
+
+    /// The object has failed, and is an item. It takes no memory.
+    pub(crate) fn tell_fail(&mut self, at: u64)
+    {
+        self.fails.push(Addr::at_word(at)).unwrap();
+        self.items.push(Gray::Whole { at: Addr::at_word(at) }).unwrap();
     }
 }

@@ -3,7 +3,6 @@ use crate::copier::{Copier, Hand, Stage};
 use crate::gray::Gray;
 use crate::port::CopyPort;
 use sg_desc::{Descriptor, Shape};
-use sg_words::Addr;
 
 impl Copier {
     /// One turn: makes a prepared exchange and goes on; or else takes the next item, and goes through it, up to its end or to right before an
@@ -45,16 +44,16 @@ impl Copier {
     fn go_through<P: CopyPort>(&mut self, port: &mut P, item: Gray)
     {
         match item {
-            Gray::Slot { at } => self.visit(port, at),
-            Gray::Whole { at } => self.open(port, at),
+            Gray::Slot { at } => self.visit(port, at.word()),
+            Gray::Whole { at } => self.open(port, at.word()),
         }
     }
 
-    /// Takes this object in hand: two loads.
-    fn open<P: CopyPort>(&mut self, port: &mut P, at: Addr)
+    /// Takes the object at this word in hand: two loads.
+    fn open<P: CopyPort>(&mut self, port: &mut P, at: u64)
     {
-        let first = port.load(at.get());
-        let fields = port.load(at.get() + 8) as u32;
+        let first = port.load(8 * at);
+        let fields = port.load(8 * (at + 1)) as u32;
         self.hand = Hand {
             at,
             kind: kind_of(self.shapes.as_slice(), first),
