@@ -20,7 +20,7 @@ pub record LeadsOn (s : Contents) (cells : List ℕ) (es : List Step) (t : Conte
   pub legal : IsLegal (words_with s cells) es
   pub words : words_with t cells' ≡ replayed (words_with s cells) es
   pub still : IsStillBeside s t
-  pub cells : length cells' ≡ length cells
+  pub as_many : length cells' ≡ length cells
 
 -- the word with this number is one of a section
 abbrev pub IsWordIn : Contents → ℕ → Type 0
@@ -82,12 +82,12 @@ still_then s t u h k = record {
 }
 
 pub leads_none : (s : Contents) (cells : List ℕ) → LeadsOn s cells [] s cells
-leads_none s cells = record { legal = tt; words = refl; still = still_none s; cells = refl }
+leads_none s cells = record { legal = tt; words = refl; still = still_none s; as_many = refl }
 
 pub leads_then : (s t u : Contents) (cs ds xs : List ℕ) (es fs : List Step) → LeadsOn s cs es t ds → LeadsOn t ds fs u xs → LeadsOn s cs (es ++ fs) u xs
 leads_then s t u cs ds xs es fs h k = record {
   legal = legal-append (words_with s cs) es fs h.legal (subst (λ (w : Words). IsLegal w fs) h.words k.legal);
   words = k.words ∙ ap (λ (w : Words). replayed w fs) h.words ∙ sym (replayed-append (words_with s cs) es fs);
   still = still_then s t u h.still k.still;
-  cells = k.cells ∙ h.cells;
+  as_many = k.as_many ∙ h.as_many;
 }

@@ -1,8 +1,16 @@
+ghost use Rattle.std.specs.Prelude.{◌≡◌, ◌↔◌, ◌+◌, ◌-◌, ◌<◌, ◌≤◌, ◌^◌, true, [], ◌∷◌, ◌++◌, IfOk, IfSome, MatchOption, length, slice_index, slice_set, vec_capacity};
+ghost use Rattle.sg_words.specs.Address.{byte_at};
+ghost use Rattle.sg_words.specs.Sections.{old_base, globals_base, IsLayout};
+ghost use Rattle.sg_copy.specs.declared.gray.Gray.TheVariants.{Whole};
+ghost use Rattle.sg_round.specs.Area.{class_of};
+ghost use Rattle.sg_copy.specs.State.{slots_in_hand, fresh_copying, move_of, IsKindOf, TakesInHand};
+
 use crate::gray::Gray;
 use sg_desc::{Descriptor, Shape};
 use sg_space::Space;
 use sg_words::{Addr, Layout, Move};
 use std::alloc::{AllocError, Global};
+use std::marker::Model;
 
 /// A slot in hand, and the plain young object to which it refers, as it was read. Words are given by their numbers.
 #[derive(Clone, Copy)]
@@ -46,35 +54,62 @@ pub enum Stage {
 /// A copying worker: its items, what it has in hand, and the objects that it moved and failed.
 #[derive(Drop)]
 pub struct Copier {
-    pub(crate) layout: Layout,
-    pub(crate) shapes: Vec<Shape>,
-    pub(crate) number: u32,
-    pub(crate) team: u32,
-    // How many items it was given at most, before its first turn.
-    pub(crate) most: usize,
+    layout: Layout,
+    shapes: Vec<Shape>,
+    number: u32,
+    team: u32,
+    // How many items it had before its first turn.
+    most: usize,
     // Its items, the oldest first; those before `taken` it has taken.
-    pub(crate) items: Vec<Gray>,
-    pub(crate) taken: usize,
-    pub(crate) hand: Hand,
+    items: Vec<Gray>,
+    taken: usize,
+    hand: Hand,
     // For each slot size the first word of a claimed slot that it has to spare, or 0.
-    pub(crate) spares: [u64; 65],
+    spares: [u64; 65],
     // For each slot size how many of the lowest blocks can't take it.
-    pub(crate) passed: [u32; 65],
-    pub(crate) stage: Stage,
-    pub(crate) moves: Vec<Move>,
-    pub(crate) fails: Vec<Addr>,
+    passed: [u32; 65],
+    stage: Stage,
+    moves: Vec<Move>,
+    fails: Vec<Addr>,
+}
+
+impl Model for Copier {
+    ghost use Rattle.std.specs.Prelude.{drop, length, vec_capacity};
+    ghost use Rattle.sg_copy.specs.State.{Copying, IsSoundCopier};
+
+    ghost Value = { Copying };
+
+    ghost view = { λ c. record {
+      layout = c.layout;
+      shapes = c.shapes.items;
+      number = c.number;
+      team = c.team;
+      most = c.most;
+      queue = drop c.taken c.items.items;
+      hand = c.hand;
+      spares = c.spares;
+      passed = c.passed;
+      stage = c.stage;
+      moves = c.moves.items;
+      fails = c.fails.items;
+    } };
+
+    ghost invariant = { λ c. IsSoundCopier c.layout c.hand c.most (length c.moves.items) (length c.fails.items) (length c.items.items) c.taken
+        (vec_capacity c.items) (vec_capacity c.moves) (vec_capacity c.fails) };
 }
 
 impl Copier {
-    /// Worker `number` of a team of `team`, for so many items, over a space with this layout and these shapes. Takes all the memory that it
-    /// needs: for its items, and three times the nursery's words.
+    /// Worker `number` of a team of `team` with these items, over a space with this layout and these shapes. The list has room for so many
+    /// items more as the nursery has words; as much room is taken for the objects that it will move, and for those that it will fail.
     pub fn new(
         alloc: Global,
         space: &Space,
         number: u32,
         team: u32,
-        most: usize,
+        items: Vec<Gray>,
     ) -> Result<Copier, AllocError>
+        requires { length items.items + space.now.layout.nursery ≤ vec_capacity items }
+        ensures { IfOk result (λ c. c ≡ fresh_copying space.now number team items.items) }
     {
         let layout = space.layout();
         let room = layout.nursery as usize;
@@ -83,8 +118,8 @@ impl Copier {
             shapes: space.shapes().to_vec(alloc)?,
             number,
             team,
-            most,
-            items: Vec::with_capacity(alloc, most + room)?,
+            most: items.len(),
+            items,
             taken: 0,
             hand: Hand {
                 at: 0,
@@ -100,26 +135,118 @@ impl Copier {
         })
     }
 
-    /// One item more, before the first turn. It takes no memory.
-    pub fn give(&mut self, item: Gray)
-    {
-        self.items.push(item).unwrap();
-    }
-
     /// Whether nothing is left for it to do.
     pub fn ended(&self) -> bool
+        ensures { (result ≡ true) ↔ (self.now.stage ≡ Stage.Ended) }
     {
         matches!(self.stage, Stage::Ended)
     }
 
+    /// The objects that it moved and those that it failed, in the order of their exchanges. Of a moved one it tells for certain where it was.
+    pub fn into_told(self) -> (Vec<Move>, Vec<Addr>)
+        ensures moves { result.0.items ≡ self.moves }
+        ensures fails { result.1.items ≡ self.fails }
+    {
+        (self.moves, self.fails)
+    }
+
+    /// Where it stands.
+    #[inline]
+    pub(crate) fn stage(&self) -> Stage
+        ensures { result ≡ self.now.stage }
+    {
+        self.stage
+    }
+
+    #[inline]
+    pub(crate) fn set_stage(&mut self, stage: Stage)
+        ensures { self.new ≡ record self.old { stage = stage } }
+    {
+        self.stage = stage;
+    }
+
     /// Whether no exchange is prepared.
+    #[inline]
     pub(crate) fn is_between(&self) -> bool
+        ensures { (result ≡ true) ↔ (self.now.stage ≡ Stage.Between) }
     {
         matches!(self.stage, Stage::Between)
     }
 
+    /// The place that it has to spare for this slot size, or 0.
+    #[inline]
+    pub(crate) fn spare(&self, size: u32) -> u64
+        requires { size ≤ 64 }
+        ensures { result ≡ slice_index self.now.spares size }
+    {
+        self.spares[size as usize]
+    }
+
+    #[inline]
+    pub(crate) fn set_spare(&mut self, size: u32, to: u64)
+        requires { size ≤ 64 }
+        ensures value { self.new ≡ record self.old { spares = slice_set self.old.spares size to } }
+        ensures length { length self.old.spares ≡ 65 }
+    {
+        self.spares[size as usize] = to;
+    }
+
+    /// How many of the lowest blocks can't take this slot size.
+    #[inline]
+    pub(crate) fn passed(&self, size: u32) -> u32
+        requires { size ≤ 64 }
+        ensures { result ≡ slice_index self.now.passed size }
+    {
+        self.passed[size as usize]
+    }
+
+    #[inline]
+    pub(crate) fn set_passed(&mut self, size: u32, blocks: u32)
+        requires { size ≤ 64 }
+        ensures value { self.new ≡ record self.old { passed = slice_set self.old.passed size blocks } }
+        ensures length { length self.old.passed ≡ 65 }
+    {
+        self.passed[size as usize] = blocks;
+    }
+
+    /// How many blocks there are.
+    #[inline]
+    pub(crate) fn blocks(&self) -> u32
+        ensures { result ≡ self.now.layout.blocks }
+    {
+        self.layout.blocks
+    }
+
+    /// The number of the first word behind the nursery.
+    #[inline]
+    pub(crate) fn old_word(&self) -> u64
+        ensures value { result ≡ old_base self.now.layout }
+        ensures layout { IsLayout self.now.layout }
+    {
+        self.layout.old_word()
+    }
+
+    /// The number of the first word behind blocks and pages.
+    #[inline]
+    pub(crate) fn globals_word(&self) -> u64
+        ensures value { result ≡ globals_base self.now.layout }
+        ensures layout { IsLayout self.now.layout }
+    {
+        self.layout.globals_word()
+    }
+
+    /// Its place in the team, and how many there are.
+    #[inline]
+    pub(crate) fn place_in_team(&self) -> (u32, u32)
+        ensures { result ≡ (self.now.number, self.now.team) }
+    {
+        (self.number, self.team)
+    }
+
     /// Its oldest item, which it takes.
     pub(crate) fn take_item(&mut self) -> Option<Gray>
+        ensures { MatchOption result ((self.old.queue ≡ []) × (self.new ≡ self.old))
+            (λ item. (self.old.queue ≡ item ∷ self.new.queue) × (self.new ≡ record self.old { queue = self.new.queue })) }
     {
         if self.taken == self.items.len() {
             return None;
@@ -129,8 +256,25 @@ impl Copier {
         Some(item)
     }
 
-    /// The next slot of the object in hand.
+    /// Takes the object at this word in hand, which has this first word and so many fields.
+    pub(crate) fn take_in_hand(&mut self, at: u64, first: u64, fields: u32)
+        requires { at < 2 ^ 37 }
+        ensures { TakesInHand self.old at first fields self.new }
+    {
+        self.hand = Hand {
+            at,
+            kind: kind_of(self.shapes.as_slice(), first),
+            from: 0,
+            fields,
+        };
+    }
+
+    /// The next slot of the object in hand, by its number.
     pub(crate) fn next_slot(&mut self) -> Option<u64>
+        ensures same { self.new ≡ record self.old { hand = self.new.hand } }
+        ensures next { MatchOption result ((slots_in_hand self.old.hand ≡ []) × (slots_in_hand self.new.hand ≡ []))
+            (λ slot. slots_in_hand self.old.hand ≡ slot ∷ slots_in_hand self.new.hand) }
+        ensures fewer { IfSome result (λ _. self.new.hand.fields - self.new.hand.from < self.old.hand.fields - self.old.hand.from) }
     {
         let i = self.hand.kind.next_strong(self.hand.from, self.hand.fields);
         if i == self.hand.fields {
@@ -143,18 +287,50 @@ impl Copier {
 
     /// The object has moved, and its copy is an item. It takes no memory.
     pub(crate) fn tell_move(&mut self, from: u64, to: u64)
+        requires room { length self.old.moves + length self.old.fails < self.old.layout.nursery }
+        requires from_above { 512 ≤ from }
+        requires from_below { from < 2 ^ 37 }
+        requires to_above { 512 ≤ to }
+        requires to_below { to < 2 ^ 37 }
+        ensures { self.new ≡ record self.old { moves = self.old.moves ++ move_of from to ∷ []; queue = self.old.queue ++ Whole (byte_at to) ∷ [] } }
     {
-        self.moves.push(Move {
-            from: Addr::at_word(from),
-            to: Addr::at_word(to),
-        }).unwrap();
-        self.items.push(Gray::Whole { at: Addr::at_word(to) }).unwrap();
+        self.moves
+            .push(Move {
+                from: Addr::at_word(from),
+                to: Addr::at_word(to),
+            })
+            .unwrap();
+        self.items
+            .push(Gray::Whole {
+                at: Addr::at_word(to),
+            })
+            .unwrap();
     }
 
     /// The object has failed, and is an item. It takes no memory.
     pub(crate) fn tell_fail(&mut self, at: u64)
+        requires room { length self.old.moves + length self.old.fails < self.old.layout.nursery }
+        requires above { 512 ≤ at }
+        requires below { at < 2 ^ 37 }
+        ensures { self.new ≡ record self.old { fails = self.old.fails ++ byte_at at ∷ []; queue = self.old.queue ++ Whole (byte_at at) ∷ [] } }
     {
         self.fails.push(Addr::at_word(at)).unwrap();
-        self.items.push(Gray::Whole { at: Addr::at_word(at) }).unwrap();
+        self.items
+            .push(Gray::Whole {
+                at: Addr::at_word(at),
+            })
+            .unwrap();
+    }
+}
+
+/// Which fields are strong of an object with this first word, whichever of its low bits are set; none, where no class has it.
+fn kind_of(shapes: &[Shape], first: u64) -> Descriptor
+    ensures { IsKindOf shapes.now (class_of first) result }
+{
+    let class = (first / 8).saturating_sub(1);
+    if class < shapes.len() as u64 {
+        shapes[class as usize].kind
+    } else {
+        Descriptor::PtrFree
     }
 }

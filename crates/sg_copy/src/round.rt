@@ -34,28 +34,30 @@ pub fn copy_one(
 ) -> Result<Round, AllocError>
 {
     let mut space = space;
-    let mut copier = Copier::new(alloc, &space, 0, 1, slots.len() + wholes.len())?;
-    deal(&mut copier, slots, wholes);
+    let items = items_of(alloc, slots, wholes, space.layout().nursery as usize)?;
+    let mut copier = Copier::new(alloc, &space, 0, 1, items)?;
     run(alloc, &mut space, &mut copier)?;
-    let mut moves = copier.moves;
+    let (mut moves, fails) = copier.into_told();
     find_copies(&space, moves.as_mut_slice());
     Ok(Round {
         space,
         moves,
-        fails: copier.fails,
+        fails,
         spares: 0,
     })
 }
 
-/// Gives the items: the slots first, then the objects.
-fn deal(copier: &mut Copier, slots: &[Addr], wholes: &[Addr])
+/// The items: the slots first, then the objects; with room for so many more.
+fn items_of(alloc: Global, slots: &[Addr], wholes: &[Addr], room: usize) -> Result<Vec<Gray>, AllocError>
 {
+    let mut items = Vec::with_capacity(alloc, slots.len() + wholes.len() + room)?;
     for slot in slots {
-        copier.give(Gray::Slot { at: *slot });
+        items.push(Gray::Slot { at: *slot })?;
     }
     for whole in wholes {
-        copier.give(Gray::Whole { at: *whole });
+        items.push(Gray::Whole { at: *whole })?;
     }
+    Ok(items)
 }
 
 /// Gives turns until nothing is left to do.
