@@ -10,6 +10,7 @@ ghost use Rattle.sg_blocks.specs.Numbers.{IsBlockWord, block_number, place_of, I
 use sg_words::BlockWord;
 
 /// The least size class that holds so many words; `None` exactly where they are none, or more than 64.
+#[tactic(auto, unfolding(sg_words::specs::Blocks::slot_size))]
 pub fn size_for(words: u32) -> Option<u32>
     ensures { IsSizeFor words result }
 {

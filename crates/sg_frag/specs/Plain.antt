@@ -1,7 +1,6 @@
 -- What steps make of a space, and which calls a port over it allows.
 use Rattle.std.specs.Prelude.{◌≡◌, ℕ, ◌^◌, ◌<◌, List, length}
 use Rattle.sg_words.specs.Sections.{IsInSection}
-use Rattle.sg_words.specs.declared.steps.Place.{Place}
 use Rattle.sg_words.specs.declared.steps.Place.TheVariants.{Stop, Next, Word, Card, Head, Cell}
 use Rattle.sg_words.specs.declared.steps.Step.{Step}
 use Rattle.sg_words.specs.declared.steps.BlockCall.{BlockCall}

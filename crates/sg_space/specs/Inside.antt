@@ -28,6 +28,5 @@ pub record IsSpace (a : Inside) : Type 0 where
   pub room_next : 2048 ≤ vec_capacity a.next
   pub room_ends : 2048 ≤ vec_capacity a.ends
   pub room_registered : 1024 ≤ vec_capacity a.registered
-  pub order : a.dirty_from ≤ a.dirty_to
   pub within : a.dirty_to ≤ length a.cards.items
   pub clean : (c : ℕ) → (c < a.dirty_from) ⊎ (a.dirty_to ≤ c) → slice_index a.cards.items c ≡ 0

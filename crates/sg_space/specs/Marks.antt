@@ -1,6 +1,6 @@
 -- Where the mark of an object is kept: of an old one by the bit of its slot among its block's marks, of any other by the top bit of its
 -- first word, which no tag has set.
-use Rattle.std.specs.Prelude.{◌≡◌, ℕ, ◌-◌, ◌*◌, ◌^◌, ◌<◌, ◌≤◌, ◌⊎◌, Bool, if◌then◌else◌, length, slice_set}
+use Rattle.std.specs.Prelude.{◌≡◌, ℕ, ◌-◌, ◌*◌, ◌^◌, ◌<◌, ◌≤◌, ◌⊎◌, Bool, if◌then◌else◌, slice_set}
 use Rattle.std.specs.Int.{bit_at}
 use Rattle.std.specs.Int.Bits.{bit_or}
 use Rattle.sg_words.specs.Blocks.{IsSizeClass, slots, slot_base, IsOf}
@@ -15,7 +15,7 @@ with_bit on mask i = if on then bit_or mask (2 ^ i) else (mask - bit_at mask i *
 
 -- h is the front of slot i of block c, whose slots have z words
 pub record IsSlotFront (s : Contents) (c z i h : ℕ) : Type 0 where
-  pub there : c < length s.blocks
+  pub there : c < s.layout.blocks
   pub sized : IsOf (block_in s c) z
   pub class : IsSizeClass z
   pub fits : i < slots z

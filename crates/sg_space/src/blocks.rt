@@ -68,8 +68,8 @@ impl Space {
         ensures { (result ≡ true) ↔ IsMarked self.now (word_at a) }
     {
         match self.slot_of(a.word()) {
-            Some((block, slot)) => has_bit(self.marks[block as usize], slot),
-            None => has_bit(self.words[a.word() as usize], MARK_BIT),
+            Some((block, slot)) => has_bit(self.marks(block), slot),
+            None => has_bit(self.read(a), MARK_BIT),
         }
     }
 
@@ -80,21 +80,24 @@ impl Space {
         ensures { Marks self.old (word_at a) on self.new }
     {
         match self.slot_of(a.word()) {
-            Some((block, slot)) => {
-                let mask = self.marks[block as usize];
-                self.marks[block as usize] = with_bit(mask, slot, on);
-            }
-            None => {
-                let word = self.words[a.word() as usize];
-                self.words[a.word() as usize] = with_bit(word, MARK_BIT, on);
-            }
+            Some((block, slot)) => self.set_marks(block, with_bit(self.marks(block), slot, on)),
+            None => self.write(a, with_bit(self.read(a), MARK_BIT, on)),
         }
+    }
+
+    /// The marks of this block become `mask`.
+    fn set_marks(&mut self, b: u32, mask: u64)
+        requires { b < length self.old.marks }
+        ensures { self.new ≡ record self.old { marks = slice_set self.old.marks b mask } }
+    {
+        self.marks[b as usize] = mask;
     }
 
     /// The block and the slot of the object whose first word is `x`; `None` exactly where it lies in no block.
     fn slot_of(&self, x: u64) -> Option<(u32, u32)>
         requires { HasMark self.now x }
-        ensures { MatchOption result (KeepsItself self.now.layout x) (λ place. (z : ℕ) × IsSlotFront self.now place.0 z place.1 x) }
+        ensures place { MatchOption result (KeepsItself self.now.layout x) (λ place. (z : ℕ) × IsSlotFront self.now place.0 z place.1 x) }
+        ensures contents { IsContents self.now }
     {
         let old = self.layout.old_word();
         if x < old || self.layout.large_word() <= x {
