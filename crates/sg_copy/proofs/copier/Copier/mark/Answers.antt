@@ -46,4 +46,9 @@ returns-in-Some g c =
     (subst (λ k. o.sees x (Store (Card k) 1)) card.1 c.mark_card.ensures.seen) (subst (λ k. o.leads x (Store (Card k) 1 ∷ []) y) card.1 c.mark_card.ensures.led))
 
 pub returns-in_default : goal.returns-in_default
-returns-in_default g c = ?
+returns-in_default g c =
+    let o = ports g in
+    let m = c.args.self.now in
+    let none : staying (seat_of m).area c.args.slot ≡ Idle = c.in_default.ensures in
+    subst (λ (mid : Mid). Gone o (seat_of m) (at (teller_of m) mid) c.args.port.now (at (teller_of m) Idle) c.args.port.now) (sym none)
+    (none_yet o (seat_of m) (at (teller_of m) Idle) c.args.port.now (subst (λ (mid : Mid). On o (seat_of m) c.args.port.now (at (teller_of m) mid)) none c.requires))
