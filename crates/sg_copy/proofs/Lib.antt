@@ -3,5 +3,6 @@ pub mod Seen
 pub mod Bodies
 pub mod Places
 pub mod Looks
+pub mod Swaps
 pub mod Handled
 pub mod Changes
