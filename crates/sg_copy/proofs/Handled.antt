@@ -108,13 +108,13 @@ same_failed c d fails queue e = subst (IsSameHanded c) (sym e) (record { copier 
 pub moves_room : (layout : Layout) (moves : List Move) (fails : List ℕ) (x : ℕ) →
     length (map (λ (m : Move). word_at m.from) moves ++ x ∷ []) + length (map word_at fails) ≤ old_base layout - nursery_base → length moves + length fails < layout.nursery
 moves_room layout moves fails x few =
-    let n = length-map (λ (m : Move). word_at m.from) moves in let k = length-map word_at fails in
+    let n = length-map moves (λ (m : Move). word_at m.from) in let k = length-map fails word_at in
     omega (arith, few, length-append (map (λ (m : Move). word_at m.from) moves) (x ∷ []), n, k)
 
 pub fails_room : (layout : Layout) (moves : List Move) (fails : List ℕ) (x : ℕ) →
     length (map (λ (m : Move). word_at m.from) moves) + length (map word_at fails ++ x ∷ []) ≤ old_base layout - nursery_base → length moves + length fails < layout.nursery
 fails_room layout moves fails x few =
-    let n = length-map (λ (m : Move). word_at m.from) moves in let k = length-map word_at fails in
+    let n = length-map moves (λ (m : Move). word_at m.from) in let k = length-map fails word_at in
     omega (arith, few, length-append (map word_at fails) (x ∷ []), n, k)
 
 module _ {P : Type 0} (o : Ports P) where

@@ -4,5 +4,7 @@ pub mod Bodies
 pub mod Places
 pub mod Looks
 pub mod Swaps
+pub mod Handing
+pub mod Seeking
 pub mod Handled
 pub mod Changes

@@ -3,6 +3,8 @@ use Rattle.std.proofs.Common.{◌≡◌, ◌≢◌, ℕ, ◌+◌, ◌*◌, ◌<�
 use Rattle.std.specs.Int.{bit_at}
 use Rattle.std.proofs.lemmas.Nat.Bits.{bit_at-zero}
 use Rattle.sg_words.specs.Address.{byte_at, word_at}
+use Rattle.sg_words.proofs.Numbers.{word_at-byte_at}
+use Rattle.sg_words.specs.declared.steps.Call.{Call}
 use Rattle.sg_words.specs.Tags.{plain_word, pinned_word, forward_word}
 use Rattle.sg_words.specs.Words.{put}
 use Rattle.sg_words.specs.Blocks.{slots}
@@ -25,6 +27,15 @@ use Rattle.sg_copy.specs.State.{staying}
 use Rattle.sg_copy.proofs.Ports.{Ports, On, Gone, Started, Did, may_now, on_now, started}
 use Rattle.sg_copy.proofs.Places.{look_at, room_left}
 use Rattle.sg_copy.proofs.Looks.{cards}
+
+-- an exchange of the word x, at the byte address a, where v is the word that is expected
+module _ {P : Type 0} (o : Ports P) (seat : Seat) where
+  pub swap_word_may : (call : ℕ → ℕ → Call) (x v a u : ℕ) → a ≡ byte_at x → u ≡ v → (p : P) → o.may p (call x v) → o.may p (call (word_at a) u)
+  swap_word_may call x v a u e f p m = subst (λ k. o.may p (call k u)) (sym (ap word_at e ∙ word_at-byte_at x)) (subst (λ k. o.may p (call x k)) (sym f) m)
+
+  pub swapped : (step : ℕ → ℕ → Step) (x v a u : ℕ) → a ≡ byte_at x → u ≡ v → (p q : P) → o.sees p (step (word_at a) u) → o.leads p (step (word_at a) u ∷ []) q → Did o seat p (step x v) q
+  swapped step x v a u e f p q saw led =
+      subst (λ k. Did o seat p (step x k) q) f (subst (λ k. Did o seat p (step k u) q) (ap word_at e ∙ word_at-byte_at x) (saw, led))
 
 module _ {P : Type 0} (o : Ports P) (seat : Seat) (t : Teller) (s : ℕ) (x : Object) where
   -- one step from a to b
