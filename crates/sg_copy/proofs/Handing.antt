@@ -1,5 +1,5 @@
 -- How a worker goes from item to item, over any port.
-use Rattle.std.proofs.Common.{◌≡◌, ◌≢◌, ℕ, ◌+◌, ◌-◌, ◌*◌, ◌<◌, ◌≤◌, ◌⊎◌, Bool, List, [], ◌∷◌, inl, inr, refl, sym, ap, ◌∙◌, subst, arith}
+use Rattle.std.proofs.Common.{◌≡◌, ◌≢◌, ℕ, ◌+◌, ◌-◌, ◌*◌, ◌<◌, ◌≤◌, ◌⊎◌, Bool, List, [], ◌∷◌, map, inl, inr, refl, sym, ap, ◌∙◌, subst, arith}
 use Rattle.std.proofs.Math.Path.{fun_ext}
 use Rattle.sg_words.specs.Address.{byte_at, word_at}
 use Rattle.sg_words.specs.Lists.{In}
@@ -16,6 +16,8 @@ use Rattle.sg_round.specs.Rules.{Nothing, IsNext, Of_hand, Of_list, Of_cell}
 use Rattle.sg_round.specs.Rules.Comes.{opens, counts}
 use Rattle.sg_round.specs.Sane.{IsSane, IsSaneItem}
 use Rattle.sg_copy.specs.declared.copier.Hand.{Hand}
+use Rattle.sg_copy.specs.declared.gray.Gray.{Gray}
+use Rattle.sg_copy.specs.Grays.{item_of}
 use Rattle.sg_copy.specs.Copying.{area_by}
 use Rattle.sg_copy.specs.Telling.{Seat, Teller, Tells, at}
 use Rattle.sg_copy.specs.State.{Copying, slots_in_hand, teller_of, worker_of, seat_of, IsKindOf, TakesInHand, IsSameCopier}
@@ -47,6 +49,34 @@ taken_is c d whole first n h idle =
     ap teller_of h.same
     ∙ ap (λ (xs : List ℕ). record (teller_of c) { worker = record (worker_of c) { hand = xs } }) (hand_taken c d whole first n h)
     ∙ ap (λ (t : Teller). record t { worker = record (t.worker) { hand = slots_by (area_by c.layout c.shapes) (class_of first) whole n } }) (sym idle)
+
+pub same_queue : (c d : Copying) (queue : List Gray) → d ≡ record c { queue = queue } → IsSameCopier c d
+same_queue c d queue e = subst (IsSameCopier c) (sym e) (record { layout = refl; shapes = refl; number = refl; team = refl; most = refl })
+
+listed : (w : Worker) (item : Item) (rest : List Item) → w.list ≡ item ∷ rest → w.hand ≡ [] → IsNext (record w { mid = Idle }) item (record w { list = rest; mid = Idle })
+listed w item rest e f =
+    subst (λ (hand : List ℕ). IsNext (record w { hand = hand; mid = Idle }) item (record w { list = rest; hand = hand; mid = Idle })) (sym f)
+    (subst (λ (list : List Item). IsNext (record w { list = list; hand = []; mid = Idle }) item (record w { list = rest; hand = []; mid = Idle })) (sym e) (Of_list w item rest))
+
+-- the oldest item of the list is the next one
+pub next_listed : (c d : Copying) (item : Gray) → c.queue ≡ item ∷ d.queue → d ≡ record c { queue = d.queue } → slots_in_hand c.hand ≡ [] →
+    IsNextOf (at (teller_of c) Idle) (item_of item) (at (teller_of d) Idle)
+next_listed c d item e f empty = subst (λ (k : Copying). IsNextOf (at (teller_of c) Idle) (item_of item) (at (teller_of k) Idle)) (sym f)
+    (record { next = listed (worker_of c) (item_of item) (map item_of d.queue) (ap (map item_of) e) empty; moves = refl; fails = refl })
+
+-- the next slot of the object in hand is the next item
+pub next_handed : (c d : Copying) (slot : ℕ) → slots_in_hand c.hand ≡ slot ∷ slots_in_hand d.hand → d ≡ record c { hand = d.hand } →
+    IsNextOf (at (teller_of c) Idle) (SlotOf slot) (at (teller_of d) Idle)
+next_handed c d slot e f = subst (λ (k : Copying). IsNextOf (at (teller_of c) Idle) (SlotOf slot) (at (teller_of k) Idle)) (sym f)
+    (record {
+      next = subst (λ (hand : List ℕ). IsNext (record (worker_of c) { hand = hand; mid = Idle }) (SlotOf slot) (record (worker_of c) { hand = slots_in_hand d.hand; mid = Idle })) (sym e)
+          (Of_hand (worker_of c) slot (slots_in_hand d.hand));
+      moves = refl;
+      fails = refl;
+    })
+
+pub same_hand : (c d : Copying) (hand : Hand) → d ≡ record c { hand = hand } → IsSameCopier c d
+same_hand c d hand e = subst (IsSameCopier c) (sym e) (record { layout = refl; shapes = refl; number = refl; team = refl; most = refl })
 
 module _ {P : Type 0} (o : Ports P) (seat : Seat) (t : Teller) (whole : ℕ) (a : Teller) (isn : IsNextOf a (WholeOf whole) (at t Idle)) (p : P) (on : On o seat p a) where
   abbrev counting : ℕ → Teller

@@ -20,7 +20,7 @@ use Rattle.sg_copy.specs.declared.copier.Stage.TheVariants.{Between}
 use Rattle.sg_copy.specs.Copying.{area_by}
 use Rattle.sg_copy.specs.Telling.{Seat, Teller, IsOn, HasGoneOn, HasStarted, at}
 use Rattle.sg_copy.specs.State.{Copying, mid_of, worker_of, teller_of, seat_of, IsSameCopier, IsSameHanded, IsOnSlot, move_of}
-use Rattle.sg_copy.specs.Turning.{HasHandled, HasBegun}
+use Rattle.sg_copy.specs.Turning.{HasHandled, HasBegun, HasSetOut}
 use Rattle.sg_copy.proofs.Ports.{Ports, On, Gone, Started, gone_then, started_then}
 use Rattle.sg_copy.proofs.Changes.{put_set}
 
@@ -158,3 +158,10 @@ module _ {P : Type 0} (o : Ports P) where
 
   pub begun_then : (c d : Copying) (a b : Teller) (x y z : P) → Started o (seat_of c) a x b y → HasHandled c o.leads b y d z → HasBegun c o.leads a x d z
   begun_then c d a b x y z s h = record { started = started_then o (seat_of c) a b (teller_of d) x y z s h.gone; same = h.same; where_is = h.where_is }
+
+  -- a turn set out where a copier was changed
+  pub set_out_as : (c k d : Copying) (a : Teller) (x y : P) → IsSameCopier c k → HasSetOut k o.leads a x d y → HasSetOut c o.leads a x d y
+  set_out_as c k d a x y same h = record {
+    started = subst (λ (s : Seat). Started o s a x (teller_of d) y) (seat_same c k same) h.started;
+    same = same_then c k d same h.same;
+  }

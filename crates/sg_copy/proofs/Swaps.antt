@@ -12,16 +12,16 @@ use Rattle.sg_words.proofs.Blocks.{class_slots, slot_size-class}
 use Rattle.sg_words.specs.declared.steps.BlockWord.{BlockWord}
 use Rattle.sg_words.specs.declared.steps.BlockWord.TheVariants.{Free, Swept}
 use Rattle.sg_words.specs.declared.steps.BlockStep.TheVariants.{WonBlock, LostBlock, OrUsed}
-use Rattle.sg_words.specs.declared.steps.Place.TheVariants.{Word}
+use Rattle.sg_words.specs.declared.steps.Place.TheVariants.{Word, Cell}
 use Rattle.sg_words.specs.declared.steps.Step.{Step}
 use Rattle.sg_words.specs.declared.steps.Step.TheVariants.{Won, Lost, OnBlock}
 use Rattle.sg_words.specs.declared.steps.Call.TheVariants.{Swaps, OnBlocks}
 use Rattle.sg_words.specs.declared.steps.BlockCall.TheVariants.{SwapsBlock, OrsUsed}
 use Rattle.sg_round.specs.Area.{Area, HasCard, place}
-use Rattle.sg_round.specs.Items.{WholeOf}
-use Rattle.sg_round.specs.Worker.{Object, Worker, Mid, Idle, On as OnSlot, Look, Take, Mark, Room, Body, Swap, Pin, Send, Dirty, size_for, looking}
+use Rattle.sg_round.specs.Items.{Item, WholeOf, cell_word, looked_cell}
+use Rattle.sg_round.specs.Worker.{Object, Worker, Mid, Idle, Seek, Grab, Took, On as OnSlot, Look, Take, Mark, Room, Body, Swap, Pin, Send, Dirty, size_for, looking}
 use Rattle.sg_round.specs.Rules.{Nothing, Moves, Fails, FailsEnding, Comes}
-use Rattle.sg_round.specs.Rules.Comes.{takes, takes_not, marks, marks_not, forwards, loses, fails as has_failed, fails_bare, fails_not}
+use Rattle.sg_round.specs.Rules.Comes.{takes, takes_not, marks, marks_not, forwards, loses, fails as has_failed, fails_bare, fails_not, grabs, grabs_not}
 use Rattle.sg_copy.specs.Telling.{Seat, Teller, Tells, at}
 use Rattle.sg_copy.specs.State.{staying}
 use Rattle.sg_copy.proofs.Ports.{Ports, On, Gone, Started, Did, may_now, on_now, started}
@@ -36,6 +36,30 @@ module _ {P : Type 0} (o : Ports P) (seat : Seat) where
   pub swapped : (step : ℕ → ℕ → Step) (x v a u : ℕ) → a ≡ byte_at x → u ≡ v → (p q : P) → o.sees p (step (word_at a) u) → o.leads p (step (word_at a) u ∷ []) q → Did o seat p (step x v) q
   swapped step x v a u e f p q saw led =
       subst (λ k. Did o seat p (step x k) q) f (subst (λ k. Did o seat p (step k u) q) (ap word_at e ∙ word_at-byte_at x) (saw, led))
+
+-- an exchange of a cell that holds this item
+module _ {P : Type 0} (o : Ports P) (seat : Seat) where
+  pub celled : (step : ℕ → ℕ → Step) (k v l u : ℕ) → l ≡ k → u ≡ v → (p q : P) → o.sees p (step l u) → o.leads p (step l u ∷ []) q → Did o seat p (step k v) q
+  celled step k v l u e f p q saw led = subst (λ n. Did o seat p (step k n) q) f (subst (λ n. Did o seat p (step n u) q) e (saw, led))
+
+  module _ (t : Teller) (i : ℕ) (item : Item) (p : P) (on : On o seat p (at t (Grab i item))) where
+    grab_next : Tells seat (at t (Grab i item)) (Won (Cell (looked_cell seat.team seat.number i)) (cell_word item) 0) (at t (Took item))
+    grab_next = (Nothing, grabs t.worker i item, refl, refl)
+
+    pub grab_may : o.may p (Swaps (Cell (looked_cell seat.team seat.number i)) (cell_word item) 0)
+    grab_may = may_now o seat (at t (Grab i item)) (at t (Took item)) p on (Won (Cell (looked_cell seat.team seat.number i)) (cell_word item) 0) grab_next
+
+    pub grabbed : (q : P) → Did o seat p (Won (Cell (looked_cell seat.team seat.number i)) (cell_word item) 0) q →
+        On o seat q (at t (Took item)) × Started o seat (at t (Grab i item)) p (at t (Took item)) q
+    grabbed q did = (on_now o seat (at t (Grab i item)) (at t (Took item)) p on (Won (Cell (looked_cell seat.team seat.number i)) (cell_word item) 0) grab_next q did,
+        started o seat (at t (Grab i item)) (at t (Took item)) p on (Won (Cell (looked_cell seat.team seat.number i)) (cell_word item) 0) grab_next q did)
+
+    pub grab_lost : (found : ℕ) (q : P) → Did o seat p (Lost (Cell (looked_cell seat.team seat.number i)) (cell_word item) 0 found) q →
+        On o seat q (at t (Seek i)) × Started o seat (at t (Grab i item)) p (at t (Seek i)) q
+    grab_lost found q did = (
+        on_now o seat (at t (Grab i item)) (at t (Seek i)) p on (Lost (Cell (looked_cell seat.team seat.number i)) (cell_word item) 0 found) (Nothing, grabs_not t.worker i item found, refl, refl) q did,
+        started o seat (at t (Grab i item)) (at t (Seek i)) p on (Lost (Cell (looked_cell seat.team seat.number i)) (cell_word item) 0 found) (Nothing, grabs_not t.worker i item found, refl, refl) q did,
+    )
 
 module _ {P : Type 0} (o : Ports P) (seat : Seat) (t : Teller) (s : ℕ) (x : Object) where
   -- one step from a to b

@@ -69,8 +69,8 @@ search-requires-clause-on g c =
     let i = c.args.slot in
     let found = c.take_slot-found.result in
     let set : bit_at found i ≡ 1 = elim (bit_cases found i) [
-      | inl zero ↦ absurd (c.if-found-slot-eq0.false (shr_and_one found i ∙ zero))
-      | inr one ↦ one
+      | inl one ↦ one
+      | inr zero ↦ absurd (c.if-found-slot-eq0.false (shr_and_one found i ∙ zero))
     ] in
     let lost = lost_slot o (seat_of m) (teller_of m) s x b i p c.requires.on found set q (c.take_slot-found.ensures.seen, c.take_slot-found.ensures.led) in
     lost.0
@@ -113,8 +113,8 @@ returns-else-found-slot-eq0 g c =
     let i = c.args.slot in
     let found = c.take_slot-found.result in
     let set : bit_at found i ≡ 1 = elim (bit_cases found i) [
-      | inl zero ↦ absurd (c.if-found-slot-eq0.false (shr_and_one found i ∙ zero))
-      | inr one ↦ one
+      | inl one ↦ one
+      | inr zero ↦ absurd (c.if-found-slot-eq0.false (shr_and_one found i ∙ zero))
     ] in
     let lost = lost_slot o (seat_of m) (teller_of m) s x b i p c.requires.on found set q (c.take_slot-found.ensures.seen, c.take_slot-found.ensures.led) in
     begun_then o m c.search.new.self (at (teller_of m) (OnSlot s (Mark x b i))) (look_at o (seat_of m) (teller_of m) s x b) p q c.search.new.port lost.1 c.search.ensures
