@@ -21,8 +21,10 @@ use Rattle.sg_copy.specs.Grays.{item_of}
 use Rattle.sg_copy.specs.Copying.{area_by}
 use Rattle.sg_copy.specs.Telling.{Seat, Teller, Tells, at}
 use Rattle.sg_copy.specs.State.{Copying, slots_in_hand, teller_of, worker_of, seat_of, IsKindOf, TakesInHand, IsSameCopier}
-use Rattle.sg_copy.specs.Turning.{IsNextOf}
-use Rattle.sg_copy.proofs.Ports.{Ports, On, Gone, Started, Did, may_at, did_at, may_now, saw_now, on_now, one_step, started, started_then}
+use Rattle.sg_copy.specs.Turning.{IsNextOf, HasBegun}
+use Rattle.sg_copy.specs.declared.copier.Stage.TheVariants.{Between}
+use Rattle.sg_copy.proofs.Handled.{seat_same, same_then, idle_is, on_as}
+use Rattle.sg_copy.proofs.Ports.{Ports, On, Gone, Started, Did, may_at, did_at, may_now, saw_now, on_now, on_then, one_step, started, started_then, gone_then, gone_started}
 use Rattle.sg_copy.proofs.Seen.{saw_at}
 
 -- the next item of a sane worker is sane
@@ -123,3 +125,31 @@ module _ {P : Type 0} (o : Ports P) (seat : Seat) (t : Teller) (whole : ℕ) (a 
       opened = started_then o seat a (counting v) (handed n) p q r
           (started o seat a (counting v) p on (Load (Word whole) v) (open_next v) q did_open)
           (one_step o seat (counting v) (handed n) q on_count (Load (Word (whole + 1)) n) (count_next n count_short) r did_count (λ h. h))
+
+-- the slots of the object in hand are handled one after another
+module _ {P : Type 0} (o : Ports P) (m s k : Copying) (slot : ℕ) (x y : P) (on : On o (seat_of m) x (teller_of m)) (gone : Gone o (seat_of m) (teller_of m) x (teller_of s) y)
+    (same : IsSameCopier m s) (between : s.stage ≡ Between) (put : k ≡ record s { hand = k.hand }) where
+  same_put : IsSameCopier m k
+  same_put = same_then m s k same (same_hand s k k.hand put)
+
+  pub scan_on : On o (seat_of k) y (at (teller_of s) Idle)
+  scan_on = on_as o (seat_of m) (seat_of k) (teller_of s) (at (teller_of s) Idle) y (seat_same m k same_put) (idle_is s between) (on_then o (seat_of m) (teller_of m) (teller_of s) x y on gone)
+
+  module _ (next : slots_in_hand s.hand ≡ slot ∷ slots_in_hand k.hand) where
+    pub scan_next : IsNextOf (at (teller_of s) Idle) (SlotOf slot) (at (teller_of k) Idle)
+    scan_next = next_handed s k slot next put
+
+    not_over : slots_in_hand s.hand ≡ [] → ⊥
+    not_over e = let f : slot ∷ slots_in_hand k.hand ≡ [] = sym next ∙ e in cc
+
+    pub scanned : (d : Copying) (z : P) → HasBegun k o.leads (at (teller_of s) Idle) y d z → Gone o (seat_of m) (teller_of m) x (teller_of d) z × IsSameCopier m d
+    scanned d z h = (
+      gone_then o (seat_of m) (teller_of m) (teller_of s) (teller_of d) x y z gone
+          (subst (λ (a : Teller). Gone o (seat_of m) a y (teller_of d) z) (idle_is s between)
+          (gone_started o (seat_of m) (at (teller_of s) Idle) (teller_of d) y z not_over (subst (λ (h : Seat). Started o h (at (teller_of s) Idle) y (teller_of d) z) (seat_same m k same_put) h.started))),
+      same_then m k d same_put h.same.copier,
+    )
+
+  pub scan_ends : slots_in_hand s.hand ≡ [] → slots_in_hand k.hand ≡ [] → Gone o (seat_of m) (teller_of m) x (teller_of k) y
+  scan_ends before after = subst (λ (a : Teller). Gone o (seat_of m) (teller_of m) x a y)
+      (ap (λ (hand : List ℕ). record (teller_of s) { worker = record (worker_of s) { hand = hand } }) (before ∙ sym after) ∙ sym (ap teller_of put)) gone

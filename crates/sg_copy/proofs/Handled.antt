@@ -165,3 +165,20 @@ module _ {P : Type 0} (o : Ports P) where
     started = subst (λ (s : Seat). Started o s a x (teller_of d) y) (seat_same c k same) h.started;
     same = same_then c k d same h.same;
   }
+
+  -- a turn set out with the prepared exchange
+  module _ (m k : Copying) (stage : Stage) (set : k ≡ record m { stage = Between }) (was : m.stage ≡ stage) where
+    same_set : IsSameCopier m k
+    same_set = (same_stage m k Between set).copier
+
+    as_set : at (teller_of k) (mid_of stage) ≡ teller_of m
+    as_set = ap (λ (c : Copying). at (teller_of c) (mid_of stage)) set ∙ ap (λ (st : Stage). at (teller_of m) (mid_of st)) (sym was)
+
+    pub set_on : (x : P) → On o (seat_of m) x (teller_of m) → On o (seat_of k) x (at (teller_of k) (mid_of stage))
+    set_on x on = on_as (seat_of m) (seat_of k) (teller_of m) (at (teller_of k) (mid_of stage)) x (seat_same m k same_set) as_set on
+
+    pub set_out : (d : Copying) (x y : P) → HasSetOut k o.leads (at (teller_of k) (mid_of stage)) x d y → HasSetOut m o.leads (teller_of m) x d y
+    set_out d x y h = set_out_as m k d (teller_of m) x y same_set (subst (λ (a : Teller). HasSetOut k o.leads a x d y) as_set h)
+
+    pub set_out_begun : (d : Copying) (x y : P) → HasBegun k o.leads (at (teller_of k) (mid_of stage)) x d y → HasSetOut m o.leads (teller_of m) x d y
+    set_out_begun d x y h = set_out d x y (record { started = h.started; same = h.same.copier })

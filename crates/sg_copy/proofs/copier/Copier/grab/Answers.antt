@@ -29,7 +29,6 @@ swap_cell-requires g c =
     let o = ports g in
     let m = c.args.self.now in
     let p = c.args.port.now in
-    let q = c.swap_cell.new.self in
     let i = c.args.cell in
     let item = item_of c.args.item in
     let team : c.place_in_team-number.result.1 ≡ m.team = ap (λ (n : ℕ × ℕ). n.1) c.place_in_team-number.ensures in
