@@ -1,0 +1,12 @@
+pub mod Ports
+pub mod Seen
+pub mod Bodies
+pub mod Places
+pub mod Looks
+pub mod Swaps
+pub mod Handing
+pub mod Seeking
+pub mod Cells
+pub mod Items
+pub mod Handled
+pub mod Changes
