@@ -161,7 +161,7 @@ module _ {t : Start} {v : Words} {workers : ℕ → Worker} (o : IsRoundOpening 
   mid-sane k spare list hand Over q = (q.0, q.1)
 
   -- at most as many objects move and fail as the nursery has words
-  few-settled : length r.moves + length r.fails ≤ t.area.high - t.area.low
+  pub few-settled : length r.moves + length r.fails ≤ t.area.high - t.area.low
   few-settled =
       let e = length-append r.moves r.fails in
       let f = few-between t.area.low t.area.high (r.moves ++ r.fails)

@@ -1,5 +1,5 @@
 -- A round in its midst: lists of steps, one behind another.
-use Rattle.std.proofs.Common.{◌≡◌, ◌≢◌, ℕ, eqb, List, [], ◌∷◌, ◌++◌, inl, inr, refl, ap, sym, ◌∙◌, subst}
+use Rattle.std.proofs.Common.{◌≡◌, ◌≢◌, ℕ, ◌+◌, ◌-◌, ◌≤◌, length, eqb, List, [], ◌∷◌, ◌++◌, inl, inr, refl, ap, sym, ◌∙◌, subst}
 use Rattle.std.proofs.lemmas.Bool.{cases_eq, cond-true, cond-false, eq-eqb, ne_eqb}
 use Rattle.std.proofs.lemmas.List.{append-nil}
 use Rattle.sg_words.specs.declared.steps.Step.{Step}
@@ -7,10 +7,10 @@ use Rattle.sg_words.specs.Words.{Words, after_step, replayed, IsLegal}
 use Rattle.sg_words.proofs.Puts.{put-all}
 use Rattle.sg_round.specs.Area.{Area}
 use Rattle.sg_round.specs.Worker.{Worker}
-use Rattle.sg_round.specs.Rules.{Deed, WorkEvent, steps, part, by_one, Follows}
-use Rattle.sg_round.specs.Laws.{IsSoFar, steps_of, OpensSoFar, GoesSoFar, GoesAlways}
+use Rattle.sg_round.specs.Rules.{Deed, WorkEvent, steps, part, by_one, Follows, failed_by}
+use Rattle.sg_round.specs.Laws.{IsSoFar, steps_of, OpensSoFar, GoesSoFar, TellsSoFar, FewSoFar, GoesAlways}
 use Rattle.sg_round.proofs.Law.{part-same, part-other, so-far}
-use Rattle.sg_round.proofs.Sanity.{is-sane}
+use Rattle.sg_round.proofs.Sanity.{is-sane, few-settled}
 use Rattle.sg_round.proofs.Progress.{goes-on, can-go}
 
 -- the parts of one worker's deeds
@@ -75,6 +75,16 @@ goes_so_far t v workers k a v' so went =
           (sym (part-more j so.events mine ∙ ap (λ ts. part j so.events ++ ts) (part-none j k went.deeds other) ∙ append-nil (part j so.events)))
           (so.follows j));
     }
+
+pub tells_so_far : TellsSoFar
+unfolding goes_so_far
+tells_so_far t v workers k a v' so went = (goes_so_far t v workers k a v' so went, refl)
+
+pub few_so_far : FewSoFar
+few_so_far t v workers so =
+    let x = so-far t v workers so in
+    subst (λ (l : List ℕ). length l + length (failed_by [] so.events) ≤ t.area.high - t.area.low) x.moves
+    (subst (λ (l : List ℕ). length x.world.round.moves + length l ≤ t.area.high - t.area.low) x.fails (few-settled so.opening x.world))
 
 pub goes_always : GoesAlways
 goes_always t v workers so = let x = so-far t v workers so in record {

@@ -1,4 +1,4 @@
-ghost use Rattle.sg_round.specs.Laws.{OpensSoFar, GoesSoFar, RacingLaw, OneWorkerLaw, OneOrderLaw, GoesAlways, Released, MoreItems};
+ghost use Rattle.sg_round.specs.Laws.{OpensSoFar, GoesSoFar, TellsSoFar, FewSoFar, RacingLaw, OneWorkerLaw, OneOrderLaw, GoesAlways, Released, MoreItems};
 
 /// A round's opening is its midst before any step.
 pub fn opens_so_far()
@@ -8,6 +8,16 @@ pub fn opens_so_far()
 /// From the midst of a round the next steps of any worker lead on.
 pub fn goes_so_far()
     ensures { GoesSoFar }
+{}
+
+/// And then these steps are the last ones of the round.
+pub fn tells_so_far()
+    ensures { TellsSoFar }
+{}
+
+/// In the midst of a round no more objects have moved and failed than the nursery has words.
+pub fn few_so_far()
+    ensures { FewSoFar }
 {}
 
 /// The law of racing copiers: every legal list of atomic steps of any number of workers that follow their programs, and have all
