@@ -1,6 +1,15 @@
+ghost use Rattle.std.specs.Prelude.{◌≡◌, ◌≢◌, ℕ, ◌+◌, ◌<◌, ◌≤◌, List, IfOk, length, map, slice_index, vec_capacity, replicate};
+ghost use Rattle.std.specs.List.{All};
+ghost use Rattle.sg_words.specs.Address.{word_at};
+ghost use Rattle.sg_words.specs.Sections.{IsInSection};
+ghost use Rattle.sg_words.specs.declared.pieces.Move.{Move as AnyMove};
+ghost use Rattle.sg_copy.specs.Copying.{CanCopy, HasCopiedTo};
+ghost use Rattle.sg_copy.specs.Rounds.{AreItems, IsReady, HasRun, IsForwarded, found_move, no_cells};
+
 use crate::copier::Copier;
 use crate::gray::Gray;
 use crate::plain::PlainRound;
+use sg_round::{few_so_far, goes_always, one_worker, opens_so_far, tells_so_far};
 use sg_space::Space;
 use sg_words::{Addr, Move, forwarded_to};
 use std::alloc::{AllocError, Global};
@@ -32,6 +41,9 @@ pub fn copy_one(
     slots: &[Addr],
     wholes: &[Addr],
 ) -> Result<Round, AllocError>
+    requires { CanCopy space (map word_at slots.now) (map word_at wholes.now) }
+    ensures copied { IfOk result (λ round. HasCopiedTo space (map word_at slots.now) (map word_at wholes.now) round.space round.moves.items round.fails.items) }
+    ensures spares { IfOk result (λ round. round.spares ≡ 0) }
 {
     let mut space = space;
     let items = items_of(alloc, slots, wholes, space.layout().nursery as usize)?;
@@ -49,6 +61,8 @@ pub fn copy_one(
 
 /// The items: the slots first, then the objects; with room for so many more.
 fn items_of(alloc: Global, slots: &[Addr], wholes: &[Addr], room: usize) -> Result<Vec<Gray>, AllocError>
+    ensures items { IfOk result (λ items. AreItems (map word_at slots.now) (map word_at wholes.now) items.items) }
+    ensures room { IfOk result (λ items. length items.items + room ≤ vec_capacity items) }
 {
     let mut items = Vec::with_capacity(alloc, slots.len() + wholes.len() + room)?;
     for slot in slots {
@@ -60,18 +74,40 @@ fn items_of(alloc: Global, slots: &[Addr], wholes: &[Addr], room: usize) -> Resu
     Ok(items)
 }
 
-/// Gives turns until nothing is left to do.
+/// Gives turns over the lent space until nothing is left to do.
 fn run(alloc: Global, space: &mut Space, copier: &mut Copier) -> Result<(), AllocError>
+    requires ready { (slots : List ℕ) × (wholes : List ℕ) × IsReady space.old slots wholes copier.old }
+    ensures run { IfOk result (λ _. (slots wholes : List ℕ) → IsReady space.old slots wholes copier.old → HasRun space.old slots wholes space.new copier.new) }
 {
     let mut port = PlainRound::new(alloc, space, 1)?;
-    while !copier.ended() {
-        copier.turn_on(&mut port);
-    }
+    give_turns(&mut port, copier);
     Ok(())
+}
+
+/// Gives turns over the port's space.
+fn give_turns(port: &mut PlainRound<'_>, copier: &mut Copier)
+    requires empty { port.old.cells.items ≡ no_cells }
+    requires ready { (slots : List ℕ) × (wholes : List ℕ) × IsReady port.old.space.now slots wholes copier.old }
+    ensures same { port.new.space.ghost_name ≡ port.old.space.ghost_name }
+    ensures run { (slots wholes : List ℕ) → IsReady port.old.space.now slots wholes copier.old →
+        HasRun port.old.space.now slots wholes port.new.space.now copier.new }
+{
+    // The laws that it rests on: these calls do nothing.
+    opens_so_far();
+    tells_so_far();
+    few_so_far();
+    goes_always();
+    one_worker();
+    while !copier.ended() {
+        copier.turn_on(port);
+    }
 }
 
 /// Where each of the objects went, by their first words.
 fn find_copies(space: &Space, moves: &mut [Move])
+    requires there { All (λ (m : AnyMove). IsInSection space.now.layout (word_at m.from)) moves.old }
+    requires forwarded { All (λ (m : AnyMove). IsForwarded space.now m) moves.old }
+    ensures { moves.new ≡ map (λ (m : AnyMove). found_move space.now m) moves.old }
 {
     for k in 0..moves.len() {
         if let Some(to) = forwarded_to(space.read(moves[k].from)) {
