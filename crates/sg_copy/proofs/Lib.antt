@@ -5,3 +5,8 @@ pub mod Places
 pub mod Looks
 pub mod Handled
 pub mod Changes
+pub mod RoundLists
+pub mod RoundMeasure
+pub mod RoundGuided
+pub mod RoundTold
+pub mod RoundMidst

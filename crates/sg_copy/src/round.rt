@@ -61,6 +61,7 @@ pub fn copy_one(
 
 /// The items: the slots first, then the objects; with room for so many more.
 fn items_of(alloc: Global, slots: &[Addr], wholes: &[Addr], room: usize) -> Result<Vec<Gray>, AllocError>
+    requires { room ≤ 65536 }
     ensures items { IfOk result (λ items. AreItems (map word_at slots.now) (map word_at wholes.now) items.items) }
     ensures room { IfOk result (λ items. length items.items + room ≤ vec_capacity items) }
 {
@@ -110,8 +111,21 @@ fn find_copies(space: &Space, moves: &mut [Move])
     ensures { moves.new ≡ map (λ (m : AnyMove). found_move space.now m) moves.old }
 {
     for k in 0..moves.len() {
-        if let Some(to) = forwarded_to(space.read(moves[k].from)) {
-            moves[k].to = to;
-        }
+        moves[k] = find_copy(space, moves[k]);
+    }
+}
+
+/// Where this object went, by its first word.
+fn find_copy(space: &Space, moved: Move) -> Move
+    requires there { IsInSection space.now.layout (word_at moved.from) }
+    requires forwarded { IsForwarded space.now moved }
+    ensures { result ≡ found_move space.now moved }
+{
+    match forwarded_to(space.read(moved.from)) {
+        Some(to) => Move {
+            from: moved.from,
+            to,
+        },
+        None => moved,
     }
 }

@@ -1,0 +1,73 @@
+-- A round of one worker over a plain space, in its midst.
+use Rattle.std.proofs.Common.{◌≡◌, ◌≢◌, ℕ, ◌+◌, ◌-◌, ◌*◌, ◌<◌, ◌≤◌, Bool, List, [], ◌∷◌, ◌++◌, length, map, slice_index, replicate, refl, sym, ap, ◌∙◌, subst, arith}
+use Rattle.sg_words.specs.Words.{Words, Saw, replayed, IsLegal}
+use Rattle.sg_words.specs.Programs.{FollowsBy, Guides}
+use Rattle.sg_words.specs.declared.steps.Step.{Step}
+use Rattle.sg_words.specs.declared.steps.Call.{Call}
+use Rattle.sg_space.specs.Space.{Contents, IsContents}
+use Rattle.sg_round.specs.Area.{Area}
+use Rattle.sg_round.specs.Acting.{RestsAt}
+use Rattle.sg_round.specs.Round.{Start, IsRoundOpening}
+use Rattle.sg_round.specs.Laws.{OpensSoFar, TellsSoFar, FewSoFar, GoesAlways}
+use Rattle.sg_copy.specs.declared.gray.Gray.{Gray}
+use Rattle.sg_copy.specs.declared.plain.PlainRound.{PlainRound}
+use Rattle.sg_copy.specs.Copying.{area_of, IsStillBeside}
+use Rattle.sg_copy.specs.State.{Copying, teller_of, seat_of, worker_of, IsSameCopier}
+use Rattle.sg_copy.specs.Telling.{Seat, Teller, Tells, TellsOn, IsSaneTeller, IsOn, HasTurned}
+use Rattle.sg_copy.specs.Plain.{words_with, LeadsOn, Allows, still_none, still_then}
+use Rattle.sg_copy.specs.Rounds.{start_of}
+use Rattle.sg_copy.proofs.RoundGuided.{Stood, stood-later, stood-sane, stood-next, seat_in, may-call}
+use Rattle.sg_copy.proofs.RoundMeasure.{IsAlone, left, eased-turn}
+
+-- From the port and the copier of the begin, the round has come to this port and this copier.
+pub record IsMidst (from : PlainRound) (slots wholes : List ℕ) (items : List Gray) (zone : ℕ → Bool) (port : PlainRound) (c : Copying) : Type 0 where
+  pub same : port.space.ghost_name ≡ from.space.ghost_name
+  pub seat : seat_of c ≡ seat_in (area_of from.space.now) (length items)
+  pub stood : Stood (start_of from.space.now slots wholes items zone) (words_with port.space.now port.cells.items) (teller_of c)
+  pub still : IsStillBeside from.space.now port.space.now
+  pub eight : length port.cells.items ≡ 8
+  pub knows : IsAlone (area_of from.space.now) (words_with port.space.now port.cells.items) (worker_of c)
+  pub rests : RestsAt (worker_of c)
+
+-- the plain port, as a worker sees it
+abbrev pub Leads : PlainRound → List Step → PlainRound → Type 0
+Leads p es q = (q.space.ghost_name ≡ p.space.ghost_name) × LeadsOn p.space.now p.cells.items es q.space.now q.cells.items
+
+abbrev pub May : PlainRound → Call → Type 0
+May p call = Allows p.space.now p.cells.items call
+
+abbrev pub Sees : PlainRound → Step → Type 0
+Sees p s = Saw (words_with p.space.now p.cells.items) s
+
+module _ (tells : TellsSoFar) (few : FewSoFar) (always : GoesAlways) (from : PlainRound) (is : IsContents from.space.now) (slots wholes : List ℕ) (items : List Gray)
+    (zone : ℕ → Bool) where
+  abbrev start : Start
+  start = start_of from.space.now slots wholes items zone
+
+  abbrev seat : Seat
+  seat = seat_in (area_of from.space.now) (length items)
+
+  -- the port guides the worker
+  guided : (port : PlainRound) (a : Teller) → Stood start (words_with port.space.now port.cells.items) a → IsStillBeside from.space.now port.space.now →
+      length port.cells.items ≡ 8 → IsOn seat Leads May Sees (λ p. length p.space.now.blocks) port a
+  guided port a st still eight = record {
+    guided = record {
+      is_sane = stood-sane tells few always start refl (words_with port.space.now port.cells.items) a st;
+      allows = λ es q b s c led follows sane next.
+          may-call from.space.now q.space.now q.cells.items is (still_then from.space.now port.space.now q.space.now still led.1.still) (led.1.as_many ∙ eight) (length items)
+          b.worker s next.0 c.worker next.1 sane.worker;
+      goes = λ es q b s c t led follows sane next e saw.
+          stood-next tells few always start refl (words_with q.space.now q.cells.items) b s c t
+          (subst (λ (v : Words). Stood start v b) (sym led.1.words)
+          (stood-later tells few always start refl (words_with port.space.now port.cells.items) es a b st follows led.1.legal)) next e saw;
+    };
+    blocks_are = still.blocks ∙ is.blocks;
+  }
+
+  module _ (port : PlainRound) (c : Copying) (mid : IsMidst from slots wholes items zone port c) where
+    pub is-on : IsOn (seat_of c) Leads May Sees (λ p. length p.space.now.blocks) port (teller_of c)
+    is-on = subst (λ (s : Seat). IsOn s Leads May Sees (λ p. length p.space.now.blocks) port (teller_of c)) (sym mid.seat)
+        (guided port (teller_of c) mid.stood mid.still mid.eight)
+
+    same-seat : (d : Copying) → IsSameCopier c d → seat_of d ≡ seat_of c
+    same-seat d same = (let a = same.layout in let b = same.shapes in let e = same.number in let f = same.team in let g = same.most in cc)
