@@ -10,3 +10,6 @@ pub mod RoundMeasure
 pub mod RoundGuided
 pub mod RoundTold
 pub mod RoundMidst
+pub mod RoundStart
+pub mod RoundDone
+pub mod RoundRun

@@ -73,7 +73,7 @@ module _ (s0 s : Contents) (cells : List ℕ) (is : IsContents s0) (still : IsSt
   cell-there : (c : ℕ) → c < 8 → c < length cells
   cell-there c l = omega arith
 
-  may-call : (most : ℕ) (a : Worker) (step : Step) (effect : Effect) (b : Worker) → Comes (area_of s0) 1 0 a step effect b → IsSane (area_of s0) 1 most 0 a →
+  pub may-call : (most : ℕ) (a : Worker) (step : Step) (effect : Effect) (b : Worker) → Comes (area_of s0) 1 0 a step effect b → IsSane (area_of s0) 1 most 0 a →
       Allows s cells (call_of step)
   may-call most _ _ _ _ (opens a b t u nx) sane = let h = whole-next most 0 a (WholeOf t) t b refl nx sane in let l = h.1 in word-there t (h.0, omega arith)
   may-call most _ _ _ _ (counts a t class n l) sane = let h = sane.at.0 in let m = h.0 in let l = h.1 in word-there (t + 1) (omega arith, omega arith)

@@ -91,7 +91,7 @@ free_one (Swept z) = 0
 free_one (Need z) = 0
 free_one (Sweeping z) = 0
 
-free_below : (ℕ → BlockWord) → ℕ → ℕ
+pub free_below : (ℕ → BlockWord) → ℕ → ℕ
 free_below f zero = 0
 free_below f (suc n) = free_one (f n) + free_below f n
 
@@ -326,13 +326,13 @@ found-more a b (Moves z) m f = let x = ap length m in let y = ap length f in let
 found-more a b (Fails z) m f = let x = ap length m in let y = ap length f in let l = length-append a.fails (z ∷ []) in omega arith
 found-more a b (FailsEnding z s) m f = let x = ap length m in let y = ap length f in let l = length-append a.fails (z ∷ []) in omega arith
 
+-- how much is left to do, also with the objects that can still be found
+abbrev pub left : Area → Words → Teller → ℕ
+left area v a = 125 * ((area.high - area.low) - found_by a) + owed area v a.worker
+
 module _ (area : Area) (most k : ℕ) where
   abbrev seat : Seat
   seat = record { area = area; team = 1; most = most; number = k }
-
-  -- how much is left to do, also with the objects that can still be found
-  abbrev pub left : Words → Teller → ℕ
-  left v a = 125 * ((area.high - area.low) - found_by a) + owed area v a.worker
 
   -- steps within a turn
   eased-more : (es : List Step) (a b : Teller) (v : Words) → FollowsBy (TellsOn seat) a es b → IsLegal v es → IsAlone area v a.worker →
@@ -347,12 +347,12 @@ module _ (area : Area) (most k : ℕ) where
       (rest.0, omega arith)
 
   -- a turn leaves less to do
-  pub eased-turn : (e : Step) (es : List Step) (a then b : Teller) (v : Words) → RestsAt a.worker → Tells seat a e then → FollowsBy (TellsOn seat) then es b →
+  pub eased-turn : (e : Step) (es : List Step) (a d b : Teller) (v : Words) → RestsAt a.worker → Tells seat a e d → FollowsBy (TellsOn seat) d es b →
       IsLegal v (e ∷ es) → IsAlone area v a.worker → found_by a ≤ area.high - area.low → found_by b ≤ area.high - area.low →
-      IsAlone area (replayed v (e ∷ es)) b.worker × (left (replayed v (e ∷ es)) b < left v a)
-  eased-turn e es a then b v rests t f legal al few more =
-      let s = eased area v k a.worker e t.0 then.worker t.1 legal.0 al in
-      let m = found-more a then t.0 t.2 t.3 in
-      let rest = eased-more es then b (after_step v e) f legal.1 s.alone in
+      IsAlone area (replayed v (e ∷ es)) b.worker × (left area (replayed v (e ∷ es)) b < left area v a)
+  eased-turn e es a d b v rests t f legal al few more =
+      let s = eased area v k a.worker e t.0 d.worker t.1 legal.0 al in
+      let m = found-more a d t.0 t.2 t.3 in
+      let rest = eased-more es d b (after_step v e) f legal.1 s.alone in
       let l = s.strict rests in let r = rest.1 in
       (rest.0, omega arith)

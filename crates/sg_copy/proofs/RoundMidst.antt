@@ -69,5 +69,47 @@ module _ (tells : TellsSoFar) (few : FewSoFar) (always : GoesAlways) (from : Pla
     is-on = subst (λ (s : Seat). IsOn s Leads May Sees (λ p. length p.space.now.blocks) port (teller_of c)) (sym mid.seat)
         (guided port (teller_of c) mid.stood mid.still mid.eight)
 
+    follows-all : (s : Seat) (es : List Step) (a b : Teller) → FollowsBy (TellsOn s) a es b → FollowsBy (Tells s) a es b
+    follows-all s [] a b f = f
+    follows-all s (e ∷ es) a b f = (f.0, f.1.1, follows-all s es f.0 b f.2)
+
     same-seat : (d : Copying) → IsSameCopier c d → seat_of d ≡ seat_of c
     same-seat d same = (let a = same.layout in let b = same.shapes in let e = same.number in let f = same.team in let g = same.most in cc)
+
+    module _ (port' : PlainRound) (d : Copying) (turned : HasTurned (seat_of c) Leads (teller_of c) port (teller_of d) port') (same : IsSameCopier c d) where
+      turn : HasTurned seat Leads (teller_of c) port (teller_of d) port'
+      turn = subst (λ (s : Seat). HasTurned s Leads (teller_of c) port (teller_of d) port') mid.seat turned
+
+      abbrev v : Words
+      v = words_with port.space.now port.cells.items
+
+      abbrev v' : Words
+      v' = words_with port'.space.now port'.cells.items
+
+      abbrev steps : List Step
+      steps = turn.started.first ∷ turn.started.more
+
+      eased : IsAlone (area_of from.space.now) v' (worker_of d) × (left (area_of from.space.now) v' (teller_of d) < left (area_of from.space.now) v (teller_of c))
+      eased = let st = turn.started in
+          subst (λ (u : Words). IsAlone (area_of from.space.now) u (worker_of d) × (left (area_of from.space.now) u (teller_of d) < left (area_of from.space.now) v (teller_of c)))
+          (sym st.led.1.words)
+          (eased-turn (area_of from.space.now) (length items) 0 st.first st.more (teller_of c) st.then (teller_of d) v mid.rests st.begins st.goes st.led.1.legal mid.knows
+          (stood-sane tells few always start refl v (teller_of c) mid.stood).few st.is_sane.few)
+
+      pub goes-on : IsMidst from slots wholes items zone port' d
+      goes-on = let st = turn.started in record {
+        same = st.led.0 ∙ mid.same;
+        seat = same-seat d same ∙ mid.seat;
+        stood = subst (λ (u : Words). Stood start u (teller_of d)) (sym st.led.1.words)
+            (stood-later tells few always start refl v steps (teller_of c) (teller_of d) mid.stood
+            (st.then, st.begins, follows-all seat st.more st.then (teller_of d) st.goes) st.led.1.legal);
+        still = still_then from.space.now port.space.now port'.space.now mid.still st.led.1.still;
+        eight = st.led.1.as_many ∙ mid.eight;
+        knows = eased.0;
+        rests = turn.rests;
+      }
+
+      pub less : left (seat_of d).area v' (teller_of d) < left (seat_of c).area v (teller_of c)
+      less = let e = ap (λ (s : Seat). s.area) mid.seat in let f = ap (λ (s : Seat). s.area) (same-seat d same ∙ mid.seat) in
+          subst (λ (a : Area). left a v' (teller_of d) < left (seat_of c).area v (teller_of c)) (sym f)
+          (subst (λ (a : Area). left (area_of from.space.now) v' (teller_of d) < left a v (teller_of c)) (sym e) eased.1)

@@ -9,7 +9,7 @@ ghost use Rattle.sg_copy.specs.Rounds.{AreItems, IsReady, HasRun, IsForwarded, f
 use crate::copier::Copier;
 use crate::gray::Gray;
 use crate::plain::PlainRound;
-use sg_round::{few_so_far, goes_always, one_worker, opens_so_far, tells_so_far};
+use sg_round::{few_so_far, goes_always, one_worker, tells_so_far};
 use sg_space::Space;
 use sg_words::{Addr, Move, forwarded_to};
 use std::alloc::{AllocError, Global};
@@ -94,7 +94,6 @@ fn give_turns(port: &mut PlainRound<'_>, copier: &mut Copier)
         HasRun port.old.space.now slots wholes port.new.space.now copier.new }
 {
     // The laws that it rests on: these calls do nothing.
-    opens_so_far();
     tells_so_far();
     few_so_far();
     goes_always();
