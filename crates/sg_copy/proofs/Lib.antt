@@ -3,6 +3,9 @@ pub mod Seen
 pub mod Bodies
 pub mod Places
 pub mod Looks
+pub mod Swaps
+pub mod Handing
+pub mod Seeking
 pub mod Handled
 pub mod Changes
 pub mod RoundLists

@@ -25,7 +25,7 @@ use Rattle.sg_round.specs.Rules.Comes.{forwards, loses, fails, fails_bare, fails
 use Rattle.sg_round.specs.Rules.Comes.{keeps, prepares, offers, offers_not, seeks, ends, finds, grabs, grabs_not}
 use Rattle.sg_round.specs.Sane.{IsWord, IsSaneItem, AreSaneItems, IsSaneAt, IsSane}
 use Rattle.sg_round.specs.Round.{Start}
-use Rattle.sg_round.specs.Laws.{IsSoFar, Went, steps_of, TellsSoFar, FewSoFar, GoesAlways}
+use Rattle.sg_round.specs.Laws.{IsSoFar, Went, steps_of, TellsSoFar, BoundedLaw, GoesAlways}
 use Rattle.sg_copy.specs.Copying.{area_of, IsStillBeside}
 use Rattle.sg_copy.specs.Telling.{Seat, Teller, moves_with, fails_with, Tells, IsSaneTeller}
 use Rattle.sg_copy.specs.Plain.{words_with, LeadsOn, Allows, IsWordIn}
@@ -36,7 +36,7 @@ abbrev pub seat_in : Area → ℕ → Seat
 seat_in area most = record { area = area; team = 1; most = most; number = 0 }
 
 -- the calls of worker 0 of one are allowed, where the space has the sections of the first one
-module _ (s0 s : Contents) (cells : List ℕ) (is : IsContents s0) (still : IsStillBeside s0 s) (eight : length cells ≡ 8) where
+module _ (s0 s : Contents) (cells : List ℕ) (is : IsContents s0) (still : IsStillBeside s0 s) (as_many : length cells ≡ 64) where
   layout-is : s.layout ≡ s0.layout
   layout-is = ap (λ (c : Contents). c.layout) still.same
 
@@ -184,7 +184,7 @@ pub record Stood (t : Start) (v : Words) (a : Teller) : Type 0 where
   pub moves : a.moves ≡ moved_by [] so.events
   pub fails : a.fails ≡ failed_by [] so.events
 
-module _ (tells : TellsSoFar) (few : FewSoFar) (always : GoesAlways) (t : Start) (one : t.team ≡ 1) where
+module _ (tells : TellsSoFar) (bounded : BoundedLaw) (always : GoesAlways) (t : Start) (one : t.team ≡ 1) where
   abbrev its_seat : Seat
   its_seat = record { area = t.area; team = t.team; most = t.most; number = 0 }
 
@@ -213,7 +213,7 @@ module _ (tells : TellsSoFar) (few : FewSoFar) (always : GoesAlways) (t : Start)
   stood-sane v a st = record {
     worker = subst (IsSane t.area t.team t.most 0) (alone-first a.worker) ((always t v (alone a.worker) st.so).sane 0);
     few = subst (λ (l : List ℕ). length l + length a.fails ≤ t.area.high - t.area.low) (sym st.moves)
-        (subst (λ (l : List ℕ). length (moved_by [] st.so.events) + length l ≤ t.area.high - t.area.low) (sym st.fails) (few t v (alone a.worker) st.so));
+        (subst (λ (l : List ℕ). length (moved_by [] st.so.events) + length l ≤ t.area.high - t.area.low) (sym st.fails) (bounded t v (alone a.worker) st.so).settled);
   }
 
   -- whatever a call for a next step sees, a step comes next

@@ -32,7 +32,7 @@ module _ (port : PlainRound) (slots wholes : List ℕ) where
       ap (λ (f : ℕ → ℕ). record (starting (map item_of items)) { spare = f; passed = f }) (sym (fun_ext (cells-empty 65)))
 
   -- the begin, with a fresh copier
-  fresh-midst : (c : Copying) (ready : IsReady port.space.now slots wholes c) → port.cells.items ≡ no_cells →
+  fresh-midst : (c : Copying) (ready : IsReady port.space.now slots wholes c) → port.cells ≡ no_cells →
       IsMidst port slots wholes ready.items ready.can.zone port (fresh_copying port.space.now 0 1 ready.items)
   fresh-midst c ready empty =
       let t = start_of port.space.now slots wholes ready.items ready.can.zone in
@@ -49,13 +49,13 @@ module _ (port : PlainRound) (slots wholes : List ℕ) where
         stood = subst (λ (cells : List ℕ). Stood t (words_with port.space.now cells) (teller_of fresh)) (sym empty)
             (subst (λ (w : Worker). Stood t (words_with port.space.now no_cells) (record { worker = w; moves = []; fails = [] })) (fresh-worker ready.items) first);
         still = still_none port.space.now;
-        eight = ap length empty;
+        as_many = ap length empty;
         knows = subst (λ (cells : List ℕ). IsAlone (area_of port.space.now) (words_with port.space.now cells) (worker_of fresh)) (sym empty)
-            (record { spares = cells-empty 65; cells = cells-empty 8; at = tt });
+            (record { spares = cells-empty 65; cells = cells-empty 64; at = tt });
         rests = refl;
       }
 
-  pub begins : (c : Copying) (ready : IsReady port.space.now slots wholes c) → port.cells.items ≡ no_cells →
+  pub begins : (c : Copying) (ready : IsReady port.space.now slots wholes c) → port.cells ≡ no_cells →
       IsMidst port slots wholes ready.items ready.can.zone port c
   begins c ready empty = subst (λ (d : Copying). IsMidst port slots wholes ready.items ready.can.zone port d) (sym ready.fresh)
       (fresh-midst c ready empty)
@@ -65,15 +65,15 @@ module _ (port : PlainRound) (slots wholes : List ℕ) where
       IsMidst port slots wholes ready.items ready.can.zone port' d → d.stage ≡ Ended → HasRun port.space.now slots wholes port'.space.now d
   ends-so law c ready port' d mid ended =
       let t = start_of port.space.now slots wholes ready.items ready.can.zone in
-      let v = words_with port'.space.now port'.cells.items in
+      let v = words_with port'.space.now port'.cells in
       let so = mid.stood.so in
       let over : (alone (worker_of d) 0).mid ≡ Over = ap (λ (a : Worker). a.mid) (alone-first (worker_of d)) ∙ ap mid_of ended in
       let done = law t v (alone (worker_of d)) so refl over in
-      let args = has-copied port.space.now slots wholes ready.items ready.can ready.items_are port'.space.now port'.cells.items mid.still so.events (alone (worker_of d)) done in
+      let args = has-copied port.space.now slots wholes ready.items ready.can ready.items_are port'.space.now port'.cells mid.still so.events (alone (worker_of d)) done in
       record {
         moves = map (told_by done.done.m) (moved_by [] so.events);
         fails = map byte_at (failed_by [] so.events);
         copied = args (map (told_by done.done.m) (moved_by [] so.events)) (map byte_at (failed_by [] so.events)) refl refl;
-        told_moves = mid.stood.moves ∙ sym (its-went port.space.now slots wholes ready.items ready.can ready.items_are port'.space.now port'.cells.items mid.still so.events (alone (worker_of d)) done);
-        told_fails = mid.stood.fails ∙ sym (its-stayed port.space.now slots wholes ready.items ready.can ready.items_are port'.space.now port'.cells.items mid.still so.events (alone (worker_of d)) done);
+        told_moves = mid.stood.moves ∙ sym (its-went port.space.now slots wholes ready.items ready.can ready.items_are port'.space.now port'.cells mid.still so.events (alone (worker_of d)) done);
+        told_fails = mid.stood.fails ∙ sym (its-stayed port.space.now slots wholes ready.items ready.can ready.items_are port'.space.now port'.cells mid.still so.events (alone (worker_of d)) done);
       }

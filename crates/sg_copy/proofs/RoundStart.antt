@@ -88,7 +88,7 @@ module _ (s : Contents) (slots wholes : List ℕ) (items : List Gray) (can : Can
     spares = each (λ k a. (z : ℕ) → a.spare z ≡ 0) (λ z. refl) (λ k n z. refl);
     passed = each (λ k a. (z : ℕ) → a.passed z ≡ 0) (λ z. refl) (λ k n z. refl);
     mids = each (λ k a. ((k < 1) × (a.mid ≡ Idle)) ⊎ ((a.mid ≡ Over) × (a.list ≡ []))) (inl (omega arith, refl)) (λ k n. inr (refl, refl));
-    cells = cells-empty 8;
+    cells = cells-empty 64;
   }
 
   pub opens : IsRoundOpening t

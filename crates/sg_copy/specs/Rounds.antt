@@ -23,9 +23,9 @@ resting = record (starting []) { mid = Over }
 abbrev pub alone : Worker → ℕ → Worker
 alone a = put (λ _. resting) 0 a
 
--- its offer cells as it begins
+-- the offer cells as it begins
 abbrev pub no_cells : List ℕ
-no_cells = replicate 8 0
+no_cells = replicate 64 0
 
 -- what a round of one worker begins with, where these are its items: the slots, and the whole objects
 abbrev pub start_of : Contents → List ℕ → List ℕ → List Gray → (ℕ → Bool) → Start

@@ -9,7 +9,7 @@ ghost use Rattle.sg_copy.specs.Rounds.{AreItems, IsReady, HasRun, IsForwarded, f
 use crate::copier::Copier;
 use crate::gray::Gray;
 use crate::plain::PlainRound;
-use sg_round::{few_so_far, goes_always, one_worker, tells_so_far};
+use sg_round::{bounded, goes_always, one_worker, tells_so_far};
 use sg_space::Space;
 use sg_words::{Addr, Move, forwarded_to};
 use std::alloc::{AllocError, Global};
@@ -48,7 +48,7 @@ pub fn copy_one(
     let mut space = space;
     let items = items_of(alloc, slots, wholes, space.layout().nursery as usize)?;
     let mut copier = Copier::new(alloc, &space, 0, 1, items)?;
-    run(alloc, &mut space, &mut copier)?;
+    run(&mut space, &mut copier);
     let (mut moves, fails) = copier.into_told();
     find_copies(&space, moves.as_mut_slice());
     Ok(Round {
@@ -76,18 +76,17 @@ fn items_of(alloc: Global, slots: &[Addr], wholes: &[Addr], room: usize) -> Resu
 }
 
 /// Gives turns over the lent space until nothing is left to do.
-fn run(alloc: Global, space: &mut Space, copier: &mut Copier) -> Result<(), AllocError>
-    requires ready { (slots : List ℕ) × (wholes : List ℕ) × IsReady space.old slots wholes copier.old }
-    ensures run { IfOk result (λ _. (slots wholes : List ℕ) → IsReady space.old slots wholes copier.old → HasRun space.old slots wholes space.new copier.new) }
+fn run(space: &mut Space, copier: &mut Copier)
+    requires { (slots : List ℕ) × (wholes : List ℕ) × IsReady space.old slots wholes copier.old }
+    ensures { (slots wholes : List ℕ) → IsReady space.old slots wholes copier.old → HasRun space.old slots wholes space.new copier.new }
 {
-    let mut port = PlainRound::new(alloc, space, 1)?;
+    let mut port = PlainRound::new(space);
     give_turns(&mut port, copier);
-    Ok(())
 }
 
 /// Gives turns over the port's space.
 fn give_turns(port: &mut PlainRound<'_>, copier: &mut Copier)
-    requires empty { port.old.cells.items ≡ no_cells }
+    requires empty { port.old.cells ≡ no_cells }
     requires ready { (slots : List ℕ) × (wholes : List ℕ) × IsReady port.old.space.now slots wholes copier.old }
     ensures same { port.new.space.ghost_name ≡ port.old.space.ghost_name }
     ensures run { (slots wholes : List ℕ) → IsReady port.old.space.now slots wholes copier.old →
@@ -95,7 +94,7 @@ fn give_turns(port: &mut PlainRound<'_>, copier: &mut Copier)
 {
     // The laws that it rests on: these calls do nothing.
     tells_so_far();
-    few_so_far();
+    bounded();
     goes_always();
     one_worker();
     while !copier.ended() {

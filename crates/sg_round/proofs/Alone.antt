@@ -1,35 +1,28 @@
 -- How a round of one worker stands to the order of its objects.
-use Rattle.std.proofs.Common.{◌≡◌, ◌≢◌, ℕ, ◌+◌, ◌*◌, ◌^◌, ◌≤◌, ◌<◌, ◌⊎◌, false, nat_lt, List, [], ◌∷◌, ◌++◌, map, sym, refl, ap, ◌∙◌, subst, inl, inr, arith}
-use Rattle.std.proofs.lemmas.Bool.{cases_eq, cases_lt, cond-true, cond-false, lt-ltb, le-ltb}
-use Rattle.std.proofs.lemmas.List.{append-nil, append_assoc, map-append}
-use Rattle.std.proofs.Math.Path.{fun_ext}
+use Rattle.std.proofs.Common.{◌≡◌, ℕ, ◌<◌, ◌⊎◌, List, [], ◌∷◌, ◌++◌, map, sym, refl, ap, ◌∙◌, subst, inl, inr}
+use Rattle.std.proofs.lemmas.List.{append-nil, append_assoc}
 use Rattle.std.specs.Int.{bit_at}
-use Rattle.std.specs.Int.Bits.{bit_or}
 use Rattle.sg_words.specs.Address.{byte_at}
 use Rattle.sg_words.specs.Tags.{plain_word}
 use Rattle.sg_words.specs.Lists.{has, In}
-use Rattle.sg_words.specs.Objects.{size_of}
-use Rattle.sg_words.specs.Words.{put, Words}
-use Rattle.sg_words.specs.Blocks.{slot_size, slots}
-use Rattle.sg_words.specs.Found.{IsFirstNew, IsFoundBy}
-use Rattle.sg_words.specs.Found.IsFoundBy.{Begins, Finds}
+use Rattle.sg_words.specs.Words.{Words}
+use Rattle.sg_words.specs.Found.{IsFoundBy}
+use Rattle.sg_words.specs.Found.IsFoundBy.{Finds}
 use Rattle.sg_words.specs.declared.steps.BlockWord.{BlockWord}
-use Rattle.sg_words.specs.declared.steps.BlockWord.TheVariants.{Free, Swept}
-use Rattle.sg_words.proofs.Puts.{put-at, put-other}
+use Rattle.sg_words.specs.declared.steps.BlockWord.TheVariants.{Free}
 use Rattle.sg_words.proofs.Members.{in-here, in-there, out, not-in}
 use Rattle.sg_round.specs.Area.{Area, IsYoung, place}
-use Rattle.sg_round.specs.Items.{Item, WholeOf, slots_by, slots_in, slots_of}
-use Rattle.sg_round.specs.Worker.{Object, Stage, Look, Size, Room, Take, Slots, Mark, Body, Puts, Swap, Pin, Send, Dirty, Mid, Idle, Took, Count, On, Offer}
-use Rattle.sg_round.specs.Worker.{Seek, Grab, Over, Worker, size_for, idle, on, looking}
-use Rattle.sg_round.specs.Rules.{Effect, Nothing, Ends, Moves, Fails, FailsEnding, ended, moved, failed}
-use Rattle.sg_round.specs.Order.{target, targets, strong_of, leads, IsLowest, Fits}
-use Rattle.sg_round.specs.Round.{Start, Round, IsSettled, IsPassed}
-use Rattle.sg_round.proofs.Relation.{InRound, IsWhole, IsKnown, IsKnownItem, AreKnown, in_hand, todo_of, ArePassed, Kept}
+use Rattle.sg_round.specs.Items.{WholeOf, slots_of}
+use Rattle.sg_round.specs.Worker.{Size, Room, Take, Slots, Mark, Body, Puts, Swap, Pin, Send, Dirty, Mid, Idle, Took, Count, On, Offer}
+use Rattle.sg_round.specs.Worker.{Seek, Grab, Over, Worker, size_for}
+use Rattle.sg_round.specs.Rules.{Effect, ended, moved, failed}
+use Rattle.sg_round.specs.Order.{targets, strong_of, leads, IsLowest, Fits}
+use Rattle.sg_round.specs.Round.{Start, Round, IsSettled}
+use Rattle.sg_round.proofs.Relation.{InRound, IsWhole, IsKnown, IsKnownItem, AreKnown, in_hand, todo_of, Kept}
 use Rattle.sg_round.proofs.Steps.{plain-not-fixed}
 use Rattle.sg_round.proofs.Frame.{slots_in-later, slots_of-later}
 use Rattle.sg_round.proofs.Moves.{Before}
-use Rattle.sg_round.proofs.Queue.{firsts, targets-last, targets-append, in-firsts, firsts-old, firsts-new, target-is, target-cases, map-same, line-on}
-use Rattle.sg_round.proofs.Queue.{line-more}
+use Rattle.sg_round.proofs.Queue.{firsts, targets-last, targets-append, in-firsts, firsts-old, firsts-new, target-is, target-cases, map-same}
 use Rattle.sg_round.proofs.Fits.{with_block, with_bit, fits-in, fits-out, fits-map}
 
 -- the source of the slot in hand, where its object is known to have moved or to stay

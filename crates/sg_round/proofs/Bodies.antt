@@ -1,5 +1,5 @@
 -- The rules by which a worker writes a copy, and stores a slot or its card.
-use Rattle.std.proofs.Common.{◌≡◌, ◌≢◌, ℕ, ◌+◌, ◌*◌, ◌≤◌, ◌<◌, ◌⊎◌, false, List, [], ◌∷◌, ◌++◌, sym, refl, ap, ◌∙◌, subst, inl, inr, arith, le_refl}
+use Rattle.std.proofs.Common.{◌≡◌, ℕ, ◌+◌, ◌≤◌, ◌<◌, false, sym, refl, ap, ◌∙◌, subst, inl, inr, arith}
 use Rattle.std.proofs.lemmas.Bool.{cases_eq}
 use Rattle.sg_words.specs.Address.{byte_at}
 use Rattle.sg_words.specs.Tags.{plain_word}
@@ -9,7 +9,7 @@ use Rattle.sg_words.proofs.Puts.{put-at, put-same, put-other}
 use Rattle.sg_words.proofs.Members.{out, not-in}
 use Rattle.sg_words.proofs.Objects.{sent-at}
 use Rattle.sg_round.specs.Area.{card_at}
-use Rattle.sg_round.specs.Worker.{Object, Stage, Look, Body, Puts, Swap, Send, Dirty, Mid, On, Worker, size_for, idle, on}
+use Rattle.sg_round.specs.Worker.{Object, Body, Puts, Swap, Send, Dirty, On, Worker, size_for, idle, on}
 use Rattle.sg_round.specs.Rules.{Nothing, Ends}
 use Rattle.sg_round.specs.Round.{Start, Round}
 use Rattle.sg_round.proofs.Relation.{Kept}

@@ -1,5 +1,5 @@
 -- The rules of the offer cells.
-use Rattle.std.proofs.Common.{◌≡◌, ◌≢◌, ℕ, ◌+◌, ◌*◌, ◌%◌, ◌≤◌, ◌<◌, ◌⊎◌, List, [], ◌∷◌, ◌++◌, length, sym, refl, ap, ◌∙◌, subst, inl, inr, arith, le_refl}
+use Rattle.std.proofs.Common.{◌≡◌, ◌≢◌, ℕ, ◌+◌, ◌*◌, ◌≤◌, ◌<◌, List, [], ◌∷◌, ◌++◌, length, sym, refl, ap, ◌∙◌, subst, inl, inr, arith, le_refl}
 use Rattle.std.proofs.Common.{mod-eq_of_lt}
 use Rattle.std.proofs.lemmas.Bool.{cases_eq}
 use Rattle.std.proofs.lemmas.List.{append-nil}
@@ -8,10 +8,10 @@ use Rattle.sg_words.specs.Words.{put, Words}
 use Rattle.sg_words.proofs.Puts.{put-at, put-same, put-other}
 use Rattle.sg_words.proofs.Members.{in-left, in-right, in-cases}
 use Rattle.sg_round.specs.Items.{Item, cell_word, own_cell, looked_cell, slots_in, slots_of}
-use Rattle.sg_round.specs.Worker.{Stage, Send, Dirty, Mid, Idle, Took, Count, On, Offer, Seek, Grab, Over, Worker}
+use Rattle.sg_round.specs.Worker.{Send, Dirty, Mid, Idle, Took, Count, On, Offer, Seek, Grab, Over, Worker}
 use Rattle.sg_round.specs.Rules.{Nothing, MayOffer, IsLooking}
-use Rattle.sg_round.specs.Round.{Start, Round, IsGoing}
-use Rattle.sg_round.proofs.Relation.{IsKnownItem, AreKnown, in_hand, todo_of, InCell, AreEmpty, AtMid, IsFilling, Stands, Later, todo_with, IsSingle, Kept}
+use Rattle.sg_round.specs.Round.{Start, Round}
+use Rattle.sg_round.proofs.Relation.{IsKnownItem, AreKnown, in_hand, todo_of, InCell, AreEmpty, AtMid, IsFilling, IsSingle, Kept}
 use Rattle.sg_round.proofs.Steps.{moved-about}
 use Rattle.sg_round.proofs.Lists.{item-distinct, todo-last, length-last}
 use Rattle.sg_round.proofs.Single.{single-as, offered-single, grabbed-single}

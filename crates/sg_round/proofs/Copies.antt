@@ -1,12 +1,12 @@
 -- What the copies hold, and the first words and lengths of the objects whose slots are to come.
-use Rattle.std.proofs.Common.{◌≡◌, ◌≢◌, ℕ, ◌+◌, ◌*◌, ◌≤◌, ◌<◌, ◌⊎◌, Bool, true, false, List, sym, refl, ap, ◌∙◌, subst, inl, inr, arith}
-use Rattle.std.proofs.lemmas.Bool.{cond-false, cases_lt, cases_Bool}
+use Rattle.std.proofs.Common.{◌≡◌, ℕ, ◌+◌, ◌≤◌, ◌<◌, Bool, true, false, List, sym, refl, ap, ◌∙◌, inl, inr, arith}
+use Rattle.std.proofs.lemmas.Bool.{cond-false, cases_lt}
 use Rattle.sg_words.specs.Tags.{plain_word}
 use Rattle.sg_words.specs.Lists.{In, has}
 use Rattle.sg_words.specs.Objects.{size_of}
 use Rattle.sg_words.proofs.Members.{out}
-use Rattle.sg_round.specs.Area.{Area, IsFixed, is_strong, class_of, Traces}
-use Rattle.sg_round.specs.Round.{Nobody, is_claimed, Round, IsOpening, Slot, Given, Copied, Failed, IsGoing}
+use Rattle.sg_round.specs.Area.{Area, is_strong, class_of, Traces}
+use Rattle.sg_round.specs.Round.{is_claimed, Round, IsOpening, Slot, Given, Copied, Failed, IsGoing}
 use Rattle.sg_round.proofs.Relation.{IsKnown}
 use Rattle.sg_round.proofs.Going.{target-old, target-zone, target-clear, free-clear, free-source, below-free, length-stays, slot-apart}
 use Rattle.sg_round.proofs.Steps.{plain-not-fixed}

@@ -1,27 +1,25 @@
 -- Where all workers have ended the round is done.
-use Rattle.std.proofs.Common.{◌⊎◌, ◌≡◌, ◌≢◌, ℕ, ◌+◌, ◌*◌, ◌/◌, ◌%◌, ◌≤◌, ◌<◌, Bool, true, false, List, [], ◌∷◌, ◌++◌, sym, refl, ap, ◌∙◌, subst, inl, inr}
+use Rattle.std.proofs.Common.{◌⊎◌, ◌≡◌, ◌≢◌, ℕ, ◌+◌, ◌*◌, ◌/◌, ◌%◌, ◌≤◌, ◌<◌, true, false, List, [], ◌++◌, sym, refl, ap, ◌∙◌, subst, inl, inr}
 use Rattle.std.proofs.Common.{arith}
-use Rattle.std.proofs.lemmas.Bool.{cases_eq, cases_lt, cases_Bool, cond-true}
-use Rattle.std.specs.Int.{bit_at}
+use Rattle.std.proofs.lemmas.Bool.{cases_eq, cases_lt, cond-true}
 use Rattle.sg_words.specs.Address.{byte_at}
 use Rattle.sg_words.specs.Lists.{In, has}
-use Rattle.sg_words.specs.Objects.{size_of, sent}
+use Rattle.sg_words.specs.Objects.{size_of}
 use Rattle.sg_words.specs.Reach.{AreDistinct}
 use Rattle.sg_words.specs.Words.{Words}
 use Rattle.sg_words.specs.Blocks.{IsSizeClass, slot_size, slots}
-use Rattle.sg_words.specs.declared.steps.BlockWord.{BlockWord}
-use Rattle.sg_words.specs.declared.steps.BlockWord.TheVariants.{Free, Swept}
-use Rattle.sg_words.proofs.Members.{out, not-in}
+use Rattle.sg_words.specs.declared.steps.BlockWord.TheVariants.{Swept}
+use Rattle.sg_words.proofs.Members.{out}
 use Rattle.sg_words.proofs.Objects.{sent-at}
-use Rattle.sg_words.proofs.Blocks.{class_bounds, slot_once, block_once, slot_size-holds, slot_size-class}
-use Rattle.sg_round.specs.Area.{Area, IsYoung, HasCard, place, card_at}
-use Rattle.sg_round.specs.Items.{Item, cell_word, own_cell, slots_of}
+use Rattle.sg_words.proofs.Blocks.{class_bounds, slot_once, block_once, slot_size-holds}
+use Rattle.sg_round.specs.Area.{IsYoung, place}
+use Rattle.sg_round.specs.Items.{own_cell, slots_of}
 use Rattle.sg_round.specs.Worker.{Mid, Over, Worker}
 use Rattle.sg_round.specs.Rules.{WorkEvent, ended_by, moved_by, failed_by}
 use Rattle.sg_round.specs.Image.{IsImage}
-use Rattle.sg_round.specs.Laws.{IsSoFar, AreMarked, AreFilled, AreSpares, IsDone, RacingLaw}
+use Rattle.sg_round.specs.Laws.{AreMarked, AreFilled, AreSpares, IsDone, RacingLaw}
 use Rattle.sg_round.specs.Round.{Start, IsRoundOpening, Owner, Nobody, Claimed, Target, is_claimed, Round, Slot, IsTaken}
-use Rattle.sg_round.proofs.Relation.{InRound, IsStaying, in_hand, InCell, Pending, AtMid, IsFilling, Stands, AreEmpty, World}
+use Rattle.sg_round.proofs.Relation.{InRound, IsStaying, in_hand, Pending, AtMid, IsFilling, AreEmpty, World}
 use Rattle.sg_round.proofs.Going.{target-old, slot-word, found, staying}
 use Rattle.sg_round.proofs.Steps.{plain-not-fixed}
 use Rattle.sg_round.proofs.Ends.{at_end}

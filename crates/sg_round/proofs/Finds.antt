@@ -1,20 +1,20 @@
 -- Where one worker finds an object: it moves to the place that it takes, or fails; and one line for each rule.
-use Rattle.std.proofs.Common.{◌≡◌, ◌≢◌, ℕ, ◌+◌, ◌*◌, ◌^◌, ◌≤◌, ◌<◌, ◌⊎◌, false, List, [], ◌∷◌, ◌++◌, map, sym, refl, ap, ◌∙◌, subst, inl, inr, arith}
-use Rattle.std.proofs.lemmas.List.{append-nil, append_assoc, map-append}
+use Rattle.std.proofs.Common.{◌≡◌, ℕ, ◌+◌, ◌<◌, List, [], ◌∷◌, ◌++◌, map, sym, refl, ap, ◌∙◌, subst, inl, arith}
+use Rattle.std.proofs.lemmas.List.{append-nil, map-append}
 use Rattle.std.specs.Int.{bit_at}
 use Rattle.sg_words.specs.Address.{byte_at}
 use Rattle.sg_words.specs.Tags.{plain_word, pinned_word, forward_word}
-use Rattle.sg_words.specs.Lists.{has, In}
+use Rattle.sg_words.specs.Lists.{In}
 use Rattle.sg_words.specs.Objects.{size_of}
 use Rattle.sg_words.specs.Words.{put, Words, Saw, after_step}
 use Rattle.sg_words.specs.Blocks.{slot_size}
 use Rattle.sg_words.specs.declared.steps.BlockWord.{BlockWord}
 use Rattle.sg_words.specs.declared.steps.Step.{Step}
-use Rattle.sg_words.proofs.Members.{in-here, in-there, in-last}
-use Rattle.sg_round.specs.Area.{Area, class_of, place}
+use Rattle.sg_words.proofs.Members.{in-there}
+use Rattle.sg_round.specs.Area.{class_of, place}
 use Rattle.sg_round.specs.Items.{Item, WholeOf, slots_by, slots_in, slots_of}
-use Rattle.sg_round.specs.Worker.{Object, Stage, Look, Size, Body, Swap, Pin, Send, Dirty, Mid, Idle, On, Seek, Over, Worker, size_for, idle, on}
-use Rattle.sg_round.specs.Rules.{Effect, Nothing, Ends, Moves, Fails, FailsEnding, moved, failed, Comes}
+use Rattle.sg_round.specs.Worker.{Object, Swap, Pin, Send, Dirty, Idle, On, Seek, Over, Worker, size_for, on}
+use Rattle.sg_round.specs.Rules.{Effect, Moves, Fails, FailsEnding, moved, failed, Comes}
 use Rattle.sg_round.specs.Rules.Comes.{opens, counts, sees_none, sees, looks_forwarded, looks_fixed, looks_bare, looks_plain, has_spare, has_none, finds_free}
 use Rattle.sg_round.specs.Rules.Comes.{finds_swept, finds_other, takes, takes_not}
 use Rattle.sg_round.specs.Rules.Comes.{finds_clear, finds_full, marks, marks_not, reads, writes, clears, heads, forwards, loses, fails, fails_bare, fails_not}
@@ -22,7 +22,7 @@ use Rattle.sg_round.specs.Rules.Comes.{sends, dirties}
 use Rattle.sg_round.specs.Rules.Comes.{keeps, prepares, offers, offers_not, seeks, ends, finds, grabs, grabs_not}
 use Rattle.sg_round.specs.Order.{targets, strong_of, IsLowest, Fits}
 use Rattle.sg_round.specs.Round.{Start, Round, IsPassed}
-use Rattle.sg_round.proofs.Relation.{todo_of, ArePassed, Kept}
+use Rattle.sg_round.proofs.Relation.{todo_of, Kept}
 use Rattle.sg_round.proofs.Going.{below-free, free-source}
 use Rattle.sg_round.proofs.Steps.{class-is}
 use Rattle.sg_round.proofs.Lists.{todo-last}
@@ -32,7 +32,7 @@ use Rattle.sg_round.proofs.Looks.{target-of}
 use Rattle.sg_round.proofs.Swaps.{no-item}
 use Rattle.sg_round.proofs.Queue.{firsts, its-slots, source-slots, line-on, line-more}
 use Rattle.sg_round.proofs.Fits.{with_block, with_bit, fits-moved, fits-failed, fits-map}
-use Rattle.sg_round.proofs.Alone.{seen, IsQueued, in-round, map-kept, moves-same, fails-same, new-order, new-each}
+use Rattle.sg_round.proofs.Alone.{IsQueued, in-round, map-kept, new-order, new-each}
 use Rattle.sg_round.proofs.Queued.{Result, never-lost, queue-opens, queue-counts, queue-sees-none, queue-sees, queue-forwarded, queue-fixed, queue-bare}
 use Rattle.sg_round.proofs.Queued.{queue-plain, queue-none, queue-free, queue-swept, queue-other, queue-takes, queue-takes-not, queue-clear, queue-full}
 use Rattle.sg_round.proofs.Queued.{queue-marks}

@@ -1,7 +1,6 @@
 -- A step of worker k leaves what is true of the others.
-use Rattle.std.proofs.Common.{◌≡◌, ◌≢◌, ℕ, ◌+◌, ◌≤◌, List, [], ◌∷◌, ◌++◌, sym, ap, ◌∙◌, subst, inl, inr, arith}
+use Rattle.std.proofs.Common.{◌≡◌, ◌≢◌, ℕ, ◌+◌, ◌≤◌, List, [], ◌∷◌, ◌++◌, sym, ap, ◌∙◌, inl, inr, arith}
 use Rattle.sg_words.specs.Words.{Words}
-use Rattle.sg_words.specs.Blocks.{slot_size}
 use Rattle.sg_words.specs.declared.steps.BlockWord.{BlockWord}
 use Rattle.sg_words.specs.declared.steps.BlockWord.TheVariants.{Free, Swept}
 use Rattle.sg_words.proofs.Blocks.{slot_size-holds}
@@ -10,7 +9,7 @@ use Rattle.sg_round.specs.Area.{class_of}
 use Rattle.sg_round.specs.Items.{Item, SlotOf, WholeOf, slots_by, slots_in, slots_of}
 use Rattle.sg_round.specs.Worker.{Object, Stage, Look, Size, Room, Take, Slots, Mark, Body, Puts, Swap, Pin, Send, Dirty, Mid, Idle, Took, Count, On, Offer}
 use Rattle.sg_round.specs.Worker.{Seek, Grab, Over, Worker, size_for}
-use Rattle.sg_round.specs.Round.{Start, Round, Owns, IsPassed, IsTaken}
+use Rattle.sg_round.specs.Round.{Start, Round, Owns, IsPassed}
 use Rattle.sg_round.proofs.Relation.{Reads, IsKnown, IsKnownItem, AreKnown, in_hand, todo_of, ArePassed, Sized, IsWritten, AreEmpty, AtStage, AtMid, Stands}
 use Rattle.sg_round.proofs.Relation.{Later}
 

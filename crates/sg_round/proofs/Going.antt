@@ -1,5 +1,5 @@
 -- What a round under way says of slots, claimed words and first words.
-use Rattle.std.proofs.Common.{◌≡◌, ◌≢◌, ℕ, ◌+◌, ◌*◌, ◌≤◌, ◌<◌, ◌⊎◌, cond, Bool, true, false, List, sym, refl, ap, ◌∙◌, subst, inl, inr, arith}
+use Rattle.std.proofs.Common.{◌≡◌, ◌≢◌, ℕ, ◌+◌, ◌≤◌, ◌<◌, ◌⊎◌, cond, Bool, true, false, List, sym, refl, ap, ◌∙◌, subst, inl, inr, arith}
 use Rattle.std.proofs.lemmas.Bool.{cond-true, cond-false, cases_lt, cases_Bool}
 use Rattle.sg_words.specs.Address.{byte_at}
 use Rattle.sg_words.specs.Tags.{plain_word, forward_word}
@@ -8,10 +8,10 @@ use Rattle.sg_words.specs.Objects.{size_of, sent}
 use Rattle.sg_words.specs.Reach.Reached.{Root, Next}
 use Rattle.sg_words.proofs.Members.{out, not-in}
 use Rattle.sg_words.proofs.Objects.{sent-at, sent-fixed}
-use Rattle.sg_round.specs.Area.{Area, IsYoung, IsFixed, Traces, class_of}
+use Rattle.sg_round.specs.Area.{Area, IsYoung, IsFixed, Traces}
 use Rattle.sg_round.specs.Round.{Owner, Nobody, Claimed, Target, is_claimed, is_target, Round, IsMet, IsOpening, Slot, Given, Copied, Failed, IsSettled}
 use Rattle.sg_round.specs.Round.{IsGoing}
-use Rattle.sg_round.proofs.Relation.{IsWhole, IsStaying, HasRead, IsKnown}
+use Rattle.sg_round.proofs.Relation.{IsWhole, IsStaying, HasRead}
 
 pub nobody-not-target : (o : Owner) (a : ℕ) → o ≡ Nobody → o ≡ Target a → ⊥
 nobody-not-target o a e f = let z : Nobody ≡ Target a = sym e ∙ f in cc

@@ -1,5 +1,5 @@
 -- One step of a worker: one line for each rule.
-use Rattle.std.proofs.Common.{◌≡◌, ℕ, ◌^◌, List, [], ◌∷◌, ◌++◌, ap, subst, sym, ◌∙◌, inl, inr}
+use Rattle.std.proofs.Common.{◌≡◌, ℕ, ◌^◌, [], ◌∷◌, ◌++◌, ap, subst, sym, ◌∙◌, inl, inr}
 use Rattle.std.proofs.lemmas.Bool.{cases_eq}
 use Rattle.std.proofs.Math.Path.{fun_ext}
 use Rattle.std.specs.Int.{bit_at}
@@ -8,7 +8,7 @@ use Rattle.sg_words.specs.Words.{put, Words, Saw, after_step}
 use Rattle.sg_words.proofs.Puts.{put-at, put-other}
 use Rattle.sg_words.proofs.Blocks.{bit_again}
 use Rattle.sg_words.specs.declared.steps.Step.{Step}
-use Rattle.sg_round.specs.Worker.{Room, Mark, Mid, Worker, on}
+use Rattle.sg_round.specs.Worker.{Room, Mark, Worker, on}
 use Rattle.sg_round.specs.Area.{Area}
 use Rattle.sg_round.specs.Rules.{Effect, Nothing, Comes}
 use Rattle.sg_round.specs.Rules.Comes.{opens, counts, sees_none, sees, looks_forwarded, looks_fixed, looks_bare, looks_plain, has_spare, has_none, finds_free}

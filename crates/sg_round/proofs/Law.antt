@@ -1,6 +1,6 @@
 -- The induction over the list of events: the world of a round in its midst.
-use Rattle.std.proofs.Common.{◌⊎◌, ◌≡◌, ◌≢◌, ℕ, ◌+◌, ◌*◌, ◌≤◌, ◌<◌, eqb, Bool, true, false, List, [], ◌∷◌, ◌++◌, length, sym, refl, ap, ◌∙◌, subst, inl, inr}
-use Rattle.std.proofs.Common.{arith, zero-le}
+use Rattle.std.proofs.Common.{◌≡◌, ◌≢◌, ℕ, eqb, List, [], ◌∷◌, ◌++◌, sym, refl, ap, ◌∙◌, subst, inl, inr}
+use Rattle.std.proofs.Common.{arith}
 use Rattle.std.proofs.lemmas.Bool.{cases_eq, eq-eqb, ne_eqb, cond-true, cond-false}
 use Rattle.std.proofs.Math.Path.{fun_ext}
 use Rattle.sg_words.specs.Lists.{In}
@@ -9,12 +9,12 @@ use Rattle.sg_words.specs.Words.{put, Words, Saw, after_step, replayed, IsLegal}
 use Rattle.sg_words.specs.declared.steps.Step.{Step}
 use Rattle.sg_words.proofs.Puts.{put-at, put-same, put-other, put-all}
 use Rattle.sg_words.proofs.Members.{in-here, in-left, in-right}
-use Rattle.sg_round.specs.Items.{Item, SlotOf, WholeOf, HasWhole, cell_word, slots_in, slots_of}
-use Rattle.sg_round.specs.Worker.{Mid, Idle, Over, Worker}
+use Rattle.sg_round.specs.Items.{Item, SlotOf, WholeOf, HasWhole, slots_in, slots_of}
+use Rattle.sg_round.specs.Worker.{Mid, Worker}
 use Rattle.sg_round.specs.Rules.{Effect, Comes, WorkEvent, steps, part, Follows, ended, moved, failed, ended_by, moved_by, failed_by}
 use Rattle.sg_round.specs.Laws.{IsSoFar}
-use Rattle.sg_round.specs.Round.{Start, IsRoundOpening, Owner, Nobody, Claimed, Target, Round, Slot, Given, Copied, Failed, IsGoing}
-use Rattle.sg_round.proofs.Relation.{InRound, AreKnown, in_hand, todo_of, InCell, Pending, AtMid, Stands, AreSingle, IsStill, World, Later, todo_with}
+use Rattle.sg_round.specs.Round.{Start, IsRoundOpening, Nobody, Claimed, Target, Round, Slot, Given, Copied, Failed}
+use Rattle.sg_round.proofs.Relation.{AreKnown, in_hand, todo_of, InCell, Pending, AtMid, Stands, AreSingle, World, todo_with}
 use Rattle.sg_round.proofs.Relation.{IsSingle, Kept}
 use Rattle.sg_round.proofs.Steps.{moved-about}
 use Rattle.sg_round.proofs.Frame.{todo-later, stands-later}

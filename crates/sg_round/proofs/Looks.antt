@@ -1,23 +1,23 @@
 -- The rules by which a worker takes its next slot, and looks at the slot's target.
-use Rattle.std.proofs.Common.{◌≡◌, ◌≢◌, ℕ, suc, ◌+◌, ◌*◌, ◌≤◌, ◌<◌, ◌⊎◌, false, List, [], ◌∷◌, ◌++◌, length, sym, refl, ap, ◌∙◌, subst, inl, inr, arith}
+use Rattle.std.proofs.Common.{◌≡◌, ◌≢◌, ℕ, ◌+◌, ◌≤◌, false, List, [], ◌∷◌, ◌++◌, sym, refl, ap, ◌∙◌, subst, inl, inr, arith}
 use Rattle.std.proofs.Common.{le_refl}
 use Rattle.std.proofs.lemmas.Bool.{cases_eq}
 use Rattle.sg_words.specs.Address.{byte_at}
 use Rattle.sg_words.specs.Tags.{plain_word, forward_word}
-use Rattle.sg_words.specs.Lists.{In, has}
+use Rattle.sg_words.specs.Lists.{has}
 use Rattle.sg_words.specs.Objects.{sent}
 use Rattle.sg_words.proofs.Objects.{sent-at}
 use Rattle.sg_words.specs.Words.{put, Words}
 use Rattle.sg_words.proofs.Puts.{put-at, put-same, put-other}
 use Rattle.sg_words.proofs.Members.{in-here}
-use Rattle.sg_round.specs.Area.{Area, IsYoung, IsFixed, HasCard, class_of, Traces}
+use Rattle.sg_round.specs.Area.{IsYoung, IsFixed, HasCard, class_of, Traces}
 use Rattle.sg_round.specs.Items.{Item, SlotOf, WholeOf, slots_by, slots_in, slots_of}
-use Rattle.sg_round.specs.Worker.{Object, Stage, Look, Size, Room, Take, Slots, Mark, Body, Puts, Swap, Pin, Send, Dirty, Mid, Idle, Took, Count, On, Offer}
-use Rattle.sg_round.specs.Worker.{Seek, Grab, Over, Worker, size_for, idle, on}
-use Rattle.sg_round.specs.Rules.{Effect, Nothing, Ends, IsNext}
+use Rattle.sg_round.specs.Worker.{Object, Look, Size, Body, Send, Dirty, Idle, Took, Count, On}
+use Rattle.sg_round.specs.Worker.{Worker, size_for, idle, on}
+use Rattle.sg_round.specs.Rules.{Nothing, Ends, IsNext}
 use Rattle.sg_round.specs.Rules.IsNext.{Of_hand, Of_list, Of_cell}
-use Rattle.sg_round.specs.Round.{Start, IsRoundOpening, Round, Slot, IsSettled, Owns}
-use Rattle.sg_round.proofs.Relation.{InRound, Reads, IsStaying, IsKnown, IsKnownItem, todo_of, IsFilling, ArePassed, Sized, AtStage, Stands, Kept}
+use Rattle.sg_round.specs.Round.{Start, Round, IsSettled, Owns}
+use Rattle.sg_round.proofs.Relation.{Reads, IsKnownItem, todo_of, IsFilling, Sized, Stands, Kept}
 use Rattle.sg_round.proofs.Going.{read-traced, found, quiet, quiet-settled, staying, tag-plain, tag-moves, tag-fixed, length-stays}
 use Rattle.sg_round.proofs.Copies.{head-class, head-length}
 use Rattle.sg_round.proofs.Frame.{object-fits}

@@ -7,18 +7,18 @@ use Rattle.sg_words.specs.Address.{byte_at}
 use Rattle.sg_words.specs.Lists.{In, has}
 use Rattle.sg_words.specs.Objects.{sent}
 use Rattle.sg_words.specs.Words.{put, Words}
-use Rattle.sg_words.proofs.Puts.{put-at, put-same, put-other}
+use Rattle.sg_words.proofs.Puts.{put-at, put-other}
 use Rattle.sg_words.proofs.Members.{has-cases, in-here, in-there}
-use Rattle.sg_round.specs.Area.{Area, IsYoung, HasCard, card_at}
-use Rattle.sg_round.specs.Items.{Item, own_cell, slots_of}
-use Rattle.sg_round.specs.Worker.{Mid, Idle, Took, Count, On, Offer, Seek, Grab, Over, Worker, idle}
-use Rattle.sg_round.specs.Rules.{Effect, Nothing, Ends}
-use Rattle.sg_round.specs.Round.{Start, IsRoundOpening, Owner, Claimed, Round, Slot, IsSettled, IsGoing, Owns}
-use Rattle.sg_round.proofs.Relation.{InRound, IsStaying, IsKnown, in_hand, todo_of, InCell, AreClaims, IsMarking, AreCards, AreCells, ArePassed, AtMid}
+use Rattle.sg_round.specs.Area.{IsYoung, HasCard, card_at}
+use Rattle.sg_round.specs.Items.{slots_of}
+use Rattle.sg_round.specs.Worker.{Mid, Over, Worker, idle}
+use Rattle.sg_round.specs.Rules.{Nothing, Ends}
+use Rattle.sg_round.specs.Round.{Start, IsRoundOpening, Owner, Claimed, Round, IsSettled, IsGoing}
+use Rattle.sg_round.proofs.Relation.{InRound, IsStaying, in_hand, todo_of, InCell, AreClaims, IsMarking, AreCards, AreCells, AtMid}
 use Rattle.sg_round.proofs.Relation.{IsFilling, Stands, Later, todo_with, IsSingle, Kept}
 use Rattle.sg_round.proofs.Going.{clear-not-claimed, slot-unclaimed}
-use Rattle.sg_round.proofs.Steps.{moved-about, settle, written}
-use Rattle.sg_round.proofs.Single.{single-as, ends-single}
+use Rattle.sg_round.proofs.Steps.{settle, written}
+use Rattle.sg_round.proofs.Single.{ends-single}
 use Rattle.sg_round.proofs.Frame.{list-later}
 
 -- what is true before a step of worker k, which is a

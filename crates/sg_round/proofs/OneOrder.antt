@@ -1,14 +1,10 @@
 -- A round of one worker over the same slots of the same words is one.
-use Rattle.std.proofs.Common.{◌≡◌, ◌≢◌, ℕ, ◌+◌, ◌*◌, ◌^◌, ◌≤◌, ◌<◌, ◌⊎◌, List, [], ◌∷◌, sym, refl, ap, ◌∙◌, subst, inl, inr, arith}
-use Rattle.std.proofs.lemmas.Bool.{cases_eq, cases_lt}
-use Rattle.std.specs.Int.{bit_at}
-use Rattle.std.specs.Int.Bits.{bit_or}
+use Rattle.std.proofs.Common.{◌≡◌, ℕ, List, [], ◌∷◌, sym, ap, ◌∙◌, subst, inl, inr, arith}
+use Rattle.std.proofs.lemmas.Bool.{cases_lt}
 use Rattle.sg_words.specs.Lists.{In}
 use Rattle.sg_words.specs.Objects.{size_of}
-use Rattle.sg_words.specs.Words.{put}
 use Rattle.sg_words.specs.Blocks.{slot_size}
 use Rattle.sg_words.specs.declared.steps.BlockWord.{BlockWord}
-use Rattle.sg_words.specs.declared.steps.BlockWord.TheVariants.{Free, Swept}
 use Rattle.sg_words.proofs.Members.{has-cases}
 use Rattle.sg_words.proofs.Found.{one_search}
 use Rattle.sg_round.specs.Area.{Area, place}

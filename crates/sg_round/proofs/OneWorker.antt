@@ -1,29 +1,27 @@
 -- The law of one worker alone.
-use Rattle.std.proofs.Common.{◌⊎◌, ◌≡◌, ◌≢◌, ℕ, ◌+◌, ◌≤◌, ◌<◌, List, [], ◌∷◌, ◌++◌, map, sym, refl, ap, ◌∙◌, subst, inl, inr, arith}
-use Rattle.std.proofs.lemmas.Bool.{cases_eq}
+use Rattle.std.proofs.Common.{◌≡◌, ℕ, List, [], ◌∷◌, ◌++◌, map, sym, refl, ap, ◌∙◌, subst, inl, inr, arith}
 use Rattle.std.proofs.lemmas.List.{append-nil}
 use Rattle.std.proofs.Math.Path.{fun_ext}
 use Rattle.sg_words.specs.Lists.{In}
 use Rattle.sg_words.specs.Words.{put, Words, Saw, after_step, replayed, IsLegal}
-use Rattle.sg_words.specs.Found.{IsSearched}
 use Rattle.sg_words.specs.Found.IsFoundBy.{Begins}
 use Rattle.sg_words.specs.declared.steps.Step.{Step}
 use Rattle.sg_words.specs.declared.steps.BlockWord.{BlockWord}
 use Rattle.sg_words.proofs.Puts.{put-same, put-all}
 use Rattle.sg_round.specs.Area.{Area}
-use Rattle.sg_round.specs.Items.{Item, slots_of}
-use Rattle.sg_round.specs.Worker.{Mid, Idle, Took, Count, On, Offer, Seek, Grab, Over, Worker}
-use Rattle.sg_round.specs.Rules.{Effect, IsNext, IsLooking, MayOffer, Comes, WorkEvent, steps, part, Follows, ended, moved, failed, ended_by, moved_by}
+use Rattle.sg_round.specs.Items.{slots_of}
+use Rattle.sg_round.specs.Worker.{Mid, Idle, Over, Worker}
+use Rattle.sg_round.specs.Rules.{Effect, IsLooking, Comes, WorkEvent, steps, part, Follows, ended, moved, failed, ended_by, moved_by}
 use Rattle.sg_round.specs.Rules.{failed_by}
 use Rattle.sg_round.specs.Rules.Comes.{opens, counts, sees_none, sees, looks_forwarded, looks_fixed, looks_bare, looks_plain, has_spare, has_none, finds_free}
 use Rattle.sg_round.specs.Rules.Comes.{finds_swept, finds_other, takes, takes_not}
 use Rattle.sg_round.specs.Rules.Comes.{finds_clear, finds_full, marks, marks_not, reads, writes, clears, heads, forwards, loses, fails, fails_bare, fails_not}
 use Rattle.sg_round.specs.Rules.Comes.{sends, dirties}
 use Rattle.sg_round.specs.Rules.Comes.{keeps, prepares, offers, offers_not, seeks, ends, finds, grabs, grabs_not}
-use Rattle.sg_round.specs.Order.{targets, strong_of, leads, Fits, IsInOrder}
-use Rattle.sg_round.specs.Laws.{IsSoFar, IsDone, IsDoneAlone, OneWorkerLaw}
+use Rattle.sg_round.specs.Order.{targets, strong_of, Fits, IsInOrder}
+use Rattle.sg_round.specs.Laws.{OneWorkerLaw}
 use Rattle.sg_round.specs.Round.{Start, IsRoundOpening, Round}
-use Rattle.sg_round.proofs.Relation.{in_hand, todo_of, AtMid, Stands, World, Kept}
+use Rattle.sg_round.proofs.Relation.{in_hand, todo_of, AtMid, Stands, World}
 use Rattle.sg_round.proofs.Moves.{IsAwake}
 use Rattle.sg_round.proofs.Looks.{next-awake}
 use Rattle.sg_round.proofs.Cells.{may-awake}

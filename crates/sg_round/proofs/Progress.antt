@@ -1,5 +1,5 @@
 -- A worker is never stuck: whatever a call for a next step of it sees, some rule applies, and one that hasn't ended can take a step.
-use Rattle.std.proofs.Common.{◌≡◌, ◌≢◌, ℕ, zero, suc, ◌+◌, ◌*◌, ◌/◌, ◌^◌, ◌<◌, ◌≤◌, ◌⊎◌, false, List, [], ◌∷◌, ◌++◌, ap, ap₂, sym, ◌∙◌, subst, inl, inr, refl}
+use Rattle.std.proofs.Common.{◌≡◌, ◌≢◌, ℕ, zero, suc, ◌+◌, ◌*◌, ◌<◌, ◌≤◌, ◌⊎◌, List, [], ◌∷◌, ◌++◌, ap, ap₂, sym, ◌∙◌, subst, inl, inr, refl}
 use Rattle.std.proofs.Common.{arith}
 use Rattle.std.proofs.lemmas.Bool.{cases_eq, cases_lt, cases_Bool}
 use Rattle.std.specs.Int.{bit_at}
@@ -34,8 +34,8 @@ use Rattle.sg_round.specs.Rules.Comes.{finds_clear, finds_full, marks, marks_not
 use Rattle.sg_round.specs.Rules.Comes.{sends, dirties}
 use Rattle.sg_round.specs.Rules.Comes.{keeps, prepares, offers, offers_not, seeks, ends, finds, grabs, grabs_not}
 use Rattle.sg_round.specs.Acting.{Acts}
-use Rattle.sg_round.specs.Round.{Start, IsRoundOpening, Round}
-use Rattle.sg_round.proofs.Relation.{Reads, IsKnown, AtStage, AtMid, World}
+use Rattle.sg_round.specs.Round.{Start, IsRoundOpening}
+use Rattle.sg_round.proofs.Relation.{IsKnown, AtStage, AtMid, World}
 use Rattle.sg_round.proofs.Going.{read-traced, word-of, below-free, free-source}
 use Rattle.sg_round.proofs.Copies.{head-length}
 

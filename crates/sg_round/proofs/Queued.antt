@@ -1,49 +1,36 @@
 -- Each rule keeps the order of one worker's objects.
-use Rattle.std.proofs.Common.{◌≡◌, ◌≢◌, ℕ, ◌+◌, ◌*◌, ◌^◌, ◌≤◌, ◌<◌, ◌⊎◌, false, nat_lt, List, [], ◌∷◌, ◌++◌, map, sym, refl, ap, ◌∙◌, subst, inl, inr, arith}
+use Rattle.std.proofs.Common.{◌≡◌, ◌≢◌, ℕ, ◌+◌, ◌^◌, ◌<◌, ◌⊎◌, nat_lt, List, [], ◌++◌, sym, refl, ap, ◌∙◌, subst, inl, inr, arith}
 use Rattle.std.proofs.lemmas.Bool.{cases_eq, cases_lt, cond-true, cond-false, lt-ltb, le-ltb}
-use Rattle.std.proofs.lemmas.List.{append-nil, append_assoc, map-append}
+use Rattle.std.proofs.lemmas.List.{append-nil}
 use Rattle.std.proofs.Math.Path.{fun_ext}
 use Rattle.std.specs.Int.{bit_at}
 use Rattle.std.specs.Int.Bits.{bit_or}
 use Rattle.sg_words.specs.Address.{byte_at}
-use Rattle.sg_words.specs.Tags.{plain_word, pinned_word, forward_word}
-use Rattle.sg_words.specs.Lists.{has, In}
-use Rattle.sg_words.specs.Objects.{size_of}
-use Rattle.sg_words.specs.Words.{put, Words, Saw, after_step}
-use Rattle.sg_words.specs.Blocks.{slot_size, slots}
+use Rattle.sg_words.specs.Tags.{plain_word, forward_word}
+use Rattle.sg_words.specs.Lists.{has}
+use Rattle.sg_words.specs.Words.{put, Words}
+use Rattle.sg_words.specs.Blocks.{slots}
 use Rattle.sg_words.specs.declared.steps.BlockWord.{BlockWord}
 use Rattle.sg_words.specs.declared.steps.BlockWord.TheVariants.{Free, Swept}
-use Rattle.sg_words.specs.declared.steps.Step.{Step}
 use Rattle.sg_words.proofs.Puts.{put-at, put-other}
 use Rattle.std.proofs.lemmas.Nat.Bits.{bit_at-zero}
 use Rattle.sg_words.proofs.Blocks.{has_slots, bit_cases}
-use Rattle.sg_words.proofs.Members.{in-here, in-there}
-use Rattle.sg_round.specs.Area.{Area, IsYoung, HasCard, IsFixed, place, class_of}
-use Rattle.sg_round.specs.Items.{Item, SlotOf, WholeOf, slots_by, slots_in, slots_of}
-use Rattle.sg_round.specs.Worker.{Object, Stage, Look, Size, Room, Take, Slots, Mark, Body, Puts, Swap, Pin, Send, Dirty, Mid, Idle, Took, Count, On, Offer}
-use Rattle.sg_round.specs.Worker.{Seek, Grab, Over, Worker, size_for, idle, on, looking}
-use Rattle.sg_round.specs.Rules.{Effect, Nothing, Ends, Moves, Fails, FailsEnding, IsNext, IsLooking, Comes}
+use Rattle.sg_round.specs.Area.{Area, IsFixed, place}
+use Rattle.sg_round.specs.Items.{Item, SlotOf, WholeOf, slots_by, slots_of}
+use Rattle.sg_round.specs.Worker.{Object, Stage, Look, Size, Room, Take, Slots, Mark, Body, Puts, Swap, Pin, Send, Dirty, Mid, Idle, Count, On}
+use Rattle.sg_round.specs.Worker.{Worker, size_for, idle, on, looking}
+use Rattle.sg_round.specs.Rules.{Effect, Nothing, Ends, IsNext, IsLooking}
 use Rattle.sg_round.specs.Rules.IsNext.{Of_hand, Of_list, Of_cell}
-use Rattle.sg_round.specs.Rules.Comes.{opens, counts, sees_none, sees, looks_forwarded, looks_fixed, looks_bare, looks_plain, has_spare, has_none, finds_free}
-use Rattle.sg_round.specs.Rules.Comes.{finds_swept, finds_other, takes, takes_not}
-use Rattle.sg_round.specs.Rules.Comes.{finds_clear, finds_full, marks, marks_not, reads, writes, clears, heads, forwards, loses, fails, fails_bare, fails_not}
-use Rattle.sg_round.specs.Rules.Comes.{sends, dirties}
-use Rattle.sg_round.specs.Rules.Comes.{keeps, prepares, offers, offers_not, seeks, ends, finds, grabs, grabs_not}
-use Rattle.sg_round.specs.Order.{targets, strong_of, IsLowest, Fits}
-use Rattle.sg_round.specs.Round.{Start, Round, IsSettled, IsPassed}
-use Rattle.sg_round.proofs.Relation.{InRound, IsWhole, IsKnown, AreKnown, in_hand, todo_of, ArePassed, Sized, Kept}
-use Rattle.sg_round.proofs.Going.{below-free, free-source, tag-plain, tag-fixed, tag-moves, word-of, read-traced}
-use Rattle.sg_round.proofs.Steps.{class-is}
-use Rattle.sg_round.proofs.Lists.{todo-last}
-use Rattle.sg_round.proofs.Frame.{slots_of-later, passed-later}
+use Rattle.sg_round.specs.Order.{IsLowest}
+use Rattle.sg_round.specs.Round.{Start, Round}
+use Rattle.sg_round.proofs.Relation.{IsWhole, in_hand, Kept}
+use Rattle.sg_round.proofs.Going.{tag-plain, tag-fixed, tag-moves, word-of}
 use Rattle.sg_round.proofs.Moves.{Before}
 use Rattle.sg_round.proofs.Looks.{next-todo, next-known, next-stands, counted-todo, target-of, settled-as}
-use Rattle.sg_round.proofs.Swaps.{no-item}
 use Rattle.sg_round.proofs.Rooms.{swept-not-free}
-use Rattle.sg_round.proofs.Queue.{its-slots, source-slots, line-on, line-more}
-use Rattle.sg_round.proofs.Fits.{with_block, with_bit, fits-moved, fits-failed, fits-map}
-use Rattle.sg_round.proofs.Alone.{seen, IsAlone, IsWholeAt, IsNow, IsOpened, IsPlacing, AtFit, IsQueued, in-round, map-kept, moves-same, fails-same}
-use Rattle.sg_round.proofs.Alone.{whole-same, IsHandKnown, new-order, new-each, same, learns, quiet-end, end-seen}
+use Rattle.sg_round.proofs.Fits.{with_block, with_bit}
+use Rattle.sg_round.proofs.Alone.{seen, IsAlone, IsWholeAt, IsNow, IsOpened, AtFit, IsQueued}
+use Rattle.sg_round.proofs.Alone.{whole-same, IsHandKnown, same, learns, quiet-end, end-seen}
 
 -- a block that has this word already
 block-self : (block : ℕ → BlockWord) (b z : ℕ) → block b ≡ Swept z → block ≡ with_block block b z

@@ -1,27 +1,25 @@
 -- The rules by which a worker looks for a place for a copy, takes a block, and claims a slot.
-use Rattle.std.proofs.Common.{◌≡◌, ◌≢◌, ℕ, ◌+◌, ◌*◌, ◌^◌, ◌≤◌, ◌<◌, ◌⊎◌, true, false, List, [], ◌∷◌, ◌++◌, length, nat_lt, sym, refl, ap, ◌∙◌, subst, inl}
+use Rattle.std.proofs.Common.{◌≡◌, ◌≢◌, ℕ, ◌+◌, ◌^◌, ◌≤◌, ◌<◌, ◌⊎◌, true, length, nat_lt, sym, refl, ap, ◌∙◌, subst, inl}
 use Rattle.std.proofs.Common.{inr, arith, le_refl}
 use Rattle.std.proofs.lemmas.Bool.{cases_eq, cases_lt, cond-true, cond-false, lt-ltb, le-ltb}
 use Rattle.std.specs.Int.{bit_at}
 use Rattle.std.specs.Int.Bits.{bit_or}
-use Rattle.sg_words.specs.Lists.{In}
 use Rattle.sg_words.specs.Objects.{size_of}
 use Rattle.sg_words.specs.Words.{put, Words}
-use Rattle.sg_words.specs.Blocks.{IsSizeClass, slot_size, slots}
+use Rattle.sg_words.specs.Blocks.{slot_size, slots}
 use Rattle.sg_words.specs.declared.steps.BlockWord.{BlockWord}
 use Rattle.sg_words.specs.declared.steps.BlockWord.TheVariants.{Free, Swept}
-use Rattle.sg_words.proofs.Puts.{put-at, put-same, put-other, within_range, range-in}
+use Rattle.sg_words.proofs.Puts.{put-at, put-other, within_range, range-in}
 use Rattle.sg_words.proofs.Blocks.{slot_size-class, class_bounds, slot_once, block_once, bit_set, bit_same, bit_kept, bit_cases}
 use Rattle.sg_round.specs.Area.{Area, place}
-use Rattle.sg_round.specs.Items.{slots_of}
-use Rattle.sg_round.specs.Worker.{Object, Stage, Look, Size, Room, Take, Slots, Mark, Body, Pin, Mid, On, Worker, size_for, on, looking}
+use Rattle.sg_round.specs.Worker.{Object, Stage, Size, Room, Take, Slots, Mark, Body, Pin, On, Worker, size_for, on, looking}
 use Rattle.sg_round.specs.Rules.{Nothing}
-use Rattle.sg_round.specs.Round.{Start, InSlot, IsClear, Owner, Nobody, Claimed, Round, Owns, IsPassed, IsTaken}
-use Rattle.sg_round.proofs.Relation.{IsWhole, todo_of, InCell, ArePassed, Sized, AtStage, AtMid, IsFilling, Stands, Later, Kept}
+use Rattle.sg_round.specs.Round.{Start, InSlot, IsClear, Nobody, Claimed, Round, IsPassed, IsTaken}
+use Rattle.sg_round.proofs.Relation.{ArePassed, Sized, AtStage, IsFilling, Kept}
 use Rattle.sg_round.proofs.Going.{nobody-not-claimed}
 use Rattle.sg_round.proofs.Steps.{range-out, by_range, claimed}
 use Rattle.sg_round.proofs.Frame.{passed-later, object-fits}
-use Rattle.sg_round.proofs.Moves.{Before, member, resting, claims-as, other-claim, claim-same, claim-size, same-later, nothing, goes-on, walks}
+use Rattle.sg_round.proofs.Moves.{Before, member, resting, claims-as, other-claim, claim-same, claim-size, nothing, walks}
 use Rattle.sg_round.proofs.Looks.{object-read}
 
 pub swept-not-free : (z : ℕ) (state : BlockWord) → state ≡ Swept z → state ≡ Free → ⊥

@@ -4,7 +4,6 @@ use Rattle.std.proofs.lemmas.Bool.{cond-false}
 use Rattle.sg_words.specs.Reach.Reached.{Root, Next}
 use Rattle.sg_words.specs.Lists.{In, has}
 use Rattle.sg_words.specs.Objects.{size_of, sent}
-use Rattle.sg_words.proofs.Puts.{within_range, range-in}
 use Rattle.sg_words.proofs.Members.{in-left, in-right, in-cases, out}
 use Rattle.sg_round.specs.Area.{Area, Traces}
 use Rattle.sg_round.specs.Round.{Owner, Nobody, is_claimed, is_target, Round, IsOpening, Slot, Given, Copied, Failed, IsGoing, Owns}

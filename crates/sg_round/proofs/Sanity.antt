@@ -1,26 +1,25 @@
 -- Each worker is sane in the midst of a round.
-use Rattle.std.proofs.Common.{◌≡◌, ◌≢◌, ℕ, zero, suc, ◌+◌, ◌-◌, ◌*◌, ◌^◌, ◌≤◌, ◌<◌, ◌⊎◌, List, [], ◌∷◌, ◌++◌, length, sym, refl, ap, ◌∙◌, subst, inl, inr}
-use Rattle.std.proofs.Common.{arith, zero-le}
+use Rattle.std.proofs.Common.{◌≡◌, ℕ, suc, ◌+◌, ◌-◌, ◌≤◌, ◌<◌, ◌⊎◌, List, [], ◌∷◌, ◌++◌, length, sym, refl, ap, ◌∙◌, subst, inl, inr}
+use Rattle.std.proofs.Common.{arith}
 use Rattle.std.proofs.lemmas.List.{length-append}
 use Rattle.sg_words.specs.Lists.{In}
 use Rattle.sg_words.specs.Tags.{plain_word}
 use Rattle.sg_words.specs.Objects.{size_of}
 use Rattle.sg_words.specs.Reach.{IsFreshIn, AreDistinct, AreAmong}
-use Rattle.sg_words.specs.Blocks.{IsSizeClass, slot_size, slots}
+use Rattle.sg_words.specs.Blocks.{slot_size}
 use Rattle.sg_words.specs.Words.{Words}
-use Rattle.sg_words.proofs.Members.{in-here, in-there, in-left, in-right, in-cases, not-in, among-all}
+use Rattle.sg_words.proofs.Members.{in-here, in-there, in-left, in-right, in-cases, not-in}
 use Rattle.sg_words.proofs.Distinct.{few}
 use Rattle.sg_words.proofs.Blocks.{slot_fits, class_bounds, slot_size-class, slot_size-holds}
-use Rattle.sg_round.specs.Area.{Area, IsArea, IsYoung, IsFixed, HasCard, class_of, place}
-use Rattle.sg_round.specs.Items.{Item, SlotOf, WholeOf, slots_in, slots_of}
+use Rattle.sg_round.specs.Area.{IsYoung, IsFixed, class_of}
+use Rattle.sg_round.specs.Items.{Item, SlotOf, WholeOf, slots_of}
 use Rattle.sg_round.specs.Worker.{Object, Stage, Look, Size, Room, Take, Slots, Mark, Body, Puts, Swap, Pin, Send, Dirty, Mid, Idle, Took, Count, On, Offer}
 use Rattle.sg_round.specs.Worker.{Seek, Grab, Over, Worker, size_for}
-use Rattle.sg_round.specs.Rules.{MayOffer}
 use Rattle.sg_round.specs.Sane.{IsWord, IsSaneItem, AreSaneItems, IsSaneObject, IsSaneCopy, IsSaneStage, IsSaneAt, IsSane}
-use Rattle.sg_round.specs.Round.{Start, IsRoundOpening, Owner, Claimed, Round, Slot, Given, Copied, Failed, Owns, IsTaken}
-use Rattle.sg_round.proofs.Relation.{InRound, Reads, IsKnown, IsKnownItem, AreKnown, in_hand, todo_of, Pending, Sized, AtStage, AtMid, Stands, World}
+use Rattle.sg_round.specs.Round.{Start, IsRoundOpening, Round, Given, Copied, Failed, Owns, IsTaken}
+use Rattle.sg_round.proofs.Relation.{InRound, Reads, IsKnown, IsKnownItem, AreKnown, in_hand, Sized, AtStage, AtMid, World}
 use Rattle.sg_round.proofs.Lists.{distinct-append}
-use Rattle.sg_round.proofs.Going.{target-old, read-traced, below-free, free-source}
+use Rattle.sg_round.proofs.Going.{read-traced, below-free, free-source}
 
 -- the class in a first word
 small-class : (u c : ℕ) → c < 256 → (u ≡ plain_word c) ⊎ IsFixed c u → class_of u < 256
@@ -169,6 +168,10 @@ module _ {t : Start} {v : Words} {workers : ℕ → Worker} (o : IsRoundOpening 
       [ inl i ↦ (o.opening.inside y (inl (wo.going.moved y i).0)).0 | inr i ↦ (o.opening.inside y (inl (wo.going.failed y i).0)).0 ])
       (distinct-append r.moves r.fails wo.going.once.0 wo.going.once.1 (λ z h i. not-in z r.moves (wo.going.failed z h).2 i)) in
       omega arith
+
+  -- the slots that have ended are different words
+  pub few-handled : length r.handled ≤ t.area.end - t.area.low
+  few-handled = few-between t.area.low t.area.end r.handled (λ y h. slot-word y (wo.going.slots y (inr h))) wo.single.once
 
   pub is-sane : (k : ℕ) → IsSane t.area t.team t.most k (workers k)
   is-sane k = let st = wo.stands k in record {

@@ -7,10 +7,10 @@ use Rattle.sg_words.specs.Words.{Words, after_step, replayed, IsLegal}
 use Rattle.sg_words.proofs.Puts.{put-all}
 use Rattle.sg_round.specs.Area.{Area}
 use Rattle.sg_round.specs.Worker.{Worker}
-use Rattle.sg_round.specs.Rules.{Deed, WorkEvent, steps, part, by_one, Follows, failed_by}
-use Rattle.sg_round.specs.Laws.{IsSoFar, steps_of, OpensSoFar, GoesSoFar, TellsSoFar, FewSoFar, GoesAlways}
+use Rattle.sg_round.specs.Rules.{Deed, WorkEvent, steps, part, by_one, Follows, moved_by}
+use Rattle.sg_round.specs.Laws.{steps_of, OpensSoFar, GoesSoFar, TellsSoFar, GoesAlways, BoundedLaw}
 use Rattle.sg_round.proofs.Law.{part-same, part-other, so-far}
-use Rattle.sg_round.proofs.Sanity.{is-sane, few-settled}
+use Rattle.sg_round.proofs.Sanity.{few-settled, few-handled, is-sane}
 use Rattle.sg_round.proofs.Progress.{goes-on, can-go}
 
 -- the parts of one worker's deeds
@@ -80,15 +80,18 @@ pub tells_so_far : TellsSoFar
 unfolding goes_so_far
 tells_so_far t v workers k a v' so went = (goes_so_far t v workers k a v' so went, refl)
 
-pub few_so_far : FewSoFar
-few_so_far t v workers so =
-    let x = so-far t v workers so in
-    subst (λ (l : List ℕ). length l + length (failed_by [] so.events) ≤ t.area.high - t.area.low) x.moves
-    (subst (λ (l : List ℕ). length x.world.round.moves + length l ≤ t.area.high - t.area.low) x.fails (few-settled so.opening x.world))
-
 pub goes_always : GoesAlways
 goes_always t v workers so = let x = so-far t v workers so in record {
   sane = λ k. is-sane so.opening x.world k;
   goes_on = λ k step a other acts e saw. goes-on so.opening x.world k (workers k) step acts.0 a acts.1 (x.world.stands k).at other e saw;
   can_go = λ k n. can-go so.opening x.world k n;
 }
+
+pub bounded : BoundedLaw
+bounded t v workers so =
+    let x = so-far t v workers so in
+    record {
+      ended = subst (λ (l : List ℕ). length l ≤ t.area.end - t.area.low) x.handled (few-handled so.opening x.world);
+      settled = subst (λ (l : List ℕ). length (moved_by [] so.events) + length l ≤ t.area.high - t.area.low) x.fails
+          (subst (λ (l : List ℕ). length l + length x.world.round.fails ≤ t.area.high - t.area.low) x.moves (few-settled so.opening x.world));
+    }

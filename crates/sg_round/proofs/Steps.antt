@@ -1,6 +1,6 @@
 -- What a step does to a round under way: a slot is handled, a claimed word is written, words are claimed, an object moves, an
 -- object fails.
-use Rattle.std.proofs.Common.{◌≡◌, ◌≢◌, ℕ, ◌+◌, ◌-◌, ◌*◌, ◌≤◌, ◌<◌, ◌⊎◌, ltb, leb, cond, Bool, true, false, List, [], ◌∷◌, ◌++◌, sym, refl, ap, ◌∙◌, subst}
+use Rattle.std.proofs.Common.{◌≡◌, ◌≢◌, ℕ, ◌+◌, ◌-◌, ◌≤◌, ◌<◌, ◌⊎◌, ltb, leb, cond, Bool, true, false, List, [], ◌∷◌, ◌++◌, sym, refl, ap, ◌∙◌, subst}
 use Rattle.std.proofs.Common.{inl, inr, arith, zero-le}
 use Rattle.std.proofs.lemmas.Bool.{cond-true, cond-false, cases_eq, cases_lt, cases_Bool, ne_eqb, le-leb, lt-ltb, lt-leb, le-ltb}
 use Rattle.sg_words.specs.Address.{byte_at}

@@ -1,10 +1,9 @@
 -- The rules of the exchange of an object's first word: it moves, or it fails, or the exchange is lost.
-use Rattle.std.proofs.Common.{◌≡◌, ◌≢◌, ℕ, suc, ◌+◌, ◌-◌, ◌*◌, ◌≤◌, ◌<◌, ◌⊎◌, false, List, [], ◌∷◌, ◌++◌, length, sym, refl, ap, ◌∙◌, subst, inl, inr, arith}
-use Rattle.std.proofs.Common.{le_refl}
+use Rattle.std.proofs.Common.{◌≡◌, ℕ, ◌+◌, ◌-◌, ◌≤◌, ◌<◌, ◌⊎◌, List, [], ◌∷◌, ◌++◌, sym, refl, ap, ◌∙◌, subst, inl, inr, arith}
 use Rattle.std.proofs.lemmas.Bool.{cases_eq}
 use Rattle.sg_words.specs.Address.{byte_at}
 use Rattle.sg_words.specs.Tags.{plain_word, pinned_word, forward_word}
-use Rattle.sg_words.specs.Lists.{In, has}
+use Rattle.sg_words.specs.Lists.{In}
 use Rattle.sg_words.specs.Objects.{size_of}
 use Rattle.sg_words.specs.Words.{put, Words}
 use Rattle.sg_words.specs.Blocks.{IsSizeClass, slot_size}
@@ -13,13 +12,13 @@ use Rattle.sg_words.proofs.Puts.{put-at, put-same, put-other}
 use Rattle.sg_words.proofs.Members.{in-left, in-right, in-cases, in-last, in-before, last-cases, out, not-in}
 use Rattle.sg_words.proofs.Objects.{slots-are}
 use Rattle.sg_words.proofs.Blocks.{slot_size-class, class_bounds, slot_once, block_once}
-use Rattle.sg_round.specs.Area.{Area, HasCard, class_of, place, Traces}
+use Rattle.sg_round.specs.Area.{HasCard, class_of, place}
 use Rattle.sg_round.specs.Items.{Item, SlotOf, WholeOf, cell_word, slots_by, slots_in, slots_of}
-use Rattle.sg_round.specs.Worker.{Object, Stage, Look, Body, Puts, Swap, Pin, Send, Dirty, Mid, Idle, On, Worker, size_for, idle, on}
-use Rattle.sg_round.specs.Rules.{Effect, Nothing, Ends, Moves, Fails, FailsEnding}
-use Rattle.sg_round.specs.Round.{Start, Owner, Nobody, Claimed, Target, Round, Slot, Owns, IsPassed, IsTaken}
-use Rattle.sg_round.proofs.Relation.{InRound, Reads, IsWhole, IsStaying, IsKnown, IsKnownItem, AreKnown, todo_of, InCell, AreCells, IsMarking, AreCards}
-use Rattle.sg_round.proofs.Relation.{AtStage, IsFilling, Stands, Later, todo_with, IsSingle, Kept}
+use Rattle.sg_round.specs.Worker.{Object, Stage, Look, Swap, Pin, Send, Dirty, Idle, On, Worker, size_for, idle, on}
+use Rattle.sg_round.specs.Rules.{Nothing, Ends, Moves, Fails, FailsEnding}
+use Rattle.sg_round.specs.Round.{Start, Claimed, Round, Owns, IsPassed, IsTaken}
+use Rattle.sg_round.proofs.Relation.{InRound, Reads, IsKnownItem, AreKnown, todo_of, InCell, AreCells}
+use Rattle.sg_round.proofs.Relation.{AtStage, Later, todo_with, Kept}
 use Rattle.sg_round.proofs.Going.{nobody-not-target, nobody-not-claimed, target-not-claimed, clear-not-claimed, below-free, free-source, slot-unclaimed}
 use Rattle.sg_round.proofs.Going.{no-slot, staying, tag-plain}
 use Rattle.sg_round.proofs.Copies.{known-free}
@@ -27,8 +26,8 @@ use Rattle.sg_round.proofs.Steps.{class-is, by_part, filled, filled-copy, filled
 use Rattle.sg_round.proofs.Steps.{source-kept, grow, fail}
 use Rattle.sg_round.proofs.Lists.{slots-distinct, todo-last, length-last}
 use Rattle.sg_round.proofs.Single.{single-as, pushes-single}
-use Rattle.sg_round.proofs.Frame.{object-fits, passed-later, list-later, slots_in-later, slots_of-later, reads-later, item-later}
-use Rattle.sg_round.proofs.Moves.{Before, member, resting, claims-as, other-claim, size-claim, nothing, goes-on, walks, cards-ended, handles}
+use Rattle.sg_round.proofs.Frame.{object-fits, list-later, slots_in-later, slots_of-later, reads-later, item-later}
+use Rattle.sg_round.proofs.Moves.{Before, member, resting, other-claim, size-claim, nothing, goes-on, walks, cards-ended, handles}
 use Rattle.sg_round.proofs.Rooms.{swept-same}
 use Rattle.sg_round.proofs.Looks.{target-of, settled-as, idle-stands}
 

@@ -1,5 +1,5 @@
 -- The laws of racing copiers.
-use Rattle.std.specs.Prelude.{◌≡◌, ◌≢◌, ℕ, ◌+◌, ◌-◌, ◌<◌, ◌≤◌, ◌⊎◌, Bool, true, List, [], ◌∷◌, ◌++◌, length}
+use Rattle.std.specs.Prelude.{◌-◌, length, ◌≡◌, ◌≢◌, ℕ, ◌+◌, ◌<◌, ◌≤◌, ◌⊎◌, Bool, true, List, [], ◌∷◌, ◌++◌}
 use Rattle.std.specs.Int.{bit_at}
 use Rattle.sg_words.specs.Address.{byte_at}
 use Rattle.sg_words.specs.Lists.{In}
@@ -100,11 +100,6 @@ abbrev pub TellsSoFar : Type 0
 TellsSoFar = (t : Start) (v : Words) (workers : ℕ → Worker) (k : ℕ) (a : Worker) (v' : Words) → (so : IsSoFar t v workers) →
     (went : Went t.area t.team k (workers k) v a v') → (later : IsSoFar t v' (put workers k a)) × (later.events ≡ so.events ++ by_one k went.deeds)
 
--- no more objects have moved and failed than the nursery has words
-abbrev pub FewSoFar : Type 0
-FewSoFar = (t : Start) (v : Words) (workers : ℕ → Worker) → (so : IsSoFar t v workers) →
-    length (moved_by [] so.events) + length (failed_by [] so.events) ≤ t.area.high - t.area.low
-
 -- and where all workers have ended the round is done
 abbrev pub RacingLaw : Type 0
 RacingLaw = (t : Start) (v : Words) (workers : ℕ → Worker) → (so : IsSoFar t v workers) → ((k : ℕ) → (workers k).mid ≡ Over) → IsDone t so.events v workers
@@ -138,6 +133,14 @@ pub record AreGoing (t : Start) (v : Words) (workers : ℕ → Worker) : Type 0 
 
 abbrev pub GoesAlways : Type 0
 GoesAlways = (t : Start) (v : Words) (workers : ℕ → Worker) → IsSoFar t v workers → AreGoing t v workers
+
+-- No more slots have ended than there are words, and no more objects have moved or failed than the nursery has words.
+pub record IsBounded (t : Start) (es : List WorkEvent) : Type 0 where
+  pub ended : length (ended_by [] es) ≤ t.area.end - t.area.low
+  pub settled : length (moved_by [] es) + length (failed_by [] es) ≤ t.area.high - t.area.low
+
+abbrev pub BoundedLaw : Type 0
+BoundedLaw = (t : Start) (v : Words) (workers : ℕ → Worker) → (so : IsSoFar t v workers) → IsBounded t so.events
 
 -- From one round to the next over the same opening: a claimed place whose words are zero again is given back ..
 abbrev pub Released : Type 0

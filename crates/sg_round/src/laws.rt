@@ -1,4 +1,4 @@
-ghost use Rattle.sg_round.specs.Laws.{OpensSoFar, GoesSoFar, TellsSoFar, FewSoFar, RacingLaw, OneWorkerLaw, OneOrderLaw, GoesAlways, Released, MoreItems};
+ghost use Rattle.sg_round.specs.Laws.{OpensSoFar, GoesSoFar, TellsSoFar, RacingLaw, OneWorkerLaw, OneOrderLaw, GoesAlways, BoundedLaw, Released, MoreItems};
 
 /// A round's opening is its midst before any step.
 pub fn opens_so_far()
@@ -13,11 +13,6 @@ pub fn goes_so_far()
 /// And then these steps are the last ones of the round.
 pub fn tells_so_far()
     ensures { TellsSoFar }
-{}
-
-/// In the midst of a round no more objects have moved and failed than the nursery has words.
-pub fn few_so_far()
-    ensures { FewSoFar }
 {}
 
 /// The law of racing copiers: every legal list of atomic steps of any number of workers that follow their programs, and have all
@@ -42,6 +37,12 @@ pub fn one_order_of_copies()
 /// one that hasn't ended can take a step.
 pub fn goes_always()
     ensures { GoesAlways }
+{}
+
+/// In the midst of a round no more slots have ended than there are words, and no more objects have moved or failed than the nursery
+/// has words.
+pub fn bounded()
+    ensures { BoundedLaw }
 {}
 
 /// From one round to the next over the same opening: a spare place whose words are zero again is given back.

@@ -8,18 +8,18 @@ loop-copier-init c = λ slots wholes ready. begins c.args.port.now slots wholes 
 pub turn_on-requires-clause-on : goal.turn_on-requires-clause-on
 turn_on-requires-clause-on c =
     let r = c.requires.ready in
-    is-on c.tells_so_far.ensures c.few_so_far.ensures c.goes_always.ensures c.args.port.now r.2.can.contents r.0 r.1 r.2.items r.2.can.zone c.loop-copier.port
+    is-on c.tells_so_far.ensures c.bounded.ensures c.goes_always.ensures c.args.port.now r.2.can.contents r.0 r.1 r.2.items r.2.can.zone c.loop-copier.port
     c.loop-copier.copier (c.loop-copier.invariant r.0 r.1 r.2)
 
 pub loop-copier-smaller : goal.loop-copier-smaller
 loop-copier-smaller c =
     let r = c.requires.ready in
-    less c.tells_so_far.ensures c.few_so_far.ensures c.goes_always.ensures c.args.port.now r.2.can.contents r.0 r.1 r.2.items r.2.can.zone c.loop-copier.port
+    less c.tells_so_far.ensures c.bounded.ensures c.goes_always.ensures c.args.port.now r.2.can.contents r.0 r.1 r.2.items r.2.can.zone c.loop-copier.port
     c.loop-copier.copier (c.loop-copier.invariant r.0 r.1 r.2) c.turn_on.new.port c.turn_on.new.self c.turn_on.ensures.turned c.turn_on.ensures.same
 
 pub loop-copier-preserved : goal.loop-copier-preserved
 loop-copier-preserved c = λ slots wholes ready.
-    goes-on c.tells_so_far.ensures c.few_so_far.ensures c.goes_always.ensures c.args.port.now ready.can.contents slots wholes ready.items ready.can.zone c.loop-copier.port
+    goes-on c.tells_so_far.ensures c.bounded.ensures c.goes_always.ensures c.args.port.now ready.can.contents slots wholes ready.items ready.can.zone c.loop-copier.port
     c.loop-copier.copier (c.loop-copier.invariant slots wholes ready) c.turn_on.new.port c.turn_on.new.self c.turn_on.ensures.turned c.turn_on.ensures.same
 
 pub returns-clause-same : goal.returns-clause-same

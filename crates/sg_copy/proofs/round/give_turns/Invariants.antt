@@ -12,4 +12,4 @@ invariant-loop-copier l = (slots wholes : List ℕ) → (ready : IsReady l.fn.po
     IsMidst l.fn.port slots wholes ready.items ready.can.zone l.port l.copier
 
 abbrev pub decreases-loop-copier : goal.decreases-loop-copier
-decreases-loop-copier l = left (seat_of l.copier).area (words_with l.port.space.now l.port.cells.items) (teller_of l.copier)
+decreases-loop-copier l = left (seat_of l.copier).area (words_with l.port.space.now l.port.cells) (teller_of l.copier)
