@@ -49,8 +49,8 @@ pub fn copy_one(
     let items = items_of(alloc, slots, wholes, space.layout().nursery as usize)?;
     let mut copier = Copier::new(alloc, &space, 0, 1, items)?;
     run(&mut space, &mut copier);
-    let (mut moves, fails) = copier.into_told();
-    find_copies(&space, moves.as_mut_slice());
+    let (moves, fails) = copier.into_told();
+    let moves = with_copies(&space, moves);
     Ok(Round {
         space,
         moves,
@@ -102,7 +102,18 @@ fn give_turns(port: &mut PlainRound<'_>, copier: &mut Copier)
     }
 }
 
-/// Where each of the objects went, by their first words.
+/// The same with where each of the objects went.
+fn with_copies(space: &Space, moves: Vec<Move>) -> Vec<Move>
+    requires there { All (λ (m : AnyMove). IsInSection space.now.layout (word_at m.from)) moves.items }
+    requires forwarded { All (λ (m : AnyMove). IsForwarded space.now m) moves.items }
+    ensures { result.items ≡ map (λ (m : AnyMove). found_move space.now m) moves.items }
+{
+    let mut moves = moves;
+    find_copies(space, moves.as_mut_slice());
+    moves
+}
+
+/// Finds where each of the objects went, by their first words.
 fn find_copies(space: &Space, moves: &mut [Move])
     requires there { All (λ (m : AnyMove). IsInSection space.now.layout (word_at m.from)) moves.old }
     requires forwarded { All (λ (m : AnyMove). IsForwarded space.now m) moves.old }

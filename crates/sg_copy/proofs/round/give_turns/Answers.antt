@@ -11,6 +11,9 @@ turn_on-requires-clause-on c =
     is-on c.tells_so_far.ensures c.bounded.ensures c.goes_always.ensures c.args.port.now r.2.can.contents r.0 r.1 r.2.items r.2.can.zone c.loop-copier.port
     c.loop-copier.copier (c.loop-copier.invariant r.0 r.1 r.2)
 
+pub turn_on-requires-clause-rests : goal.turn_on-requires-clause-rests
+turn_on-requires-clause-rests c = let r = c.requires.ready in (c.loop-copier.invariant r.0 r.1 r.2).rests
+
 pub loop-copier-smaller : goal.loop-copier-smaller
 loop-copier-smaller c =
     let r = c.requires.ready in
