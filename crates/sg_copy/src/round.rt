@@ -1,6 +1,6 @@
 ghost use Rattle.std.specs.Prelude.{◌≡◌, ◌≢◌, ℕ, ◌+◌, ◌<◌, ◌≤◌, List, IfOk, length, map, slice_index, vec_capacity, replicate};
 ghost use Rattle.std.specs.List.{All};
-ghost use Rattle.sg_words.specs.Address.{word_at};
+ghost use Rattle.sg_words.specs.Address.{IsAddress, word_at};
 ghost use Rattle.sg_words.specs.Sections.{IsInSection};
 ghost use Rattle.sg_words.specs.declared.pieces.Move.{Move as AnyMove};
 ghost use Rattle.sg_copy.specs.Copying.{CanCopy, HasCopiedTo};
@@ -50,6 +50,7 @@ pub fn copy_one(
     let mut copier = Copier::new(alloc, &space, 0, 1, items)?;
     run(&mut space, &mut copier);
     let (moves, fails) = copier.into_told();
+    know_addresses(fails.as_slice());
     let moves = with_copies(&space, moves);
     Ok(Round {
         space,
@@ -102,11 +103,21 @@ fn give_turns(port: &mut PlainRound<'_>, copier: &mut Copier)
     }
 }
 
+/// That each of these is an address is true of the type: this call does nothing.
+fn know_addresses(addresses: &[Addr])
+    ensures { All IsAddress addresses.now }
+{
+    for at in addresses {
+        let _ = at.get();
+    }
+}
+
 /// The same with where each of the objects went.
 fn with_copies(space: &Space, moves: Vec<Move>) -> Vec<Move>
     requires there { All (λ (m : AnyMove). IsInSection space.now.layout (word_at m.from)) moves.items }
     requires forwarded { All (λ (m : AnyMove). IsForwarded space.now m) moves.items }
-    ensures { result.items ≡ map (λ (m : AnyMove). found_move space.now m) moves.items }
+    ensures addresses { All (λ (m : AnyMove). IsAddress m.from) moves.items }
+    ensures moves { result.items ≡ map (λ (m : AnyMove). found_move space.now m) moves.items }
 {
     let mut moves = moves;
     find_copies(space, moves.as_mut_slice());
@@ -117,7 +128,8 @@ fn with_copies(space: &Space, moves: Vec<Move>) -> Vec<Move>
 fn find_copies(space: &Space, moves: &mut [Move])
     requires there { All (λ (m : AnyMove). IsInSection space.now.layout (word_at m.from)) moves.old }
     requires forwarded { All (λ (m : AnyMove). IsForwarded space.now m) moves.old }
-    ensures { moves.new ≡ map (λ (m : AnyMove). found_move space.now m) moves.old }
+    ensures addresses { All (λ (m : AnyMove). IsAddress m.from) moves.old }
+    ensures moves { moves.new ≡ map (λ (m : AnyMove). found_move space.now m) moves.old }
 {
     for k in 0..moves.len() {
         moves[k] = find_copy(space, moves[k]);
@@ -128,8 +140,10 @@ fn find_copies(space: &Space, moves: &mut [Move])
 fn find_copy(space: &Space, moved: Move) -> Move
     requires there { IsInSection space.now.layout (word_at moved.from) }
     requires forwarded { IsForwarded space.now moved }
-    ensures { result ≡ found_move space.now moved }
+    ensures address { IsAddress moved.from }
+    ensures moved { result ≡ found_move space.now moved }
 {
+    let _ = moved.from.get();
     match forwarded_to(space.read(moved.from)) {
         Some(to) => Move {
             from: moved.from,
