@@ -41,7 +41,8 @@ seek-requires-clause-on g c =
     let p = c.args.port.now in
     let took = c.in-None.ensures in
     subst (λ (n : Copying). (a : Teller) × LooksAt a 0 (at (teller_of n) Idle) × On o (seat_of n) p a) (sym took.1)
-    (at (teller_of m) Idle, record { where_is = inl (refl, refl); nothing = (ap (λ (queue : List Gray). map item_of queue) took.0, c.requires.empty) }, c.requires.on)
+    (at (teller_of m) Idle, record { where_is = inl (refl, refl); nothing = (ap (λ (queue : List Gray). map item_of queue) took.0, c.requires.empty)
+        }, c.requires.on)
 
 pub returns-in-Some : goal.returns-in-Some
 returns-in-Some g c =
@@ -53,7 +54,8 @@ returns-in-Some g c =
     let same = same_queue m k _ took.1 in
     let isn = next_listed m k c.in-Some.item took.0 took.1 c.requires.empty in
     set_out_as o m k c.go_through.new.self (at (teller_of m) Idle) p c.go_through.new.port same
-    (c.go_through.ensures (at (teller_of m) Idle) isn (on_as o (seat_of m) (seat_of k) (at (teller_of m) Idle) (at (teller_of m) Idle) p (seat_same m k same) refl c.requires.on))
+    (c.go_through.ensures (at (teller_of m) Idle) isn (on_as o (seat_of m) (seat_of k) (at (teller_of m) Idle) (at (teller_of m) Idle) p
+        (seat_same m k same) refl c.requires.on))
 
 pub returns-in-None : goal.returns-in-None
 returns-in-None g c =
@@ -62,6 +64,8 @@ returns-in-None g c =
     let k = c.take_item.new.self in
     let p = c.args.port.now in
     let took = c.in-None.ensures in
-    let looks : LooksAt (at (teller_of m) Idle) 0 (at (teller_of m) Idle) = record { where_is = inl (refl, refl); nothing = (ap (λ (queue : List Gray). map item_of queue) took.0, c.requires.empty) } in
-    let all = subst (λ (n : Copying). (a : Teller) → LooksAt a 0 (at (teller_of n) Idle) → On o (seat_of n) p a → HasSetOut n o.leads a p c.seek.new.self c.seek.new.port) took.1 c.seek.ensures in
+    let looks : LooksAt (at (teller_of m) Idle) 0 (at (teller_of m) Idle) =
+        record { where_is = inl (refl, refl); nothing = (ap (λ (queue : List Gray). map item_of queue) took.0, c.requires.empty) } in
+    let all = subst (λ (n : Copying). (a : Teller) → LooksAt a 0 (at (teller_of n) Idle) → On o (seat_of n) p a →
+        HasSetOut n o.leads a p c.seek.new.self c.seek.new.port) took.1 c.seek.ensures in
     all (at (teller_of m) Idle) looks c.requires.on

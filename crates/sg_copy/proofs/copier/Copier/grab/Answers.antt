@@ -35,7 +35,8 @@ swap_cell-requires g c =
     let number : c.place_in_team-number.result.0 ≡ m.number = ap (λ (n : ℕ × ℕ). n.0) c.place_in_team-number.ensures in
     let place : looked_cell c.place_in_team-number.result.1 c.place_in_team-number.result.0 i ≡ looked_cell m.team m.number i =
         ap (λ n. looked_cell n c.place_in_team-number.result.0 i) team ∙ ap (λ n. looked_cell m.team n i) number in
-    record { may = subst (λ k. o.may p (Swaps (Cell k) c.to_word.result 0)) (sym place) (subst (λ v. o.may p (Swaps (Cell (looked_cell m.team m.number i)) v 0)) (sym c.to_word.ensures)
+    record { may = subst (λ k. o.may p (Swaps (Cell k) c.to_word.result 0)) (sym place)
+        (subst (λ v. o.may p (Swaps (Cell (looked_cell m.team m.number i)) v 0)) (sym c.to_word.ensures)
         (grab_may o (seat_of m) (teller_of m) i item p c.requires.on)) }
 
 pub go_through-requires-clause-on : goal.go_through-requires-clause-on
@@ -92,7 +93,8 @@ returns-in-Ok g c =
     let more = c.go_through.ensures took (record { next = Of_cell (at (teller_of m) Idle).worker item; moves = refl; fails = refl }) has.0 in
     let end = c.go_through.new.self in
     record {
-      started = started_then o (seat_of m) (at (teller_of m) (Grab i item)) took (teller_of end) p q c.go_through.new.port has.1 (gone_started o (seat_of m) took (teller_of end) q c.go_through.new.port (λ r. r) more.started);
+      started = started_then o (seat_of m) (at (teller_of m) (Grab i item)) took (teller_of end) p q c.go_through.new.port has.1
+          (gone_started o (seat_of m) took (teller_of end) q c.go_through.new.port (λ r. r) more.started);
       same = more.same;
     }
 
@@ -116,6 +118,7 @@ returns-in-Err g c =
     let more = c.seek.ensures seeking (record { where_is = inr refl; nothing = (sane.2, sane.3) }) has.0 in
     let end = c.seek.new.self in
     record {
-      started = started_then o (seat_of m) (at (teller_of m) (Grab i item)) seeking (teller_of end) p q c.seek.new.port has.1 (gone_started o (seat_of m) seeking (teller_of end) q c.seek.new.port (λ r. r) more.started);
+      started = started_then o (seat_of m) (at (teller_of m) (Grab i item)) seeking (teller_of end) p q c.seek.new.port has.1
+          (gone_started o (seat_of m) seeking (teller_of end) q c.seek.new.port (λ r. r) more.started);
       same = more.same;
     }

@@ -51,11 +51,13 @@ cell-word-requires g c =
     let place : looked_cell c.place_in_team-number.result.1 c.place_in_team-number.result.0 i ≡ looked_cell m.team m.number i =
         ap (λ n. looked_cell n c.place_in_team-number.result.0 i) team ∙ ap (λ n. looked_cell m.team n i) number in
     let a = c.requires.on.0 in
-    let here = seeks_here o (seat_of m) (teller_of m) c.args.from a p c.requires.on.1 c.requires.on.2 i y l (c.loop-cell.invariant.sought_so_far a c.requires.on.1 c.requires.on.2) in
+    let here = seeks_here o (seat_of m) (teller_of m) c.args.from a p c.requires.on.1 c.requires.on.2 i y l
+        (c.loop-cell.invariant.sought_so_far a c.requires.on.1 c.requires.on.2) in
     record { may = subst (λ k. o.may y (Loads (Cell k))) (sym place) (cell_may o (seat_of m) (teller_of m) i here.here here.looks y here.on) }
 
 -- where no item was read the cell is empty
-none_there : (seat : Seat) (v : ℕ) → IsArea seat.area seat.team → HoldsItem v → ((item : Item) → v ≡ cell_word item → IsSaneItem seat.area item) → ((item : Item) → IsCellItem item → v ≡ cell_word item → ⊥) → v ≡ 0
+none_there : (seat : Seat) (v : ℕ) → IsArea seat.area seat.team → HoldsItem v → ((item : Item) → v ≡ cell_word item → IsSaneItem seat.area item) →
+    ((item : Item) → IsCellItem item → v ≡ cell_word item → ⊥) → v ≡ 0
 none_there seat v lim holds sane none = elim holds [
   | inl e ↦ e
   | inr is ↦ absurd (none is.0 (cell_item seat is.0 lim (sane is.0 is.1)) is.1)
@@ -81,8 +83,10 @@ loop-cell-preserved g c = record {
       let t = teller_of m in
       let holds = cell_saw o (seat_of m) t i here.here here.looks y here.on c.cell-word.result c.cell-word.new.self did in
       let empty : c.cell-word.result ≡ 0 = none_there (seat_of m) c.cell-word.result on.guided.is_sane.worker.limits holds
-          (λ item e. (cell_full o (seat_of m) t i here.here here.looks y here.on c.cell-word.result c.cell-word.new.self did item e).0.guided.is_sane.worker.at.1) c.in_default.ensures.none in
-      inr (here.started_by (at t (sought m.team (i + 1))) c.cell-word.new.self (cell_empty o (seat_of m) t i here.here here.looks y here.on c.cell-word.result c.cell-word.new.self did empty));
+          (λ item e. (cell_full o (seat_of m) t i here.here here.looks y here.on c.cell-word.result c.cell-word.new.self did item
+              e).0.guided.is_sane.worker.at.1) c.in_default.ensures.none in
+      inr (here.started_by (at t (sought m.team (i + 1))) c.cell-word.new.self
+          (cell_empty o (seat_of m) t i here.here here.looks y here.on c.cell-word.result c.cell-word.new.self did empty));
 }
 
 pub returns-in-Some : goal.returns-in-Some
@@ -102,10 +106,13 @@ returns-in-Some g c a is on =
     let t = teller_of m in
     let k = c.set_stage.new.self in
     let here = seeks_here o (seat_of m) t c.args.from a p is on i y l (c.loop-cell.invariant.sought_so_far a is on) in
-    let full = cell_full o (seat_of m) t i here.here here.looks y here.on c.cell-word.result c.cell-word.new.self did (item_of c.in-Some.item) c.in-Some.ensures.item in
-    let set : k ≡ record m { stage = Grabbing i c.in-Some.item } = c.set_stage.ensures ∙ ap (λ (n : Copying). record n { stage = Grabbing i c.in-Some.item }) c.loop-cell.invariant.self_is in
+    let full = cell_full o (seat_of m) t i here.here here.looks y here.on c.cell-word.result c.cell-word.new.self did (item_of c.in-Some.item)
+        c.in-Some.ensures.item in
+    let set : k ≡ record m { stage = Grabbing i c.in-Some.item } =
+        c.set_stage.ensures ∙ ap (λ (n : Copying). record n { stage = Grabbing i c.in-Some.item }) c.loop-cell.invariant.self_is in
     record {
-      started = started_to o (seat_of m) a (at t (Grab i (item_of c.in-Some.item))) (teller_of k) p c.cell-word.new.self (ap teller_of set) (here.started_by (at t (Grab i (item_of c.in-Some.item))) c.cell-word.new.self full.1);
+      started = started_to o (seat_of m) a (at t (Grab i (item_of c.in-Some.item))) (teller_of k) p c.cell-word.new.self (ap teller_of set)
+          (here.started_by (at t (Grab i (item_of c.in-Some.item))) c.cell-word.new.self full.1);
       same = (same_stage m k (Grabbing i c.in-Some.item) set).copier;
     }
 
@@ -126,7 +133,8 @@ returns g c a is on =
     record {
       started = elim (c.loop-cell.invariant.sought_so_far a is on) [
         | inl e ↦ absurd (let z = e.0 in omega arith)
-        | inr s ↦ started_to o (seat_of m) a (at t (sought m.team i)) (teller_of k) p y (ap teller_of set ∙ ap (λ (mid : Mid). at t mid) (sym (sought_all m.team i end))) s
+        | inr s ↦ started_to o (seat_of m) a (at t (sought m.team i)) (teller_of k) p y
+            (ap teller_of set ∙ ap (λ (mid : Mid). at t mid) (sym (sought_all m.team i end))) s
       ];
       same = (same_stage m k Ended set).copier;
     }
