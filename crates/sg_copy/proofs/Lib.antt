@@ -10,3 +10,11 @@ pub mod Cells
 pub mod Items
 pub mod Handled
 pub mod Changes
+pub mod RoundLists
+pub mod RoundMeasure
+pub mod RoundGuided
+pub mod RoundTold
+pub mod RoundMidst
+pub mod RoundStart
+pub mod RoundDone
+pub mod RoundRun
