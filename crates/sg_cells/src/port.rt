@@ -2,9 +2,13 @@ ghost use Rattle.std.specs.Prelude.{◌≡◌, ◌≢◌, ℕ, ◌%◌, ◌<◌,
 ghost use Rattle.sg_words.specs.Address.{byte_at, word_at};
 ghost use Rattle.sg_words.specs.declared.steps.Place.TheVariants.{Stop, Next, Word, Card, Head};
 ghost use Rattle.sg_words.specs.declared.steps.Step.{Step};
-ghost use Rattle.sg_words.specs.declared.steps.Step.TheVariants.{Load, Store, Won, Lost};
+ghost use Rattle.sg_words.specs.declared.steps.Step.TheVariants.{Load, Store, Won, Lost, OnBlock};
+ghost use Rattle.sg_words.specs.declared.steps.BlockStep.TheVariants.{LoadBlock, WonBlock, LostBlock, LoadUsed, OrUsed};
 ghost use Rattle.sg_words.specs.declared.steps.Call.{Call};
-ghost use Rattle.sg_words.specs.declared.steps.Call.TheVariants.{Loads, Stores, Swaps};
+ghost use Rattle.sg_words.specs.declared.steps.Call.TheVariants.{Loads, Stores, Swaps, OnBlocks};
+ghost use Rattle.sg_words.specs.declared.steps.BlockCall.TheVariants.{LoadsBlock, SwapsBlock, LoadsUsed, OrsUsed};
+
+use sg_words::BlockWord;
 
 /// What ports have in common; it has no calls.
 pub trait Port {
@@ -22,7 +26,7 @@ pub trait Port {
     ghost chains: { (p q r : Self) (es fs : List Step) → leads p es q → leads q fs r → leads p (es ++ fs) r };
 }
 
-/// The words of the heap, the head of the ready row, and the word that asks for a stop. Each call is one step.
+/// The words of the heap, the head of the ready row, the cards, and the word that asks for a stop. Each call is one step.
 pub trait WordPort: Port {
     /// The word at this byte address.
     fn load(&mut self, a: u64) -> u64
@@ -61,6 +65,12 @@ pub trait WordPort: Port {
         requires may { Self.may self.old (Stores Stop 1) }
         ensures led { Self.leads self.old (Store Stop 1 ∷ []) self.new }
         ensures seen { Self.sees self.old (Store Stop 1) };
+
+    /// This card becomes dirty.
+    fn mark_card(&mut self, card: u32)
+        requires may { Self.may self.old (Stores (Card card) 1) }
+        ensures led { Self.leads self.old (Store (Card card) 1 ∷ []) self.new }
+        ensures seen { Self.sees self.old (Store (Card card) 1) };
 }
 
 /// The fragments of the nursery, by number. A next word and an end are byte addresses.
@@ -97,11 +107,40 @@ pub trait FragPort: Port {
     ghost fixed: { (p q : Self) (es : List Step) → Self.Port.leads p es q → (fragments q ≡ fragments p) × (limit q ≡ limit p) };
 }
 
-/// The cards of the major heap. A space has none yet, so no port meets it.
-pub trait CardPort: Port {
-    /// This card becomes dirty.
-    fn mark_card(&mut self, card: u32)
-        requires may { Self.may self.old (Stores (Card card) 1) }
-        ensures led { Self.leads self.old (Store (Card card) 1 ∷ []) self.new }
-        ensures seen { Self.sees self.old (Store (Card card) 1) };
+/// The blocks of the major heap, by number: their words and their occupancies.
+pub trait BlockPort: Port {
+    /// How many blocks there are: no step changes it.
+    ghost blocks: { Self → ℕ };
+
+    /// How many blocks there are. No step.
+    fn blocks(&self) -> u32
+        ensures { result ≡ Self.blocks self.now };
+
+    /// The word of this block: one load.
+    fn block(&mut self, b: u32) -> BlockWord
+        requires may { Self.may self.old (OnBlocks (LoadsBlock b)) }
+        ensures led { Self.leads self.old (OnBlock (LoadBlock b result) ∷ []) self.new }
+        ensures seen { Self.sees self.old (OnBlock (LoadBlock b result)) };
+
+    /// The word of this block becomes `new` where it is `seen`; else it stays, and the error is the word found. One exchange.
+    fn swap_block(&mut self, b: u32, seen: BlockWord, new: BlockWord) -> Result<(), BlockWord>
+        requires may { Self.may self.old (OnBlocks (SwapsBlock b seen new)) }
+        ensures led { MatchResult result (λ _. Self.leads self.old (OnBlock (WonBlock b seen new) ∷ []) self.new)
+            (λ found. Self.leads self.old (OnBlock (LostBlock b seen new found) ∷ []) self.new) }
+        ensures seen { MatchResult result (λ _. Self.sees self.old (OnBlock (WonBlock b seen new))) (λ found. Self.sees self.old (OnBlock (LostBlock b seen new found))) };
+
+    /// The occupancy of this block, a bit for each slot: one load.
+    fn used(&mut self, b: u32) -> u64
+        requires may { Self.may self.old (OnBlocks (LoadsUsed b)) }
+        ensures led { Self.leads self.old (OnBlock (LoadUsed b result) ∷ []) self.new }
+        ensures seen { Self.sees self.old (OnBlock (LoadUsed b result)) };
+
+    /// The bit of this slot of this block is set in the occupancy; the answer is the occupancy before. One fetch-or.
+    fn take_slot(&mut self, b: u32, slot: u32) -> u64
+        requires may { Self.may self.old (OnBlocks (OrsUsed b slot)) }
+        ensures led { Self.leads self.old (OnBlock (OrUsed b slot result) ∷ []) self.new }
+        ensures seen { Self.sees self.old (OnBlock (OrUsed b slot result)) };
+
+    /// No step changes how many blocks there are.
+    ghost fixed_blocks: { (p q : Self) (es : List Step) → Self.Port.leads p es q → blocks q ≡ blocks p };
 }

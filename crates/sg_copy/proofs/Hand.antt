@@ -14,7 +14,8 @@ use Rattle.sg_words.specs.Objects.{size_of}
 use Rattle.sg_copy.specs.Round.{slots_by, Handles, Copies, Fails}
 use Rattle.sg_words.specs.Objects.{strong_slots}
 use Rattle.sg_words.proofs.Objects.{slots-skip, slots-take}
-use Rattle.sg_copy.specs.Copying.{strong_of_shape, area_of, IsStill, Stores, HasCopied, IsTarget, Went, Stays, IsPlain}
+use Rattle.sg_copy.specs.Copying.{strong_of_shape, area_of, HasCopied, IsTarget, Went, Stays, IsPlain}
+use Rattle.sg_space.specs.Changes.{IsStill, Stores}
 
 -- a write changes one word
 pub stores : (s t : Contents) (a v : ℕ) → a < length s.words → t ≡ record s { words = slice_set s.words a v } → Stores (word s) a v (word t)

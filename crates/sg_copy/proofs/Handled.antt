@@ -12,7 +12,8 @@ use Rattle.sg_words.proofs.Numbers.{word_at-plus, whole-plus}
 use Rattle.sg_copy.specs.Area.{IsYoung}
 use Rattle.sg_copy.specs.Round.{slots_by, Handles, FindsForwarded}
 use Rattle.sg_copy.specs.declared.copier.Copier.{Copier}
-use Rattle.sg_copy.specs.Copying.{area_of, IsStill, Stores, HasCopied, IsFront, IsHandled, still_on, area_still}
+use Rattle.sg_copy.specs.Copying.{area_of, HasCopied, IsFront, IsHandled, area_still}
+use Rattle.sg_space.specs.Changes.{IsStill, Stores, still_on}
 use Rattle.sg_copy.proofs.Hand.{stores, still_set, still_same, fails_at, copies_to}
 
 layout_still : (s t : Contents) → IsStill s t → t.layout ≡ s.layout

@@ -12,7 +12,8 @@ use Rattle.sg_copy.specs.declared.copier.Copier.{Copier}
 use Rattle.sg_copy.specs.Area.{Area, IsYoung}
 use Rattle.sg_words.specs.Lists.{In, has}
 use Rattle.sg_copy.specs.Round.{Round, Slot, Item, Copied, Failed, IsGoing, Handles, IsAfter, remains}
-use Rattle.sg_copy.specs.Copying.{area_of, IsStill, Went, Stays, IsPlain, HasTarget, IsFront, moved_to, IsHandled, CanCopy, area_still}
+use Rattle.sg_copy.specs.Copying.{area_of, Went, Stays, IsPlain, HasTarget, IsFront, moved_to, IsHandled, CanCopy, area_still}
+use Rattle.sg_space.specs.Changes.{IsStill}
 use Rattle.sg_words.proofs.Numbers.{is_address}
 use Rattle.sg_words.proofs.Members.{in-here, in-there, not-in}
 use Rattle.sg_copy.proofs.Going.{target-old, plain-words}

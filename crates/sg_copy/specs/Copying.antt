@@ -10,6 +10,7 @@ use Rattle.sg_desc.specs.Shapes.{is_strong, strong_any}
 use Rattle.sg_words.specs.Sections.{nursery_base, old_base, large_base, IsInSection}
 use Rattle.sg_space.specs.Space.{Contents, IsContents}
 use Rattle.sg_space.specs.Standing.{word}
+use Rattle.sg_space.specs.Changes.{IsStill}
 use Rattle.sg_copy.specs.declared.copier.Copier.{Copier}
 use Rattle.sg_copy.specs.Area.{Area, IsYoung, class_of, Traces}
 use Rattle.sg_words.specs.Lists.{In}
@@ -31,28 +32,8 @@ area_of s = record { low = nursery_base; high = old_base s.layout; limit = large
 pub strong_of_shape : (s : Contents) (c i n : ℕ) (shape : Shape) → slice_get s.shapes c ≡ Some shape → (area_of s).strong c i ≡ is_strong shape.kind i n
 strong_of_shape s c i n shape e = ap (λ (o : Option Shape). is_strong_in o i) e ∙ strong_any shape.kind i shape.fields n
 
--- nothing but words differs
-abbrev pub IsStill : Contents → Contents → Type 0
-IsStill old new = (new ≡ record old { words = new.words }) × (length new.words ≡ length old.words)
-
-pub still_on : (s t u : Contents) → IsStill s t → IsStill t u → IsStill s u
-still_on s t u h k = (k.0 ∙ ap (λ (z : Contents). record z { words = u.words }) h.0, k.1 ∙ h.1)
-
-pub contents_still : (s t : Contents) → IsStill s t → IsContents s → IsContents t
-contents_still s t h contents = subst IsContents (sym h.0) (record {
-  layout = contents.layout;
-  shapes = contents.shapes;
-  words = h.1 ∙ contents.words;
-  fragments = contents.fragments;
-  few = contents.few;
-})
-
 pub area_still : (s t : Contents) → IsStill s t → area_of t ≡ area_of s
 area_still s t h = ap area_of h.0
-
--- the word a is v now, and no other one has changed
-abbrev pub Stores : (ℕ → ℕ) → ℕ → ℕ → (ℕ → ℕ) → Type 0
-Stores old a v new = (new a ≡ v) × ((y : ℕ) → y ≢ a → new y ≡ old y)
 
 -- the n words from `at` on are those from x on now, and no other one has changed
 abbrev pub HasCopied : (ℕ → ℕ) → ℕ → ℕ → ℕ → (ℕ → ℕ) → Type 0

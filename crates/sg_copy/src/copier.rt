@@ -7,7 +7,8 @@ ghost use Rattle.sg_space.specs.Standing.{word};
 ghost use Rattle.sg_copy.specs.Area.{IsYoung};
 ghost use Rattle.sg_words.specs.Objects.{size_of};
 ghost use Rattle.sg_copy.specs.Round.{slots_by};
-ghost use Rattle.sg_copy.specs.Copying.{area_of, IsStill, Stores, HasCopied, HasTarget, IsTarget, IsFront, IsHandled, CanCopy, HasCopiedTo};
+ghost use Rattle.sg_copy.specs.Copying.{area_of, HasCopied, HasTarget, IsTarget, IsFront, IsHandled, CanCopy, HasCopiedTo};
+ghost use Rattle.sg_space.specs.Changes.{IsStill, Stores};
 
 use sg_space::Space;
 use sg_words::{Addr, Move, Tag, forwarded_to, plain_class, write_tag};

@@ -7,10 +7,38 @@ use Rattle.sg_space.specs.Space.{Contents, words_of}
 use Rattle.sg_frag.specs.Plain.{KeepsSections, Led}
 
 keeps_none : (s : Contents) → KeepsSections s s
-keeps_none s = record { layout = refl; shapes = refl; ends = refl; next = refl; words = refl }
+keeps_none s = record {
+  layout = refl;
+  shapes = refl;
+  ends = refl;
+  next = refl;
+  words = refl;
+  blocks = refl;
+  used = refl;
+  cards = refl;
+  marks = refl;
+  pages = refl;
+  made = refl;
+  registered = refl;
+  pairs = refl;
+}
 
 keeps_chain : (s t u : Contents) → KeepsSections s t → KeepsSections t u → KeepsSections s u
-keeps_chain s t u k l = record { layout = l.layout ∙ k.layout; shapes = l.shapes ∙ k.shapes; ends = l.ends ∙ k.ends; next = l.next ∙ k.next; words = l.words ∙ k.words }
+keeps_chain s t u k l = record {
+  layout = l.layout ∙ k.layout;
+  shapes = l.shapes ∙ k.shapes;
+  ends = l.ends ∙ k.ends;
+  next = l.next ∙ k.next;
+  words = l.words ∙ k.words;
+  blocks = l.blocks ∙ k.blocks;
+  used = l.used ∙ k.used;
+  cards = l.cards ∙ k.cards;
+  marks = l.marks ∙ k.marks;
+  pages = l.pages ∙ k.pages;
+  made = l.made ∙ k.made;
+  registered = l.registered ∙ k.registered;
+  pairs = l.pairs ∙ k.pairs;
+}
 
 legal-append : (w : Words) (es fs : List Step) → IsLegal w es → IsLegal (replayed w es) fs → IsLegal w (es ++ fs)
 legal-append w [] fs l m = m
@@ -36,3 +64,7 @@ limit_of ends f = word_at (slice_index ends f)
 
 pub led_fixed : (s t : Contents) (es : List Step) → Led s es t → (length t.ends ≡ length s.ends) × (limit_of t.ends ≡ limit_of s.ends)
 led_fixed s t es h = (ap length h.keeps.ends, ap limit_of h.keeps.ends)
+
+-- how many blocks there are
+pub blocks_fixed : (s t : Contents) (es : List Step) → Led s es t → length t.blocks ≡ length s.blocks
+blocks_fixed s t es h = h.keeps.blocks

@@ -3,11 +3,11 @@ ghost use Rattle.std.proofs.Common.{refl, ◌∙◌};
 ghost use Rattle.sg_words.specs.Words.{Saw};
 ghost use Rattle.sg_space.specs.Space.{words_of};
 ghost use Rattle.sg_frag.specs.Plain.{Led, MayCall};
-ghost use Rattle.sg_frag.specs.Leading.{led_none, led_chain, led_fixed, limit_of};
+ghost use Rattle.sg_frag.specs.Leading.{led_none, led_chain, led_fixed, blocks_fixed, limit_of};
 
-use sg_cells::{FragPort, Port, WordPort};
+use sg_cells::{BlockPort, FragPort, Port, WordPort};
 use sg_space::Space;
-use sg_words::Addr;
+use sg_words::{Addr, BlockWord};
 
 /// A port over a lent space: each call is done at once, on the space.
 #[derive(Drop)]
@@ -46,15 +46,17 @@ impl<'a> WordPort for PlainPort<'a> {
         self.space.write(Addr::at_word(a / 8), w);
     }
 
-    // A space has no ready entries yet, so none was taken.
     fn head(&mut self) -> u64 {
-        0
+        self.space.head()
     }
 
     fn swap_head(&mut self, seen: u64, new: u64) -> Result<(), u64> {
-        let _ = seen;
-        let _ = new;
-        Err(0)
+        let found = self.space.head();
+        if found != seen {
+            return Err(found);
+        }
+        self.space.set_head(new);
+        Ok(())
     }
 
     fn stop(&mut self) -> bool {
@@ -63,6 +65,10 @@ impl<'a> WordPort for PlainPort<'a> {
 
     fn set_stop(&mut self) {
         self.space.set_stopping(true);
+    }
+
+    fn mark_card(&mut self, card: u32) {
+        self.space.set_dirty(card, true);
     }
 }
 
@@ -92,5 +98,38 @@ impl<'a> FragPort for PlainPort<'a> {
         }
         self.space.set_next(f, new);
         Ok(())
+    }
+}
+
+impl<'a> BlockPort for PlainPort<'a> {
+    ghost blocks = { λ p. length p.space.now.blocks };
+
+    ghost fixed_blocks = { λ p q es h. blocks_fixed p.space.now q.space.now es h.1 };
+
+    fn blocks(&self) -> u32 {
+        self.space.layout().blocks
+    }
+
+    fn block(&mut self, b: u32) -> BlockWord {
+        self.space.block(b)
+    }
+
+    fn swap_block(&mut self, b: u32, seen: BlockWord, new: BlockWord) -> Result<(), BlockWord> {
+        let found = self.space.block(b);
+        if found != seen {
+            return Err(found);
+        }
+        self.space.set_block(b, new);
+        Ok(())
+    }
+
+    fn used(&mut self, b: u32) -> u64 {
+        self.space.used(b)
+    }
+
+    fn take_slot(&mut self, b: u32, slot: u32) -> u64 {
+        let found = self.space.used(b);
+        self.space.set_used(b, found | (1 << slot));
+        found
     }
 }

@@ -28,7 +28,8 @@ use Rattle.sg_copy.specs.Area.{Area, IsYoung, class_of, Traces}
 use Rattle.sg_words.specs.Lists.{In, has}
 use Rattle.sg_words.specs.Objects.{size_of}
 use Rattle.sg_copy.specs.Image.{IsImage}
-use Rattle.sg_copy.specs.Copying.{area_of, IsStill, fields_of, fields_of_all, area_still}
+use Rattle.sg_copy.specs.Copying.{area_of, fields_of, fields_of_all, area_still}
+use Rattle.sg_space.specs.Changes.{IsStill}
 use Rattle.sg_words.proofs.Numbers.{word_at-byte_at, is_address}
 use Rattle.sg_words.proofs.Members.{in-flat, in-left, in-right, out, in-cases, contains_in, in_contains, in_map, map_in}
 use Rattle.sg_words.proofs.Objects.{placed-in, slots-are}

@@ -25,7 +25,8 @@ use Rattle.sg_words.specs.Lists.{In, has}
 use Rattle.sg_words.specs.Objects.{strong_slots, size_of, sent, Placed}
 use Rattle.sg_nursery.specs.Parts.{HasTagged}
 use Rattle.sg_copy.specs.Order.{Fits}
-use Rattle.sg_copy.specs.Copying.{area_of, IsStill, CanCopyFrom, HasCopiedTo, fields_of_all}
+use Rattle.sg_copy.specs.Copying.{area_of, CanCopyFrom, HasCopiedTo, fields_of_all}
+use Rattle.sg_space.specs.Changes.{IsStill}
 
 -- these are the first words of exactly the pinned objects
 pub record ArePins (g : Graph) (b : Book) (ambiguous pins : List ℕ) : Type 0 where

@@ -14,7 +14,8 @@ use Rattle.sg_pins.specs.Pins.{ArePinned}
 use Rattle.sg_words.specs.Pieces.{fronts_of, ends_of}
 use Rattle.sg_graph.specs.declared.reports.MinorReport.{MinorReport}
 use Rattle.sg_minor.specs.Holding.{HoldsHeap}
-use Rattle.sg_copy.specs.Copying.{area_of, IsStill, HasCopiedTo, fields_of_all}
+use Rattle.sg_copy.specs.Copying.{area_of, HasCopiedTo, fields_of_all}
+use Rattle.sg_space.specs.Changes.{IsStill}
 use Rattle.sg_minor.specs.Joined.{AreSeeds, slots_of_name, holds_young}
 use Rattle.sg_nursery.specs.Parts.{HasTagged, AreKept, AreCleaned}
 use Rattle.sg_nursery.specs.Pieces.{ArePieces}

@@ -4,7 +4,7 @@ use Rattle.std.specs.List.{Contains}
 use Rattle.std.proofs.lemmas.Bool.{le-leb, lt-leb, lt-ltb, le-ltb, and_left, and_right, and_from, cases_lt}
 use Rattle.sg_words.specs.Tags.{plain_word}
 use Rattle.sg_space.specs.declared.objects.Object.{Object}
-use Rattle.sg_copy.specs.Copying.{Stores}
+use Rattle.sg_space.specs.Changes.{Stores}
 use Rattle.sg_nursery.specs.Pieces.{first_word, word_behind}
 use Rattle.sg_nursery.specs.Parts.{IsStaying, AreCleaned, blank}
 

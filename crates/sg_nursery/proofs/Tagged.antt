@@ -6,7 +6,7 @@ use Rattle.std.proofs.lemmas.List.{get_or-take, take_more, map_push, get_or_defa
 use Rattle.sg_words.specs.Address.{byte_at, word_at}
 use Rattle.sg_space.specs.Space.{Contents, IsContents}
 use Rattle.sg_words.specs.Lists.{In, has}
-use Rattle.sg_copy.specs.Copying.{IsStill, Stores}
+use Rattle.sg_space.specs.Changes.{IsStill, Stores}
 use Rattle.sg_words.proofs.Members.{out, not-in, in-before, in-last, last-cases, map_in, contains_in}
 use Rattle.sg_nursery.specs.Parts.{HasTagged}
 use Rattle.sg_words.proofs.Sorted.{sorted_far}

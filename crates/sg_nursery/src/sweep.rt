@@ -4,7 +4,7 @@ ghost use Rattle.sg_words.specs.Address.{byte_at, word_at};
 ghost use Rattle.sg_words.specs.Sections.{nursery_base, old_base};
 ghost use Rattle.sg_space.specs.Space.{IsContents};
 ghost use Rattle.sg_space.specs.Standing.{word};
-ghost use Rattle.sg_copy.specs.Copying.{IsStill};
+ghost use Rattle.sg_space.specs.Changes.{IsStill};
 ghost use Rattle.sg_nursery.specs.Pieces.{first_word, word_behind};
 ghost use Rattle.sg_nursery.specs.Parts.{AreRounded, AreStaying, AreKept, AreCleaned, blank, IsRounded, IsStaying, WentTo};
 

@@ -6,7 +6,7 @@ ghost use Rattle.sg_words.specs.Tags.{plain_word};
 ghost use Rattle.sg_words.specs.Sections.{IsInSection};
 ghost use Rattle.sg_space.specs.Space.{IsContents};
 ghost use Rattle.sg_space.specs.Standing.{word};
-ghost use Rattle.sg_copy.specs.Copying.{IsStill, Stores};
+ghost use Rattle.sg_space.specs.Changes.{IsStill, Stores};
 ghost use Rattle.sg_nursery.specs.Parts.{HasTagged, ArePlain};
 
 use sg_space::Space;

@@ -1,15 +1,16 @@
 -- A space stays sound where a fragment's next word moves up, and where a new object gets its header on words that no object
 -- has and no fragment gives away.
-use Rattle.std.proofs.Common.{◌≡◌, ◌≢◌, ℕ, ◌+◌, ◌%◌, ◌<◌, ◌≤◌, ◌⊎◌, inl, inr, length, Option, Some, None, refl, sym, ◌∙◌, subst, arith, slice_get, slice_index, slice_set}
+use Rattle.std.proofs.Common.{◌≡◌, ◌≢◌, ℕ, ◌+◌, ◌%◌, ◌<◌, ◌≤◌, ◌⊎◌, inl, inr, List, length, Option, Some, None, refl, sym, ◌∙◌, subst, arith, slice_get, slice_index, slice_set}
 use Rattle.std.proofs.lemmas.Bool.{cases_lt, cases_eq}
 use Rattle.std.proofs.lemmas.List.{length-set, get_or-set_same, get_or-set_other}
 use Rattle.std.proofs.lemmas.Option.{none-some, same_Some}
 use Rattle.sg_words.specs.Address.{word_at}
 use Rattle.sg_words.specs.Tags.{plain_word}
 use Rattle.sg_desc.specs.declared.shapes.Shape.{Shape}
-use Rattle.sg_words.specs.Sections.{nursery_base, old_base, large_base}
+use Rattle.sg_words.specs.Sections.{nursery_base, old_base, globals_base}
 use Rattle.sg_space.specs.Space.{Contents}
-use Rattle.sg_space.specs.Standing.{word, size_at, IsObject, IsSoundBy}
+use Rattle.sg_space.specs.Standing.{word, size_at, IsObject, IsPlaced, IsGarbage, IsSoundBy}
+use Rattle.sg_space.proofs.Kept.{place_kept, block_kept, page_kept}
 
 -- the space with this next word
 abbrev pub advanced : Contents → ℕ → ℕ → Contents
@@ -39,9 +40,21 @@ module _ (s : Contents) (owner : ℕ → Option ℕ) (sound : IsSoundBy s owner)
     classes = sound.classes;
     owned = sound.owned;
     whole = sound.whole;
-    objects = λ h e. let o = sound.objects h e in record { class = o.class; shape = o.shape; shape_is = o.shape_is; tag = o.tag; size = o.size; small = o.small; inside = o.inside };
-    clear = sound.clear;
-    packed = sound.packed;
+    objects = λ h e. let o = sound.objects h e in record { class = o.class; shape = o.shape; shape_is = o.shape_is; tag = o.tag; size = o.size };
+    places = λ h e. place_kept s s.words (slice_set s.next f v) h refl (sound.places h e);
+    blocks = λ c l. block_kept s s.words (slice_set s.next f v) owner owner (λ h e. e) c (sound.blocks c l);
+    pages = λ j l. page_kept s s.words (slice_set s.next f v) owner owner (λ h e. e) (λ h e. refl) j (sound.pages j l);
+    clear = λ x e above below garbage. sound.clear x e above below (λ g. garbage (record {
+      block = g.block;
+      size = g.size;
+      slot = g.slot;
+      there = g.there;
+      owing = g.owing;
+      fits = g.fits;
+      unmarked = g.unmarked;
+      from = g.from;
+      to = g.to;
+    }));
     fragments = length-set s.next f v ∙ sound.fragments;
     ordered = λ j below. let n = next_at j below in let o = sound.ordered j below in (n.1, o.1, omega (arith, n.0, o.2));
     apart = λ i j less below. let n = next_at j below in let a = sound.apart i j less below in omega (arith, n.0, a);
@@ -134,18 +147,13 @@ module _ (s : Contents) (owner : ℕ → Option ℕ) (sound : IsSoundBy s owner)
   still x g e = outside_is x (elsewhere x g e) ∙ e
 
   new_object : IsObject (placed s h class shape.fields) h
-  new_object =
+  new_object = record { class = class; shape = shape; shape_is = shape_is; tag = tag_is; size = λ _. fields_is }
+
+  new_place : IsPlaced (placed s h class shape.fields) h
+  new_place =
       let small = room.small in
       let below = room.below in
-      record {
-        class = class;
-        shape = shape;
-        shape_is = shape_is;
-        tag = tag_is;
-        size = λ _. fields_is;
-        small = omega (arith, fields_is);
-        inside = inl (room.above, omega (arith, fields_is));
-      }
+      inl (record { above = room.above; within = omega (arith, fields_is); small = omega (arith, fields_is) })
 
   old_object : (g : ℕ) → owner g ≡ Some g → IsObject (placed s h class shape.fields) g
   old_object g e =
@@ -157,9 +165,11 @@ module _ (s : Contents) (owner : ℕ → Option ℕ) (sound : IsSoundBy s owner)
         shape_is = o.shape_is;
         tag = same_tag g e ∙ o.tag;
         size = λ v. size ∙ o.size v;
-        small = subst (λ n. n + 2 ≤ 64) (sym size) o.small;
-        inside = subst (λ n. ((nursery_base ≤ g) × (g + (n + 2) ≤ old_base s.layout)) ⊎ ((old_base s.layout ≤ g) × (g + (n + 2) ≤ large_base s.layout))) (sym size) o.inside;
       }
+
+  -- the words after it
+  abbrev words_after : List ℕ
+  words_after = slice_set (slice_set s.words (h + 1) shape.fields) h (plain_word class)
 
   -- the objects after it
   front_cases : (g : ℕ) → owner_with owner h (shape.fields + 2) g ≡ Some g → (h ≡ g) ⊎ (owner g ≡ Some g)
@@ -187,17 +197,20 @@ module _ (s : Contents) (owner : ℕ → Option ℕ) (sound : IsSoundBy s owner)
     | inr before ↦ let size = same_fields g before in still x g (sound.whole g x before above (omega (arith, size)))
   ]
 
-  placed_clear : (x : ℕ) → owner_with owner h (shape.fields + 2) x ≡ None → nursery_base ≤ x → x < large_base s.layout → word (placed s h class shape.fields) x ≡ 0
-  placed_clear x e above below = elim (cases x) [
+  placed_clear : (x : ℕ) → owner_with owner h (shape.fields + 2) x ≡ None → nursery_base ≤ x → x < globals_base s.layout → (IsGarbage (placed s h class shape.fields) x → ⊥) → word (placed s h class shape.fields) x ≡ 0
+  placed_clear x e above below garbage = elim (cases x) [
     | inl inside ↦ absurd (none-some h (sym e ∙ inside_is x inside.0 inside.1))
-    | inr out ↦ other_is x (grind (arith, out)) (grind (arith, out)) ∙ sound.clear x (sym (outside_is x out) ∙ e) above below
-  ]
-
-  placed_packed : (g : ℕ) → owner_with owner h (shape.fields + 2) g ≡ Some g → old_base s.layout < g →
-      (p : ℕ) × (owner_with owner h (shape.fields + 2) p ≡ Some p) × (old_base s.layout ≤ p) × (p + size_at (placed s h class shape.fields) p ≡ g)
-  placed_packed g e old = elim (front_cases g e) [
-    | inl same ↦ let below = room.below in absurd (omega arith)
-    | inr before ↦ let p = sound.packed g before old in let size = same_fields p.0 p.1 in (p.0, still p.0 p.0 p.1, p.2, subst (λ n. p.0 + (n + 2) ≡ g) (sym size) p.3)
+    | inr out ↦ other_is x (grind (arith, out)) (grind (arith, out)) ∙ sound.clear x (sym (outside_is x out) ∙ e) above below (λ g. garbage (record {
+      block = g.block;
+      size = g.size;
+      slot = g.slot;
+      there = g.there;
+      owing = g.owing;
+      fits = g.fits;
+      unmarked = g.unmarked;
+      from = g.from;
+      to = g.to;
+    }))
   ]
 
   pub placed_is_sound : IsSoundBy (placed s h class shape.fields) (owner_with owner h (shape.fields + 2))
@@ -210,8 +223,13 @@ module _ (s : Contents) (owner : ℕ → Option ℕ) (sound : IsSoundBy s owner)
       | inl same ↦ subst (λ z. IsObject (placed s h class shape.fields) z) same new_object
       | inr before ↦ old_object g before
     ];
+    places = λ g e. elim (front_cases g e) [
+      | inl same ↦ subst (λ z. IsPlaced (placed s h class shape.fields) z) same new_place
+      | inr before ↦ place_kept s words_after s.next g (same_fields g before) (sound.places g before)
+    ];
+    blocks = λ c l. block_kept s words_after s.next owner (owner_with owner h (shape.fields + 2)) (λ g e. still g g e) c (sound.blocks c l);
+    pages = λ j l. page_kept s words_after s.next owner (owner_with owner h (shape.fields + 2)) (λ g e. still g g e) (λ g e. same_fields g e) j (sound.pages j l);
     clear = placed_clear;
-    packed = placed_packed;
     fragments = sound.fragments;
     ordered = sound.ordered;
     apart = sound.apart;

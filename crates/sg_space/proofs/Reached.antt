@@ -5,9 +5,10 @@ use Rattle.std.proofs.lemmas.Bool.{cases_lt}
 use Rattle.std.proofs.lemmas.Option.{none-some, same_Some}
 use Rattle.sg_words.specs.Address.{word_at}
 use Rattle.sg_space.specs.declared.objects.Object.{Object}
-use Rattle.sg_words.specs.Sections.{nursery_base, old_base, large_base}
+use Rattle.sg_words.specs.Sections.{nursery_base, old_base, globals_base}
 use Rattle.sg_space.specs.Space.{Contents}
-use Rattle.sg_space.specs.Standing.{word, size_at, IsObject, IsSoundBy, IsSound, IsClearAt, IsFree, AreFree, IsNoFront, TellsAt, HoldsWord, HasByte}
+use Rattle.sg_space.proofs.Slots.{place_inside, young_place, none_outside}
+use Rattle.sg_space.specs.Standing.{word, size_at, IsSoundBy, IsSound, IsClearAt, IsFree, AreFree, IsNoFront, TellsAt, HoldsWord, HasByte}
 
 -- a range that has x, and doesn't end above x if it begins below x, begins at x
 at_front : (x h n : ℕ) → h ≤ x → x < h + n → (h < x → h + n ≤ x) → h ≡ x
@@ -29,19 +30,16 @@ module _ (s : Contents) (owner : ℕ → Option ℕ) (sound : IsSoundBy s owner)
   free_where_zero z None e = e
   free_where_zero z (Some h) e = absurd (front_has_tag (owner_is_front h e) z)
 
-  front_where_tag : word s x ≢ 0 → nursery_base ≤ x → x < large_base s.layout → (o : Option ℕ) → owner x ≡ o → owner x ≡ Some x
-  front_where_tag n above below None e = absurd (n (sound.clear x e above below))
+  front_where_tag : word s x ≢ 0 → nursery_base ≤ x → x < old_base s.layout → (o : Option ℕ) → owner x ≡ o → owner x ≡ Some x
+  front_where_tag n above below None e = absurd (n (sound.clear x e above (omega arith) (λ g. let from = g.from in absurd (omega arith))))
   front_where_tag n above below (Some h) e = owner_is_front h e
 
 pub zero_is_free : (s : Contents) (x : ℕ) → IsClearAt s x → word s x ≡ 0 → IsFree s x
 zero_is_free s x clear z = record { none = λ owner sound. free_where_zero s owner sound x clear z (owner x) refl }
 
-pub tag_begins : (s : Contents) (x : ℕ) → IsClearAt s x → word s x ≢ 0 → nursery_base ≤ x → x < large_base s.layout →
+pub tag_begins : (s : Contents) (x : ℕ) → IsClearAt s x → word s x ≢ 0 → nursery_base ≤ x → x < old_base s.layout →
     (owner : ℕ → Option ℕ) → IsSoundBy s owner → owner x ≡ Some x
 tag_begins s x clear n above below owner sound = front_where_tag s owner sound x clear n above below (owner x) refl
-
-pub front_is_object : (s : Contents) (x : ℕ) → IsSound s → ((owner : ℕ → Option ℕ) → IsSoundBy s owner → owner x ≡ Some x) → IsObject s x
-front_is_object s x is begins = is.1.objects x (begins is.0 is.1)
 
 -- two objects that share a word are one
 module _ (s : Contents) (owner : ℕ → Option ℕ) (sound : IsSoundBy s owner) where
@@ -77,54 +75,26 @@ clear_step s x o clear at = record {
       (inside_is_front s owner sound x h (at.begins owner sound) e) (λ same. ap (size_at s) same) below;
 }
 
--- the sections' fronts
+-- the nursery's front
 pub clear_nursery : (s : Contents) → IsClearAt s nursery_base
 clear_nursery s = record {
-  ends = λ owner sound h e below.
-      let object = sound.objects h e in
-      let inside = object.inside in
-      absurd (omega (arith, inside));
+  ends = λ owner sound h e below. let i = place_inside s h (sound.places h e) in let above = i.above in absurd (omega arith);
 }
 
-pub clear_old : (s : Contents) → IsClearAt s (old_base s.layout)
-clear_old s = record {
-  ends = λ owner sound h e below.
-      let object = sound.objects h e in
-      let inside = object.inside in
-      omega (arith, inside);
-}
-
--- how far the object that begins at x reaches
+-- how far the object that begins at the word x of the nursery reaches
 pub record HasSizes (s : Contents) (x : ℕ) (o : Object) : Type 0 where
   pub least : 2 ≤ o.words
-  pub most : o.words ≤ 64
-  pub young : x < old_base s.layout → x + o.words ≤ old_base s.layout
-  pub section : x + o.words ≤ large_base s.layout
+  pub within : x + o.words ≤ old_base s.layout
 
-pub sizes_of : (s : Contents) (x : ℕ) (o : Object) → IsSound s → TellsAt s x o → HasSizes s x o
-sizes_of s x o is at =
-    let object = front_is_object s x is at.begins in
-    let inside = object.inside in
-    let small = object.small in
+pub sizes_of : (s : Contents) (x : ℕ) (o : Object) → IsSound s → TellsAt s x o → x < old_base s.layout → HasSizes s x o
+sizes_of s x o is at below =
+    let place = young_place s is.0 is.1 x x (at.begins is.0 is.1) below in
+    let within = place.within in
     let size = at.told.words in
-    record {
-      least = omega (arith, size);
-      most = omega (arith, size, small);
-      young = λ below. omega (arith, size, inside);
-      section = omega (arith, size, inside);
-    }
+    record { least = omega arith; within = omega arith }
 
 -- what is out of the sections of objects has no owner
-module _ (s : Contents) (owner : ℕ → Option ℕ) (sound : IsSoundBy s owner) (x : ℕ) where
-  none_outside : (x < nursery_base) ⊎ (large_base s.layout ≤ x) → (o : Option ℕ) → owner x ≡ o → owner x ≡ None
-  none_outside out None e = e
-  none_outside out (Some h) e =
-      let o = sound.owned x h e in
-      let object = sound.objects h o.2 in
-      let inside = object.inside in
-      absurd (omega (arith, inside, out, o.0, o.1))
-
-pub free_outside : (s : Contents) (x : ℕ) → (x < nursery_base) ⊎ (large_base s.layout ≤ x) → IsFree s x
+pub free_outside : (s : Contents) (x : ℕ) → (x < nursery_base) ⊎ (globals_base s.layout ≤ x) → IsFree s x
 free_outside s x out = record { none = λ owner sound. none_outside s owner sound x out (owner x) refl }
 
 -- a search for the word y that has come to the word x: the object that has y is ahead

@@ -1,2 +1,5 @@
 pub mod Space
 pub mod Standing
+pub mod Changes
+pub mod Marks
+pub mod Inside

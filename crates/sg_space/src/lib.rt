@@ -1,7 +1,9 @@
 //! The simulated address space: a nursery, a major heap, a large space and the rows behind it, over 64-bit words.
 #![tactic(auto)]
 
+mod blocks;
 mod objects;
+mod rows;
 mod space;
 mod walks;
 

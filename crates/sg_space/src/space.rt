@@ -1,55 +1,58 @@
 use sg_desc::Shape;
-use sg_words::{Addr, FIRST_WORD, Layout, Piece};
+use sg_words::{Addr, BlockWord, FIRST_WORD, Layout, Piece};
 use std::alloc::{AllocError, Global};
 use std::marker::Model;
 
 /// The most fragments that a space has room for.
 const FRAGMENTS: usize = 2048;
 
+/// The most registrations that a space has room for.
+const REGISTRATIONS: usize = 1024;
+
 /// The words of a simulated address space, and what stands beside them: the layout, the shapes of the classes, the
-/// fragments of the nursery, and the word that asks the mutators to stop.
+/// fragments of the nursery, the word that asks the mutators to stop, the words, occupancies and marks of the blocks, the cards,
+/// the words of the pages, the head and the length of the ready row, the registrations and the pairs.
 #[derive(Drop)]
 pub struct Space {
-    layout: Layout,
-    shapes: Vec<Shape>,
-    words: Vec<u64>,
-    next: Vec<u64>,
-    ends: Vec<u64>,
-    stop: u64,
+    pub(crate) layout: Layout,
+    pub(crate) shapes: Vec<Shape>,
+    pub(crate) words: Vec<u64>,
+    pub(crate) next: Vec<u64>,
+    pub(crate) ends: Vec<u64>,
+    pub(crate) stop: u64,
+    pub(crate) blocks: Vec<BlockWord>,
+    pub(crate) used: Vec<u64>,
+    pub(crate) marks: Vec<u64>,
+    pub(crate) cards: Vec<u8>,
+    // Each card below the first and from the second on is clean.
+    pub(crate) dirty_from: u32,
+    pub(crate) dirty_to: u32,
+    pub(crate) pages: Vec<u64>,
+    pub(crate) head: u64,
+    pub(crate) made: u32,
+    pub(crate) registered: Vec<Addr>,
+    pub(crate) pairs: Vec<Addr>,
 }
 
 impl Model for Space {
-    ghost use Rattle.std.specs.Prelude.{◌≤◌, vec_capacity};
-    ghost use Rattle.sg_space.specs.Space.{Contents, IsContents};
+    ghost use Rattle.sg_space.specs.Space.{Contents};
 
     ghost Value = { Contents };
 
-    ghost view = { λ s. record {
-      layout = s.layout;
-      shapes = s.shapes.items;
-      words = s.words.items;
-      next = s.next.items;
-      ends = s.ends.items;
-      stop = s.stop;
-    } };
+    ghost use Rattle.sg_space.specs.Inside.{contents_of, IsSpace};
 
-    ghost invariant = { λ s. IsContents (record {
-      layout = s.layout;
-      shapes = s.shapes.items;
-      words = s.words.items;
-      next = s.next.items;
-      ends = s.ends.items;
-      stop = s.stop;
-    }) × (2048 ≤ vec_capacity s.next) × (2048 ≤ vec_capacity s.ends) };
+    ghost view = { contents_of };
+
+    ghost invariant = { IsSpace };
 }
 
 impl Space {
     ghost use Rattle.std.specs.Prelude.{◌≡◌, ◌≢◌, ◌+◌, ◌^◌, ◌<◌, ◌≤◌, ◌↔◌, IfOk, if◌then◌else◌, true, length, slice_get, slice_index, slice_set, Some, ℕ};
     ghost use Rattle.sg_words.specs.Address.{word_at};
-    ghost use Rattle.sg_words.specs.Sections.{old_base, words_end, IsLayout, IsInSection, IsYoung};
+    ghost use Rattle.sg_words.specs.Sections.{words_end, IsLayout, IsInSection};
     ghost use Rattle.sg_space.specs.Space.{Contents, AreShapes, IsContents, clear_space};
     ghost use Rattle.sg_words.specs.Pieces.{fronts_of, ends_of};
-    ghost use Rattle.sg_space.specs.Standing.{IsSound, IsFree, AreFree, word};
+    ghost use Rattle.sg_space.specs.Standing.{IsSound, word};
 
     /// A space with no object: each word is 0, and the nursery is one fragment. Takes all the memory that the space ever
     /// needs, and time linear in its words.
@@ -64,6 +67,8 @@ impl Space {
         let mut ends = Vec::with_capacity(alloc, FRAGMENTS)?;
         next.push(8 * FIRST_WORD)?;
         ends.push(layout.old_base())?;
+        let blocks = layout.blocks as usize;
+        let pages = layout.pages as usize;
         Ok(Space {
             layout,
             shapes: shapes.to_vec(alloc)?,
@@ -71,6 +76,17 @@ impl Space {
             next,
             ends,
             stop: 0,
+            blocks: vec![in alloc; BlockWord::Free; blocks]?,
+            used: vec![in alloc; 0; blocks]?,
+            marks: vec![in alloc; 0; blocks]?,
+            cards: vec![in alloc; 0; 4 * blocks + 2 * pages]?,
+            dirty_from: 0,
+            dirty_to: 0,
+            pages: vec![in alloc; 0; pages]?,
+            head: 0,
+            made: 0,
+            registered: Vec::with_capacity(alloc, REGISTRATIONS)?,
+            pairs: Vec::new(alloc),
         })
     }
 
@@ -90,7 +106,15 @@ impl Space {
         self.shapes[class as usize]
     }
 
+    /// The shapes of the classes.
+    pub fn shapes(&self) -> &[Shape]
+        ensures { result.now ≡ self.now.shapes }
+    {
+        self.shapes.as_slice()
+    }
+
     /// The word at this byte address.
+    #[inline]
     pub fn read(&self, a: Addr) -> u64
         requires { IsInSection self.now.layout (word_at a) }
         ensures value { result ≡ word self.now (word_at a) }
@@ -99,49 +123,8 @@ impl Space {
         self.words[a.word() as usize]
     }
 
-    /// The word with this number.
-    pub(crate) fn word(&self, number: u64) -> u64
-        requires { number < words_end self.now.layout }
-        ensures { result ≡ word self.now number }
-    {
-        self.words[number as usize]
-    }
-
-    /// How many of the fragments from `from` on, in order, end at the word `x` or below it, together with those before `from`.
-    pub(crate) fn passed(&self, from: usize, x: u64) -> usize
-        requires number { x < 2 ^ 40 }
-        requires from { from ≤ length self.now.ends }
-        ensures { result ≤ length self.now.ends }
-    {
-        for f in from..self.ends.len() {
-            if 8 * x < self.ends[f] {
-                return f;
-            }
-        }
-        self.ends.len()
-    }
-
-    /// Where a walk goes on behind the word `x`, which no object has: behind the rest of this fragment where the word is in it,
-    /// and else at the next word.
-    pub(crate) fn free_end(&self, fragment: usize, x: u64) -> u64
-        requires sound { IsSound self.now }
-        requires free { IsFree self.now x }
-        requires section { IsYoung self.now.layout x }
-        ensures behind { x < result }
-        ensures within { result ≤ old_base self.now.layout }
-        ensures free { AreFree self.now x result }
-    {
-        if fragment < self.ends.len()
-            && self.next[fragment] <= 8 * x
-            && 8 * x < self.ends[fragment]
-        {
-            self.ends[fragment] / 8
-        } else {
-            x + 1
-        }
-    }
-
     /// The word at this byte address becomes `w`.
+    #[inline]
     pub fn write(&mut self, a: Addr, w: u64)
         requires { IsInSection self.old.layout (word_at a) }
         ensures { self.new ≡ record self.old { words = slice_set self.old.words (word_at a) w } }

@@ -1,12 +1,14 @@
-ghost use Rattle.std.specs.Prelude.{◌≡◌, ◌+◌, ◌<◌, ◌≤◌, IfOk, IfSome, MatchOption, Option, ℕ};
+ghost use Rattle.std.specs.Prelude.{◌≡◌, ◌+◌, ◌<◌, ◌≤◌, ◌^◌, IfOk, IfSome, MatchOption, Option, ℕ, length};
 ghost use Rattle.sg_words.specs.Address.{word_at};
-ghost use Rattle.sg_words.specs.Sections.{nursery_base, old_base, large_base};
+ghost use Rattle.sg_words.specs.Sections.{nursery_base, old_base, large_base, globals_base, words_end, IsYoung, IsOld};
+ghost use Rattle.sg_words.specs.Blocks.{IsOf, is_taken, block_base};
+ghost use Rattle.std.specs.Int.{bit_at};
 ghost use Rattle.sg_space.specs.Space.{IsContents};
-ghost use Rattle.sg_space.specs.Standing.{IsObject, IsSoundBy, IsSound, IsToldOf, TellsYoung, IsClearAt, IsFree, IsNoFront, TellsAt, HoldsWord, HasByte};
+ghost use Rattle.sg_space.specs.Standing.{word, size_at, block_in, used_in, marks_in, page_base, IsSoundBy, IsSound, IsToldOf, TellsYoung, IsClearAt, IsFree, AreFree, IsFront, IsNoFront, TellsAt, HoldsWord, HasByte};
 
 use crate::objects::Object;
 use crate::space::Space;
-use sg_words::{Addr, FIRST_WORD, List, plain_class};
+use sg_words::{Addr, BLOCK_WORDS, BlockWord, FIRST_WORD, List, PAGE_WORDS};
 use std::alloc::{AllocError, Global};
 
 /// For how many objects a walk takes room at first.
@@ -39,8 +41,8 @@ impl Space {
         Ok(List::from_vec(told))
     }
 
-    /// The standing object that begins at this byte address; `None` exactly where none does. Takes no memory. Linear in the
-    /// section that has the address.
+    /// The standing object that begins at this byte address; `None` exactly where none does. Takes no memory. Constant for an old or a large
+    /// object; linear in the nursery below a young one.
     pub fn object_at(&self, a: Addr) -> Option<Object>
         requires { IsSound self.now }
         ensures { MatchOption result (IsNoFront self.now (word_at a)) (TellsAt self.now (word_at a)) }
@@ -52,7 +54,8 @@ impl Space {
     }
 
     /// The byte address of the standing object that has the byte `v`, be it the object's first byte, its last one or one
-    /// between; `None` exactly where no object has it. Takes no memory. Linear in the section that has the byte.
+    /// between; `None` exactly where no object has it. Takes no memory. Constant for a byte of the blocks or of the pages; linear in the
+    /// nursery below the byte for one of the nursery.
     pub fn containing(&self, v: u64) -> Option<Addr>
         requires { IsSound self.now }
         ensures { MatchOption result (IsFree self.now (word_at v)) (HasByte self.now v) }
@@ -70,28 +73,27 @@ impl Space {
     {
         let layout = self.layout();
         let word = v / 8;
-        if word < FIRST_WORD || layout.large_word() <= word {
-            return None;
-        }
-        let from = if word < layout.old_word() {
-            FIRST_WORD
+        if word < FIRST_WORD {
+            None
+        } else if word < layout.old_word() {
+            self.find(word)
+        } else if word < layout.large_word() {
+            self.in_blocks(word)
+        } else if word < layout.globals_word() {
+            self.in_pages(word)
         } else {
-            layout.old_word()
-        };
-        self.find(from, word)
+            None
+        }
     }
 
-    /// The standing object that has the word `word`; `None` exactly where none has it. The walk begins at the word `from`.
-    fn find(&self, from: u64, word: u64) -> Option<Object>
+    /// The standing object of the nursery that has the word `word`; `None` exactly where none has it.
+    fn find(&self, word: u64) -> Option<Object>
         requires sound { IsSound self.now }
         requires contents { IsContents self.now }
-        requires from { nursery_base ≤ from }
-        requires clear { IsClearAt self.now from }
-        requires ahead { from ≤ word }
-        requires section { word < large_base self.now.layout }
+        requires young { IsYoung self.now.layout word }
         ensures { MatchOption result (IsFree self.now word) (HoldsWord self.now word) }
     {
-        let mut x = from;
+        let mut x = FIRST_WORD;
         while x <= word {
             match self.object_from(x) {
                 None => x += 1,
@@ -107,17 +109,14 @@ impl Space {
         None
     }
 
-    /// The standing object that begins at the word `x`; `None` where no object has that word.
+    /// The standing object that begins at the word `x` of the nursery; `None` where no object has that word.
     fn object_from(&self, x: u64) -> Option<Object>
         requires sound { IsSound self.now }
         requires contents { IsContents self.now }
         requires clear { IsClearAt self.now x }
-        requires above { nursery_base ≤ x }
-        requires below { x < large_base self.now.layout }
+        requires young { IsYoung self.now.layout x }
         ensures told { MatchOption result (IsFree self.now x) (TellsAt self.now x) }
-        ensures small { IfSome result (λ object. (2 ≤ object.words) × (object.words ≤ 64)) }
-        ensures young { IfSome result (λ object. x < old_base self.now.layout → x + object.words ≤ old_base self.now.layout) }
-        ensures section { IfSome result (λ object. x + object.words ≤ large_base self.now.layout) }
+        ensures small { IfSome result (λ object. (2 ≤ object.words) × (x + object.words ≤ old_base self.now.layout)) }
     {
         if self.word(x) == 0 {
             None
@@ -126,11 +125,82 @@ impl Space {
         }
     }
 
+    /// The standing object that has the word `x` of the blocks; `None` exactly where none has it.
+    fn in_blocks(&self, x: u64) -> Option<Object>
+        requires sound { IsSound self.now }
+        requires contents { IsContents self.now }
+        requires old { IsOld self.now.layout x }
+        ensures { MatchOption result (IsFree self.now x) (HoldsWord self.now x) }
+    {
+        let block = ((x - self.layout().old_word()) / BLOCK_WORDS) as u32;
+        match self.block(block) {
+            BlockWord::Free => None,
+            BlockWord::Swept { size } => self.in_slot(block, size, self.used(block), x),
+            BlockWord::Need { size } => self.in_slot(block, size, self.marks(block), x),
+            BlockWord::Sweeping { size } => self.in_slot(block, size, self.marks(block), x),
+        }
+    }
+
+    /// The standing object that has the word `x` of this block, whose slots have `size` words, and the bits of whose slots are those of
+    /// `mask`; `None` exactly where none has it.
+    fn in_slot(&self, block: u32, size: u32, mask: u64, x: u64) -> Option<Object>
+        requires sound { IsSound self.now }
+        requires contents { IsContents self.now }
+        requires there { block < self.now.layout.blocks }
+        requires sized { IsOf (block_in self.now block) size }
+        requires mask { (i : ℕ) → bit_at mask i ≡ is_taken (block_in self.now block) (used_in self.now block) (marks_in self.now block) i }
+        requires from { block_base self.now.layout block ≤ x }
+        requires to { x < block_base self.now.layout block + 256 }
+        ensures { MatchOption result (IsFree self.now x) (HoldsWord self.now x) }
+    {
+        let base = self.layout().old_word() + BLOCK_WORDS * block as u64;
+        let slot = (x - base) / size as u64;
+        if (mask >> slot) & 1 == 0 {
+            None
+        } else {
+            self.reaching(base + size as u64 * slot, x)
+        }
+    }
+
+    /// The standing object that has the word `x` of the pages; `None` exactly where none has it.
+    fn in_pages(&self, x: u64) -> Option<Object>
+        requires sound { IsSound self.now }
+        requires contents { IsContents self.now }
+        requires from { large_base self.now.layout ≤ x }
+        requires to { x < globals_base self.now.layout }
+        ensures { MatchOption result (IsFree self.now x) (HoldsWord self.now x) }
+    {
+        let base = self.layout().large_word();
+        let first = self.page(((x - base) / PAGE_WORDS) as u32);
+        if first == 0 {
+            None
+        } else {
+            self.reaching(base + PAGE_WORDS * (first - 1), x)
+        }
+    }
+
+    /// The object whose first word is `h`, where it has the word `x`; `None` where it ends at that word or below.
+    fn reaching(&self, h: u64, x: u64) -> Option<Object>
+        requires sound { IsSound self.now }
+        requires contents { IsContents self.now }
+        requires front { IsFront self.now h }
+        requires above { h ≤ x }
+        ensures { MatchOption result (h + size_at self.now h ≤ x) (HoldsWord self.now x) }
+    {
+        let object = self.read_object(h);
+        if x - h < object.words as u64 {
+            Some(object)
+        } else {
+            None
+        }
+    }
+
     /// The object whose first word is `x`.
     fn read_object(&self, x: u64) -> Object
+        requires sound { IsSound self.now }
         requires contents { IsContents self.now }
-        requires object { IsObject self.now x }
-        ensures { IsToldOf self.now x result }
+        requires front { IsFront self.now x }
+        ensures { TellsAt self.now x result }
     {
         let fields = self.word(x + 1) as u32;
         Object {
@@ -138,6 +208,48 @@ impl Space {
             class: (self.word(x) / 8 - 1) as u16,
             fields,
             words: fields + 2,
+        }
+    }
+
+    /// The word with this number.
+    fn word(&self, number: u64) -> u64
+        requires { number < words_end self.now.layout }
+        ensures { result ≡ word self.now number }
+    {
+        self.words[number as usize]
+    }
+
+    /// How many of the fragments from `from` on, in order, end at the word `x` or below it, together with those before `from`.
+    fn passed(&self, from: usize, x: u64) -> usize
+        requires number { x < 2 ^ 40 }
+        requires from { from ≤ length self.now.ends }
+        ensures { result ≤ length self.now.ends }
+    {
+        for f in from..self.ends.len() {
+            if 8 * x < self.ends[f] {
+                return f;
+            }
+        }
+        self.ends.len()
+    }
+
+    /// Where a walk goes on behind the word `x`, which no object has: behind the rest of this fragment where the word is in it,
+    /// and else at the next word.
+    fn free_end(&self, fragment: usize, x: u64) -> u64
+        requires sound { IsSound self.now }
+        requires free { IsFree self.now x }
+        requires section { IsYoung self.now.layout x }
+        ensures behind { x < result }
+        ensures within { result ≤ old_base self.now.layout }
+        ensures free { AreFree self.now x result }
+    {
+        if fragment < self.ends.len()
+            && self.next[fragment] <= 8 * x
+            && 8 * x < self.ends[fragment]
+        {
+            self.ends[fragment] / 8
+        } else {
+            x + 1
         }
     }
 }

@@ -1,6 +1,7 @@
 use Rattle.sg_words.specs.Address.{word_at}
 use Rattle.sg_space.specs.Standing.{word}
-use Rattle.sg_copy.specs.Copying.{IsStill, HasCopied}
+use Rattle.sg_copy.specs.Copying.{HasCopied}
+use Rattle.sg_space.specs.Changes.{IsStill}
 use Rattle.sg_copy.proofs.copier.copy_words.Given as goal
 
 abbrev pub invariant-loop-j : goal.invariant-loop-j

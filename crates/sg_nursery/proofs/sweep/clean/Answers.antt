@@ -3,7 +3,7 @@ use Rattle.std.proofs.lemmas.List.{get_or_default}
 use Rattle.sg_words.specs.Sections.{old_base}
 use Rattle.sg_space.specs.Space.{Contents}
 use Rattle.sg_space.specs.Standing.{word}
-use Rattle.sg_copy.specs.Copying.{still_on, contents_still}
+use Rattle.sg_space.specs.Changes.{still_on, contents_still}
 use Rattle.sg_nursery.specs.Pieces.{first_word, word_behind}
 use Rattle.sg_nursery.specs.Parts.{blank}
 use Rattle.sg_nursery.proofs.Cleaning.{cleaned_next, cleaned_all}

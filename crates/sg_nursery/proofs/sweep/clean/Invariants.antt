@@ -3,7 +3,7 @@ use Rattle.sg_words.specs.Sections.{nursery_base, old_base}
 use Rattle.sg_space.specs.declared.objects.Object.{Object}
 use Rattle.sg_space.specs.Space.{IsContents}
 use Rattle.sg_space.specs.Standing.{word}
-use Rattle.sg_copy.specs.Copying.{IsStill}
+use Rattle.sg_space.specs.Changes.{IsStill}
 use Rattle.sg_nursery.specs.Pieces.{first_word}
 use Rattle.sg_nursery.specs.Parts.{AreCleaned, blank}
 use Rattle.sg_nursery.proofs.sweep.clean.Given as goal

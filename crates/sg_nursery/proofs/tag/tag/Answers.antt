@@ -1,7 +1,7 @@
 use Rattle.std.proofs.Common.{◌∙◌, sym}
 use Rattle.sg_words.specs.Address.{word_at}
 use Rattle.sg_space.specs.Standing.{word}
-use Rattle.sg_copy.specs.Copying.{still_on}
+use Rattle.sg_space.specs.Changes.{still_on}
 use Rattle.sg_nursery.proofs.Tagged.{pin_fresh, tagged_next}
 use Rattle.sg_nursery.proofs.tag.tag.Goals as goal
 

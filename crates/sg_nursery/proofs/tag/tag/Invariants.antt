@@ -1,7 +1,7 @@
 use Rattle.std.proofs.Common.{map, take}
 use Rattle.sg_words.specs.Address.{word_at}
 use Rattle.sg_space.specs.Standing.{word}
-use Rattle.sg_copy.specs.Copying.{IsStill}
+use Rattle.sg_space.specs.Changes.{IsStill}
 use Rattle.sg_nursery.specs.Parts.{HasTagged}
 use Rattle.sg_nursery.proofs.tag.tag.Given as goal
 

@@ -8,7 +8,8 @@ use Rattle.sg_space.specs.Standing.{word}
 use Rattle.sg_copy.specs.Round.{started, IsAfter}
 use Rattle.sg_copy.specs.Image.{IsImage}
 use Rattle.sg_copy.specs.Order.{IsInOrder}
-use Rattle.sg_copy.specs.Copying.{area_of, IsStill, still_on, area_still}
+use Rattle.sg_copy.specs.Copying.{area_of, area_still}
+use Rattle.sg_space.specs.Changes.{IsStill, still_on}
 use Rattle.sg_copy.proofs.Steps.{at_start}
 use Rattle.sg_copy.proofs.Ends.{at_end}
 use Rattle.sg_copy.proofs.Hand.{still_same}

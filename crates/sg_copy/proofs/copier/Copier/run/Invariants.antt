@@ -3,7 +3,8 @@ use Rattle.sg_words.specs.Address.{byte_at, word_at}
 use Rattle.sg_words.specs.Reach.{AreDistinct}
 use Rattle.sg_space.specs.Standing.{word}
 use Rattle.sg_copy.specs.Round.{Round, IsGoing}
-use Rattle.sg_copy.specs.Copying.{area_of, IsStill, IsFront, moved_to}
+use Rattle.sg_copy.specs.Copying.{area_of, IsFront, moved_to}
+use Rattle.sg_space.specs.Changes.{IsStill}
 use Rattle.sg_copy.proofs.Order.{IsQueued}
 use Rattle.sg_copy.proofs.copier.Copier.run.Given as goal
 

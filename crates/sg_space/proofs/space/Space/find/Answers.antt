@@ -1,12 +1,13 @@
 use Rattle.std.proofs.Common.{◌≤◌, arith}
-use Rattle.sg_space.proofs.Reached.{clear_skip, clear_step, ahead_first, ahead_skip, ahead_step, free_behind, holds_at}
+use Rattle.sg_words.specs.Sections.{nursery_base}
+use Rattle.sg_space.proofs.Reached.{clear_nursery, clear_skip, clear_step, ahead_first, ahead_skip, ahead_step, free_behind, holds_at}
 use Rattle.sg_space.proofs.space.Space.find.Goals as goal
 
 pub loop-x-init : goal.loop-x-init
 loop-x-init c = record {
-  clear = c.requires.clear;
-  ahead = ahead_first c.args.self.now c.args.word c.args.from c.requires.clear c.requires.ahead;
-  above = c.requires.from;
+  clear = clear_nursery c.args.self.now;
+  ahead = ahead_first c.args.self.now c.args.word nursery_base (clear_nursery c.args.self.now) c.requires.young.0;
+  above = omega arith;
 }
 
 pub loop-x-preserved-in-None : goal.loop-x-preserved-in-None

@@ -13,15 +13,28 @@ invariant_of-self c =
     let few = c.requires in
     let room = e.room in
     let room_of_ends = e.room_of_ends in
-    let next_room = inv.1 in
-    let ends_room = inv.2 in (
-      record {
-        layout = inv.0.layout;
-        shapes = inv.0.shapes;
-        words = inv.0.words;
+    let next_room = inv.room_next in
+    let ends_room = inv.room_ends in
+    let old = inv.contents in
+    record {
+      contents = record {
+        layout = old.layout;
+        shapes = old.shapes;
+        words = old.words;
         fragments = fronts ∙ same ∙ sym ends;
         few = omega arith;
-      },
-      omega arith,
-      omega arith,
-    )
+        blocks = old.blocks;
+        used = old.used;
+        marks = old.marks;
+        cards = old.cards;
+        bits = old.bits;
+        pages = old.pages;
+        made = old.made;
+        registered = old.registered;
+      };
+      room_next = omega arith;
+      room_ends = omega arith;
+      room_registered = inv.room_registered;
+      within = inv.within;
+      clean = inv.clean;
+    }

@@ -33,7 +33,7 @@ loop-x-preserved c =
       told = subst (λ items. HasTold s (c.loop-x.x + o.words) items) (sym c.in_ok-push-in-Some.ensures.items)
           (told_push s c.loop-x.x c.loop-x.told.items o c.loop-x.invariant.told c.in-Some.ensures.told (c.loop-x.invariant.above, before));
       above = omega arith;
-      below = subst (λ n. c.loop-x.x + o.words ≤ n) (sym end) (c.in-Some.ensures.young before);
+      below = subst (λ n. c.loop-x.x + o.words ≤ n) (sym end) c.in-Some.ensures.small.1;
       fragment = c.loop-x.invariant.fragment;
     }
 
