@@ -12,12 +12,12 @@ use Rattle.sg_words.specs.Words.{put}
 use Rattle.sg_desc.specs.Shapes.{has_field}
 use Rattle.sg_program.specs.declared.program.Program.{Program}
 use Rattle.sg_program.specs.declared.program.Statement.{Statement}
-use Rattle.sg_program.specs.declared.program.Statement.TheVariants.{Put, Get, PutD, GetD}
+use Rattle.sg_program.specs.declared.program.Statement.TheVariants.{Get, PutD, GetD}
 use Rattle.sg_program.specs.declared.answers.Answer.TheVariants.{Number, Fine, Field}
 use Rattle.sg_program.specs.Scripts.{kind_of}
 use Rattle.sg_program.specs.Tests.{Test, test_of}
 use Rattle.sg_rules.specs.Rules.{Constants, TestTag, TestLength, Access, Actor, Comes, IsLength, IsReference, IsInHeap, sections_of, object_in, within, over, cleared, reference_answer}
-use Rattle.sg_rules.specs.Rules.Comes.{loads_tag, loads_length, test_fails, put_stores, putd_stores, get_loads, getd_loads}
+use Rattle.sg_rules.specs.Rules.Comes.{loads_tag, loads_length, test_fails, putd_stores, get_loads, getd_loads}
 use Rattle.sg_rules.specs.Sane.{IsAccessing}
 use Rattle.sg_actor.specs.State.{Mutating, actor_of}
 use Rattle.sg_actor.specs.Turning.{tested}
@@ -94,9 +94,6 @@ field_at a t u held same e =
 
 -- the rule of each access
 module _ (p : Program) (lay : Constants) (a : Actor) (rest : List Statement) (s : Statement) where
-  pub put_comes : (r i v : ℕ) → s ≡ Put r i v → Comes p lay (within a rest (Access s)) (Store (Word (object_in a r + 2 + i)) (a.reg v)) true (over a rest a.reg Fine)
-  put_comes r i v is = subst (λ (u : Statement). Comes p lay (within a rest (Access u)) (Store (Word (object_in a r + 2 + i)) (a.reg v)) true (over a rest a.reg Fine)) (sym is) (put_stores a rest r i v)
-
   pub putd_comes : (r i v : ℕ) → s ≡ PutD r i v → Comes p lay (within a rest (Access s)) (Store (Word (object_in a r + 2 + i)) (a.reg v)) true (over a rest a.reg Fine)
   putd_comes r i v is = subst (λ (u : Statement). Comes p lay (within a rest (Access u)) (Store (Word (object_in a r + 2 + i)) (a.reg v)) true (over a rest a.reg Fine)) (sym is) (putd_stores a rest r i v)
 

@@ -7,7 +7,7 @@ use Rattle.sg_words.specs.declared.steps.Step.TheVariants.{Load, Lost}
 use Rattle.sg_program.specs.declared.program.Program.{Program}
 use Rattle.sg_program.specs.declared.program.Statement.TheVariants.{Get, GGet}
 use Rattle.sg_rules.specs.Rules.{Constants, Mid, TestTag, TestLength, Access, AccessGlobal, Look, Claim, HideLength, Actor, IsReference, IsLength, Comes}
-use Rattle.sg_rules.specs.Rules.Comes.{test_null, test_begins, loads_tag, loads_length, test_fails, put_stores, putd_stores, get_loads, getd_loads, global_begins, gput_stores, gget_loads, num_sets, drop_clears, move_sets, push_sets, pop_sets, hide_null, hide_begins, hide_fits, hide_misses, unhide_sets, same_tells, new_bumps, new_looks, look_finds, look_goes_on, minor_asks, asks, yields, claim_wins, claim_moves, claim_goes_on, stores_length, stores_tag}
+use Rattle.sg_rules.specs.Rules.Comes.{test_null, test_begins, loads_tag, loads_length, test_fails, put_stores, put_stores_old, marks_card, putd_stores, get_loads, getd_loads, global_begins, gput_stores, gget_loads, num_sets, drop_clears, move_sets, push_sets, pop_sets, hide_null, hide_begins, hide_fits, hide_misses, unhide_sets, same_tells, new_bumps, new_looks, look_finds, look_goes_on, minor_asks, asks, yields, claim_wins, claim_moves, claim_goes_on, stores_length, stores_tag}
 
 abbrev pub SawAt : Program → Constants → Mid → Step → Type 0
 SawAt p lay (TestTag s test) (Load place v) = (class : ℕ) × (class < length p.classes) × (v ≡ plain_word class)
@@ -25,7 +25,9 @@ saw_at p lay _ _ _ _ (test_begins a s rest test is some) = tt
 saw_at p lay _ _ _ _ (loads_tag a s rest test class there) = (class, there, refl)
 saw_at p lay _ _ _ _ (loads_length a s rest test class len l has) = l
 saw_at p lay _ _ _ _ (test_fails a s rest test class len l has) = l
-saw_at p lay _ _ _ _ (put_stores a rest r i s) = tt
+saw_at p lay _ _ _ _ (put_stores a rest r i s cardless) = tt
+saw_at p lay _ _ _ _ (put_stores_old a rest r i s has) = tt
+saw_at p lay _ _ _ _ (marks_card a rest s card) = tt
 saw_at p lay _ _ _ _ (putd_stores a rest r i s) = tt
 saw_at p lay _ _ _ _ (get_loads a rest d r i v is) = is
 saw_at p lay _ _ _ _ (getd_loads a rest d r i v) = tt

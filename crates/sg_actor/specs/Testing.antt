@@ -1,6 +1,8 @@
 -- The object test of a statement as the code sees it.
 use Rattle.std.specs.Prelude.{Bool, true, false, Option, Some, None}
 use Rattle.sg_desc.specs.Shapes.{Sort, Reference, Plain}
+use Rattle.sg_words.specs.declared.layout.Layout.{Layout}
+use Rattle.sg_program.specs.declared.program.Config.{Config}
 use Rattle.sg_program.specs.declared.program.Statement.{Statement}
 use Rattle.sg_program.specs.declared.program.Statement.TheVariants.{Num, Move, Unhide, Drop, Push, Pop, Same}
 use Rattle.sg_program.specs.Tests.{Test}
@@ -28,3 +30,7 @@ IsDirect (Push r) = Unit {0}
 IsDirect (Pop r) = Unit {0}
 IsDirect (Same r s) = Unit {0}
 IsDirect s = ⊥
+
+-- the sections that a program's settings make
+abbrev pub layout_of : Config → Layout
+layout_of config = record { nursery = config.nursery; blocks = config.blocks; pages = config.pages }

@@ -1,7 +1,9 @@
 // The statements that load or store a word: of an object, or a global.
-ghost use Rattle.std.specs.Prelude.{◌≡◌, ◌<◌, Some, length};
+ghost use Rattle.std.specs.Prelude.{◌≡◌, ◌+◌, ◌%◌, ◌<◌, Some, length};
+ghost use Rattle.sg_words.specs.Address.{word_at};
+ghost use Rattle.sg_program.specs.declared.program.Statement.TheVariants.{Put};
 ghost use Rattle.sg_program.specs.Tests.{test_of};
-ghost use Rattle.sg_rules.specs.Rules.{Constants, TestTag, Access, within, over, cleared, IsGlobal};
+ghost use Rattle.sg_rules.specs.Rules.{Constants, TestTag, Access, within, over, cleared, object_in, IsGlobal};
 ghost use Rattle.sg_rules.specs.Acting.{HasGoneOn};
 ghost use Rattle.sg_rules.specs.Resting.{IsRunnable};
 ghost use Rattle.sg_rules.specs.Sane.{MayBegin};
@@ -11,7 +13,7 @@ ghost use Rattle.sg_actor.specs.Testing.{as_test};
 ghost use Rattle.sg_actor.specs.Turning.{IsOnPort, HasBegun, HasRun, before_this, HasClassFor, IsBehindTurn, tested};
 
 use crate::mutator::Mutator;
-use crate::tools::{ObjectTest, global_at, has_field, reference, shape};
+use crate::tools::{ObjectTest, card_at, global_at, has_field, reference, shape};
 use sg_cells::{FragPort, WordPort};
 use sg_program::{Answer, Statement};
 use sg_words::plain_class;
@@ -98,10 +100,7 @@ impl<'a> Mutator<'a> {
         let _ = &self.program;
         let place = self.held(test.register) + 8 * (2 + test.field);
         match statement {
-            Statement::Put { s, .. } => {
-                port.store(place, self.held(s));
-                self.say(Answer::Fine);
-            }
+            Statement::Put { r, field, s } => self.put(port, place, r, field, s),
             Statement::PutD { s, .. } => {
                 port.store(place, self.held(s));
                 self.say(Answer::Fine);
@@ -116,6 +115,27 @@ impl<'a> Mutator<'a> {
             }
             _ => unreachable!(),
         }
+    }
+
+    /// Stores a reference in the field at this byte address, and then marks the field's card, where it has one.
+    fn put<P: WordPort + FragPort>(&mut self, port: &mut P, place: u64, r: u8, field: u64, s: u8)
+        requires within { self.old.stage ≡ Within }
+        requires aligned { place % 8 ≡ 0 }
+        requires place { word_at place ≡ object_in (actor_of self.old) r + 2 + field }
+        requires on { (lay : Constants) × IsOnPort self.old.program lay P.leads P.may P.sees P.fragments P.limit port.old
+            (within (actor_of self.old) self.old.script (Access (Put r field s))) }
+        ensures goes { (lay : Constants) → IsOnPort self.old.program lay P.leads P.may P.sees P.fragments P.limit port.old
+            (within (actor_of self.old) self.old.script (Access (Put r field s))) →
+            HasGoneOn self.old.program lay P.leads (within (actor_of self.old) self.old.script (Access (Put r field s))) port.old (actor_of self.new) port.new }
+        ensures stage { self.new.stage ≡ Between }
+        ensures same { IsSameMutator self.old self.new }
+    {
+        let card = card_at(&self.program.config, place);
+        port.store(place, self.held(s));
+        if let Some(card) = card {
+            port.mark_card(card);
+        }
+        self.say(Answer::Fine);
     }
 
     /// `gput` and `gget`: one store or load.

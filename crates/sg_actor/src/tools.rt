@@ -1,14 +1,15 @@
 // What a mutator works out without a port.
-ghost use Rattle.std.specs.Prelude.{◌≡◌, ◌+◌, ◌<◌, ◌^◌, ◌⊎◌, length, IfSome};
+ghost use Rattle.std.specs.Prelude.{◌≡◌, ◌+◌, ◌<◌, ◌^◌, ◌⊎◌, length, IfSome, MatchOption};
 ghost use Rattle.sg_program.specs.Scripts.{made_in, shape_of};
 ghost use Rattle.sg_program.specs.Tests.{test_of};
 ghost use Rattle.sg_desc.specs.Shapes.{has_field as field_of_sort};
-ghost use Rattle.sg_words.specs.Address.{IsAddress, byte_at};
+ghost use Rattle.sg_words.specs.Address.{IsAddress, byte_at, word_at};
+ghost use Rattle.sg_words.specs.Blocks.{HasCard, card_of};
 ghost use Rattle.sg_words.specs.Sections.{globals_base};
 ghost use Rattle.sg_program.specs.Invariants.{AreWithinLimits};
 ghost use Rattle.sg_rules.specs.Rules.{reference_answer};
 ghost use Rattle.sg_rules.specs.Resting.{answered_register as register_of, word_in};
-ghost use Rattle.sg_actor.specs.Testing.{sort_of, as_test_option};
+ghost use Rattle.sg_actor.specs.Testing.{sort_of, as_test_option, layout_of};
 
 use sg_desc::{Descriptor, Shape};
 use sg_program::{Answer, Config, Program, Statement};
@@ -101,4 +102,24 @@ pub(crate) fn global_at(config: &Config, g: u8) -> u64
         pages: config.pages,
     };
     layout.global(g as u32).get()
+}
+
+/// The card of the word at this byte address of the nursery, the major heap or the large space: the nursery's words have none.
+pub(crate) fn card_at(config: &Config, place: u64) -> Option<u32>
+    requires limits { AreWithinLimits config.now }
+    requires there { word_at place < globals_base (layout_of config.now) }
+    ensures { MatchOption result (¬ HasCard (layout_of config.now) (word_at place))
+        (λ card. HasCard (layout_of config.now) (word_at place) × (card ≡ card_of (layout_of config.now) (word_at place))) }
+{
+    let layout = Layout {
+        nursery: config.nursery,
+        blocks: config.blocks,
+        pages: config.pages,
+    };
+    let number = place / 8;
+    let first = layout.old_word();
+    if number < first {
+        return None;
+    }
+    Some(((number - first) / 64) as u32)
 }

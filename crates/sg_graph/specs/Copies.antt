@@ -64,7 +64,7 @@ AreCopied p g b c d (n ∷ found) =
     ⊎ (((j : ℕ) → j < p.config.blocks → IsShut p g d j (slot_words (g.size n))) × IsStill b c n × AreCopied p g b c d found)
 
 -- From the book b to c, one worker finds the movable objects one after another, each as the first new one to which what was found
--- before it leads, and copies them in this order.
+-- before it leads, and copies them in this order; nothing else changes its place.
 pub record CopiesInOrder (p : Program) (g : Graph) (b : Book) (ambiguous : List ℕ) (c : Book) : Type 0 where
   pub old : List ℕ
   pub pinned : List ℕ
@@ -73,3 +73,4 @@ pub record CopiesInOrder (p : Program) (g : Graph) (b : Book) (ambiguous : List 
   pub pinned_are : AreByAddress b (IsPinned g b ambiguous) pinned
   pub searched : IsSearched (IsMovable g b ambiguous) (leads_of p g (items_of p g old pinned)) found
   pub copied : AreCopied p g b c b found
+  pub others : (n : ℕ) → (In n found → ⊥) → IsStill b c n

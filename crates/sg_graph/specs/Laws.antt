@@ -1,6 +1,12 @@
 -- Laws of the definitions: that they mean what their names say.
-use Rattle.std.specs.Prelude.{◌≡◌, ◌≢◌, ℕ, ◌≤◌, ◌↔◌, Bool, true, List, [], ◌∷◌, ◌++◌, map}
+use Rattle.std.specs.Prelude.{◌≡◌, ◌≢◌, ℕ, ◌+◌, ◌^◌, ◌<◌, ◌≤◌, ◌⊎◌, ◌↔◌, Bool, true, List, [], ◌∷◌, ◌++◌, map}
 use Rattle.std.specs.List.{Contains}
+use Rattle.std.specs.Int.{bit_at}
+use Rattle.std.specs.Int.Bits.{bit_or}
+use Rattle.sg_words.specs.Blocks.{slots, IsSizeClass}
+use Rattle.sg_words.specs.Words.{put}
+use Rattle.sg_words.specs.declared.steps.BlockWord.{BlockWord}
+use Rattle.sg_words.specs.declared.steps.BlockWord.TheVariants.{Free, Swept}
 use Rattle.sg_words.specs.Reach.{Reached}
 use Rattle.sg_desc.specs.Shapes.{holds_reference, is_strong}
 use Rattle.sg_program.specs.declared.program.Program.{Program}
@@ -10,7 +16,9 @@ use Rattle.sg_graph.specs.declared.reports.Part.{Part}
 use Rattle.sg_graph.specs.declared.reports.EpochReport.{EpochReport}
 use Rattle.sg_graph.specs.declared.reports.MinorReport.{MinorReport}
 use Rattle.sg_graph.specs.Graph.{Graph}
-use Rattle.sg_graph.specs.Book.{Book, IsApart}
+use Rattle.sg_graph.specs.Blocks.{IsOldAt, AreBlocks}
+use Rattle.sg_graph.specs.Heap.{Owner, Of}
+use Rattle.sg_graph.specs.Book.{Book, Section, Old, block_at, slot_at, IsApart}
 use Rattle.sg_graph.specs.Epoch.{Said, Turn, IsEpoch}
 use Rattle.sg_graph.specs.Pause.{IsTarget, IsReached, IsPause, IsPointedInto, IsRoot}
 use Rattle.sg_graph.specs.Minor.{IsMinorPause}
@@ -74,3 +82,43 @@ pub record RunsByTurns : Type 0 where
   pub goes : (p : Program) (turns : List ℕ) (n : ℕ) (phases : List Phase) (g : Graph) (b : Book) (s : Schedule) → FollowsTo p turns n phases g b s → Goes p n phases g b
   pub run : (p : Program) (turns : List ℕ) (phases : List Phase) → IsRunBy p turns phases → IsRun p phases
   pub whole : (p : Program) (turns : List ℕ) (phases : List Phase) → IsWholeRunBy p turns phases → IsWholeRun p phases
+
+-- the object n stands in two books alike, and has one size by both graphs
+pub record StandsAlike (size size' : ℕ → ℕ) (stands stands' : ℕ → Bool) (address address' : ℕ → ℕ) (section section' : ℕ → Section) (n : ℕ) : Type 0 where
+  pub same_size : size' n ≡ size n
+  pub same_stands : stands' n ≡ stands n
+  pub same_address : address' n ≡ address n
+  pub same_section : section' n ≡ section n
+
+-- The object n, which was no old one that stood, stands in a slot of z words at x; each other object that is old before or after stands as
+-- it stood.
+pub record IsOldNow (size size' : ℕ → ℕ) (stands stands' : ℕ → Bool) (address address' : ℕ → ℕ) (section section' : ℕ → Section) (n x z : ℕ) : Type 0 where
+  pub here : IsOldAt size' stands' address' section' n x z
+  pub new : stands n ≡ true → section n ≡ Old → ⊥
+  pub others : (m : ℕ) → m ≢ n → (section m ≡ Old) ⊎ (section' m ≡ Old) → StandsAlike size size' stands stands' address address' section section' m
+
+-- each word of a block that is no object's was none's, and is as it was
+abbrev pub KeepsRest : Program → (ℕ → ℕ) → (ℕ → ℕ) → (ℕ → Owner) → (ℕ → Owner) → Type 0
+KeepsRest p word word' owner owner' = (c x : ℕ) → c < p.config.blocks → block_at p c ≤ x → x < block_at p c + 256 → ((n : ℕ) → owner' x ≢ Of n) →
+    (word' x ≡ word x) × ((n : ℕ) → owner x ≢ Of n)
+
+-- A slot of a swept block whose bit is clear gets an object, and its bit is set: the blocks are as their words say.
+abbrev pub SlotGets : Type 0
+SlotGets =
+    (p : Program) (marks used word word' size size' address address' : ℕ → ℕ) (state : ℕ → BlockWord) (stands stands' owed : ℕ → Bool)
+    (section section' : ℕ → Section) (owner owner' : ℕ → Owner) (n j z i : ℕ) → AreBlocks p marks state used word size stands address section owed owner →
+    j < p.config.blocks → state j ≡ Swept z → i < slots z → bit_at (used j) i ≡ 0 →
+    IsOldNow size size' stands stands' address address' section section' n (slot_at p j z i) z → KeepsRest p word word' owner owner' →
+    AreBlocks p marks state (put used j (bit_or (used j) (2 ^ i))) word' size' stands' address' section' owed owner'
+
+-- A free block becomes a swept one of some size, without an object as yet.
+abbrev pub BlockOpens : Type 0
+BlockOpens =
+    (p : Program) (marks used word size address : ℕ → ℕ) (state : ℕ → BlockWord) (stands owed : ℕ → Bool) (section : ℕ → Section) (owner : ℕ → Owner)
+    (j z : ℕ) → AreBlocks p marks state used word size stands address section owed owner → state j ≡ Free → IsSizeClass z →
+    AreBlocks p marks (put state j (Swept z)) used word size stands address section owed owner
+
+-- how the blocks change as objects come into the major heap
+pub record BlocksGo : Type 0 where
+  pub slot_gets : SlotGets
+  pub block_opens : BlockOpens

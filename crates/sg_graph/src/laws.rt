@@ -1,4 +1,4 @@
-ghost use Rattle.sg_graph.specs.Laws.{EndsBehindLast, HasOneReport, HasOneTurn, KeepsPointedInto, QuietPause, RunsByTurns};
+ghost use Rattle.sg_graph.specs.Laws.{BlocksGo, EndsBehindLast, HasOneReport, HasOneTurn, KeepsPointedInto, QuietPause, RunsByTurns};
 
 /// The law of the end: a run ends behind the epoch that is told to be the last one. It does nothing; its contract is the
 /// law.
@@ -33,4 +33,10 @@ pub fn one_turn()
 /// The law of turns: a run that follows a list of turns is a run. It does nothing; its contract is the law.
 pub fn runs_by_turns()
     ensures { RunsByTurns }
+{}
+
+/// The law of the blocks: a slot whose bit is clear gets an object and its bit, and a free block gets slots of a size, and each
+/// block is still as its own words say. It does nothing; its contract is the law.
+pub fn blocks_go()
+    ensures { BlocksGo }
 {}

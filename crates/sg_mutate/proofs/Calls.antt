@@ -1,7 +1,7 @@
 -- Each next step of a sane mutator is one that a port over a space of its program allows.
-use Rattle.std.proofs.Common.{◌≡◌, ℕ, ◌+◌, ◌<◌, ◌≤◌, Bool, Some, length, refl, sym, subst, arith}
+use Rattle.std.proofs.Common.{◌≡◌, ℕ, ◌+◌, ◌<◌, ◌≤◌, Bool, Some, length, refl, sym, ap, subst, arith}
 use Rattle.sg_words.specs.Address.{word_at}
-use Rattle.sg_words.specs.Sections.{nursery_base, large_base, words_end}
+use Rattle.sg_words.specs.Sections.{nursery_base, large_base, words_end, IsLayout}
 use Rattle.sg_words.specs.declared.layout.Layout.{Layout}
 use Rattle.sg_words.specs.declared.steps.Step.{Step}
 use Rattle.sg_words.specs.Calls.{call_of}
@@ -9,24 +9,27 @@ use Rattle.sg_program.specs.declared.program.Statement.{Statement}
 use Rattle.sg_program.specs.declared.program.Statement.TheVariants.{Put, Get, PutD, GetD}
 use Rattle.sg_program.specs.declared.program.Program.{Program}
 use Rattle.sg_program.specs.Tests.{Test, test_of}
-use Rattle.sg_space.specs.Space.{Contents, IsContents}
+use Rattle.sg_space.specs.Space.{Contents, cards_in}
 use Rattle.sg_frag.specs.Plain.{IsWordOf, MayCall}
 use Rattle.sg_rules.specs.Rules.{Constants, Actor, Access, within, object_in, global_word, sections_of, IsInHeap, Comes}
-use Rattle.sg_rules.specs.Rules.Comes.{test_null, test_begins, loads_tag, loads_length, test_fails, put_stores, putd_stores, get_loads, getd_loads, global_begins, gput_stores, gget_loads, num_sets, drop_clears, move_sets, push_sets, pop_sets, hide_null, hide_begins, hide_fits, hide_misses, unhide_sets, same_tells, new_bumps, new_looks, look_finds, look_goes_on, minor_asks, asks, yields, claim_wins, claim_moves, claim_goes_on, stores_length, stores_tag}
-use Rattle.sg_rules.specs.Sane.{IsAccessing, IsHeading, IsSane}
+use Rattle.sg_rules.specs.Rules.Comes.{test_null, test_begins, loads_tag, loads_length, test_fails, put_stores, put_stores_old, marks_card, putd_stores, get_loads, getd_loads, global_begins, gput_stores, gget_loads, num_sets, drop_clears, move_sets, push_sets, pop_sets, hide_null, hide_begins, hide_fits, hide_misses, unhide_sets, same_tells, new_bumps, new_looks, look_finds, look_goes_on, minor_asks, asks, yields, claim_wins, claim_moves, claim_goes_on, stores_length, stores_tag}
+use Rattle.sg_rules.specs.Sane.{IsAccessing, IsHeading, IsCard, IsSane}
 
--- the space has the program's sections, and as many fragments as the constants say
+-- The space has the program's sections, all their words and cards, and as many fragments as the constants say.
 pub record IsSpaceBy (p : Program) (lay : Constants) (s : Contents) : Type 0 where
-  pub contents : IsContents s
   pub layout : s.layout ≡ sections_of p
+  pub limits : IsLayout s.layout
+  pub words : length s.words ≡ words_end s.layout
+  pub next : length s.next ≡ length s.ends
+  pub cards : length s.cards ≡ cards_in s.layout
   pub fragments : length s.ends ≡ lay.fragments
 
 module _ (p : Program) (lay : Constants) (s : Contents) (is : IsSpaceBy p lay s) where
   word_there : (x : ℕ) → nursery_base ≤ x → x < words_end (sections_of p) → IsWordOf s x
   word_there x from below =
       let l : x < words_end s.layout = subst (λ (layout : Layout). x < words_end layout) (sym is.layout) below in
-      let limits = is.contents.layout in
-      let words = is.contents.words in
+      let limits = is.limits in
+      let words = is.words in
       ((from, l), omega arith, omega arith)
 
   -- a word of an object is one of the space
@@ -49,7 +52,10 @@ module _ (p : Program) (lay : Constants) (s : Contents) (is : IsSpaceBy p lay s)
   global_there x l = word_there (global_word p x) (omega arith) (omega arith)
 
   fragment_there : (f : ℕ) → f < lay.fragments → (f < length s.next) × (f < length s.ends)
-  fragment_there f l = let e = is.fragments in let n = is.contents.fragments in (omega arith, omega arith)
+  fragment_there f l = let e = is.fragments in let n = is.next in (omega arith, omega arith)
+
+  card_there : (card : ℕ) → IsCard p card → card < length s.cards
+  card_there card l = let e = is.cards in let q : cards_in s.layout ≡ cards_in (sections_of p) = ap cards_in is.layout in omega arith
 
   head_word : (st : Statement) (x : ℕ) → IsHeading p st x → IsWordOf s x
   head_word st x h = word_there x h.from (let l = h.inside in omega arith)
@@ -63,7 +69,9 @@ module _ (p : Program) (lay : Constants) (s : Contents) (is : IsSpaceBy p lay s)
   may_call _ _ _ _ (loads_tag a st rest test class there) sane = object_word (a.reg test.register) sane.object
   may_call _ _ _ _ (loads_length a st rest test class len short f) sane = length_word (a.reg test.register) sane.0.object
   may_call _ _ _ _ (test_fails a st rest test class len short f) sane = length_word (a.reg test.register) sane.0.object
-  may_call _ _ _ _ (put_stores a rest r i v) sane = accessed (within a rest (Access (Put r i v))) (Put r i v) _ refl sane
+  may_call _ _ _ _ (put_stores a rest r i v cardless) sane = accessed (within a rest (Access (Put r i v))) (Put r i v) _ refl sane
+  may_call _ _ _ _ (put_stores_old a rest r i v has) sane = accessed (within a rest (Access (Put r i v))) (Put r i v) _ refl sane
+  may_call _ _ _ _ (marks_card a rest st card) sane = (card_there card sane, refl)
   may_call _ _ _ _ (putd_stores a rest r i v) sane = accessed (within a rest (Access (PutD r i v))) (PutD r i v) _ refl sane
   may_call _ _ _ _ (get_loads a rest d r i u ref) sane = accessed (within a rest (Access (Get d r i))) (Get d r i) _ refl sane
   may_call _ _ _ _ (getd_loads a rest d r i u) sane = accessed (within a rest (Access (GetD d r i))) (GetD d r i) _ refl sane

@@ -59,13 +59,13 @@ module _ (p : Program) (no_class : length p.classes ≡ 0) where
   no_such class l = omega arith
 
   -- no statement makes an object, so the book stays
-  book_stays : (b c : Book) (k : ℕ) (s : Statement) (answer : Answer) → IsRunnable p s → Books p b k s answer c → c ≡ b
-  book_stays b c k (New r class) answer run h = absurd (no_such class run.good.names)
-  book_stays b c k (NewV r class count) answer run h = absurd (no_such class run.good.names)
-  book_stays b c k (Mature r class) answer run h = absurd h
-  book_stays b c k (Collect major) answer run h = absurd h
-  book_stays b c k Sections answer run h = absurd h
-  book_stays b c k s answer run h = h
+  book_stays : (g : Graph) (b c : Book) (k : ℕ) (s : Statement) (answer : Answer) → IsRunnable p s → Books p g b k s answer c → c ≡ b
+  book_stays g b c k (New r class) answer run h = absurd (no_such class run.good.names)
+  book_stays g b c k (NewV r class count) answer run h = absurd (no_such class run.good.names)
+  book_stays g b c k (Mature r class) answer run h = absurd h
+  book_stays g b c k (Collect major) answer run h = absurd h
+  book_stays g b c k Sections answer run h = absurd h
+  book_stays g b c k s answer run h = h
 
   still_none : (order : List Said) (g h : Graph) (b c : Book) → Explains p g b order h c → AreRunnable p g → NoneStands b → NoneStands c
   still_none [] g h b c e runs none = subst NoneStands (sym e.1) none
@@ -78,7 +78,7 @@ module _ (p : Program) (no_class : length p.classes ≡ 0) where
       mine = subst (AllByRecursion (IsRunnable p)) turn.next (runs said.by)
 
       same : e.1 ≡ b
-      same = book_stays b e.1 said.by turn.statement said.answer mine.0 turn.books
+      same = book_stays g b e.1 said.by turn.statement said.answer mine.0 turn.books
 
       later : AreRunnable p e.0
       later k = subst (λ (q : Graph). AllByRecursion (IsRunnable p) (q.mutator k).script) (sym turn.does.1)

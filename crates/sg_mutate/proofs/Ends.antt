@@ -12,8 +12,8 @@ use Rattle.sg_program.specs.declared.program.Statement.TheVariants.{New, NewV, H
 use Rattle.sg_program.specs.declared.program.Program.{Program}
 use Rattle.sg_program.specs.Scripts.{IsMaking, made_words}
 use Rattle.sg_program.specs.Tests.{Test, test_of}
-use Rattle.sg_rules.specs.Rules.{Constants, Mid, Idle, TestTag, TestLength, Access, AccessGlobal, Look, Claim, StoreLength, StoreTag, HideLength, Ask, Left, Yielded, Actor, IsGlobal, looking, Comes, Follows}
-use Rattle.sg_rules.specs.Rules.Comes.{test_null, test_begins, loads_tag, loads_length, test_fails, put_stores, putd_stores, get_loads, getd_loads, global_begins, gput_stores, gget_loads, num_sets, drop_clears, move_sets, push_sets, pop_sets, hide_null, hide_begins, hide_fits, hide_misses, unhide_sets, same_tells, new_bumps, new_looks, look_finds, look_goes_on, minor_asks, asks, yields, claim_wins, claim_moves, claim_goes_on, stores_length, stores_tag}
+use Rattle.sg_rules.specs.Rules.{Constants, Mid, Idle, TestTag, TestLength, Access, MarkCard, AccessGlobal, Look, Claim, StoreLength, StoreTag, HideLength, Ask, Left, Yielded, Actor, IsGlobal, looking, Comes, Follows}
+use Rattle.sg_rules.specs.Rules.Comes.{test_null, test_begins, loads_tag, loads_length, test_fails, put_stores, put_stores_old, marks_card, putd_stores, get_loads, getd_loads, global_begins, gput_stores, gget_loads, num_sets, drop_clears, move_sets, push_sets, pop_sets, hide_null, hide_begins, hide_fits, hide_misses, unhide_sets, same_tells, new_bumps, new_looks, look_finds, look_goes_on, minor_asks, asks, yields, claim_wins, claim_moves, claim_goes_on, stores_length, stores_tag}
 use Rattle.sg_rules.specs.Acting.{ActsOn, RestsAt, IsTurn}
 
 -- fragment i of these words has fewer than n words left
@@ -48,6 +48,7 @@ Ends p lay k w Idle ks m v = Stops w ks Idle m v
 Ends p lay k w (TestTag s test) ks m v = Decides k w ks m v
 Ends p lay k w (TestLength s test class) ks m v = Decides k w ks m v
 Ends p lay k w (Access s) ks m v = Decides k w ks m v
+Ends p lay k w (MarkCard s card) ks m v = Stops w ks Idle m v
 Ends p lay k w (AccessGlobal s) ks m v = Decides k w ks m v
 Ends p lay k w (Look s f) ks m v = f < lay.fragments → (ks ≡ []) × Searched p lay w s f m v
 Ends p lay k w (Claim s f seen) ks m v = Stops w ks (Claim s f seen) m v
@@ -89,6 +90,7 @@ module _ (p : Program) (lay : Constants) (k : ℕ) where
   stops w (TestTag s test) m e r = absurd (subst RestsAt e r)
   stops w (TestLength s test class) m e r = absurd (subst RestsAt e r)
   stops w (Access s) m e r = absurd (subst RestsAt e r)
+  stops w (MarkCard s card) m e r = absurd (subst RestsAt e r)
   stops w (AccessGlobal s) m e r = absurd (subst RestsAt e r)
   stops w (Look s f) m e r = absurd (subst RestsAt e r)
   stops w (Claim s f seen) m e r = (refl, e, refl)
@@ -156,7 +158,9 @@ module _ (p : Program) (lay : Constants) (k : ℕ) where
   on w ks m v _ _ _ _ (loads_tag a s rest test class there) r saw h = h
   on w ks m v _ _ _ _ (loads_length a s rest test class len short f) r saw h = h
   on w ks m v _ _ _ _ (test_fails a s rest test class len short f) r saw h = decided w ks m v h
-  on w ks m v _ _ _ _ (put_stores a rest r' i s) r saw h = decided w ks m v h
+  on w ks m v _ _ _ _ (put_stores a rest r' i s cardless) r saw h = decided w ks m v h
+  on w ks m v _ _ _ _ (put_stores_old a rest r' i s has) r saw h = decided w ks m v h
+  on w ks m v _ _ _ _ (marks_card a rest s card) r saw h = h
   on w ks m v _ _ _ _ (putd_stores a rest r' i s) r saw h = decided w ks m v h
   on w ks m v _ _ _ _ (get_loads a rest d r' i u ref) r saw h = decided w ks m v h
   on w ks m v _ _ _ _ (getd_loads a rest d r' i u) r saw h = decided w ks m v h
@@ -197,7 +201,9 @@ module _ (p : Program) (lay : Constants) (k : ℕ) where
   begins w ks m v _ _ _ _ (loads_tag a s rest test class there) r saw h = absurd r
   begins w ks m v _ _ _ _ (loads_length a s rest test class len short f) r saw h = absurd r
   begins w ks m v _ _ _ _ (test_fails a s rest test class len short f) r saw h = absurd r
-  begins w ks m v _ _ _ _ (put_stores a rest r' i s) r saw h = absurd r
+  begins w ks m v _ _ _ _ (put_stores a rest r' i s cardless) r saw h = absurd r
+  begins w ks m v _ _ _ _ (put_stores_old a rest r' i s has) r saw h = absurd r
+  begins w ks m v _ _ _ _ (marks_card a rest s card) r saw h = absurd r
   begins w ks m v _ _ _ _ (putd_stores a rest r' i s) r saw h = absurd r
   begins w ks m v _ _ _ _ (get_loads a rest d r' i u ref) r saw h = absurd r
   begins w ks m v _ _ _ _ (getd_loads a rest d r' i u) r saw h = absurd r

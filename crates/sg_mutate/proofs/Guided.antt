@@ -1,5 +1,5 @@
 -- In the midst of an epoch each mutator is guided over the space.
-use Rattle.std.proofs.Common.{◌≡◌, ℕ, ◌≤◌, List, [], ◌∷◌, ◌++◌, length, refl, ap, sym, ◌∙◌, subst}
+use Rattle.std.proofs.Common.{◌≡◌, ℕ, List, [], ◌∷◌, ◌++◌, length, refl, ap, sym, ◌∙◌, subst}
 use Rattle.sg_words.specs.declared.steps.Step.{Step}
 use Rattle.sg_words.specs.declared.steps.Tick.{Tick}
 use Rattle.sg_words.specs.Calls.{call_of}
@@ -9,7 +9,7 @@ use Rattle.sg_words.proofs.Puts.{put-same}
 use Rattle.sg_program.specs.declared.program.Program.{Program}
 use Rattle.sg_graph.specs.Graph.{Graph}
 use Rattle.sg_graph.specs.Book.{Book}
-use Rattle.sg_space.specs.Space.{Contents, words_of, AreShapes}
+use Rattle.sg_space.specs.Space.{Contents, words_of, cards_in}
 use Rattle.sg_words.specs.Sections.{words_end, IsLayout}
 use Rattle.sg_frag.specs.Plain.{KeepsSections}
 use Rattle.sg_frag.specs.Leading.{limit_of}
@@ -51,14 +51,11 @@ went_by p lay steps a b w v f legal is =
 -- the sections stay
 pub space_stays : (p : Program) (lay : Constants) (s t : Contents) → KeepsSections s t → IsSpaceBy p lay s → IsSpaceBy p lay t
 space_stays p lay s t keeps is = record {
-  contents = record {
-    layout = subst (λ l. IsLayout l) (sym keeps.layout) is.contents.layout;
-    shapes = subst (λ ss. AreShapes ss) (sym keeps.shapes) is.contents.shapes;
-    words = keeps.words ∙ is.contents.words ∙ ap words_end (sym keeps.layout);
-    fragments = keeps.next ∙ is.contents.fragments ∙ ap length (sym keeps.ends);
-    few = subst (λ ends. length ends ≤ 2048) (sym keeps.ends) is.contents.few;
-  };
   layout = keeps.layout ∙ is.layout;
+  limits = subst (λ l. IsLayout l) (sym keeps.layout) is.limits;
+  words = keeps.words ∙ is.words ∙ ap words_end (sym keeps.layout);
+  next = keeps.next ∙ is.next ∙ ap length (sym keeps.ends);
+  cards = keeps.cards ∙ is.cards ∙ ap cards_in (sym keeps.layout);
   fragments = ap length keeps.ends ∙ is.fragments;
 }
 

@@ -101,7 +101,14 @@ module _ (p : Program) (g : Graph) (b : Book) (s : Contents) (ms : List Mutating
       ap (λ n. filter (λ k. not (g.mutator k).ended) (numbers_below n)) opened.are.count
 
   pub space_is : IsSpaceBy p (constants_of s) s
-  space_is = record { contents = opened.space.contents; layout = opened.space.layout; fragments = refl }
+  space_is = let is = opened.space.contents in record {
+    layout = opened.space.layout;
+    limits = is.layout;
+    words = is.words;
+    next = is.fragments;
+    cards = is.cards;
+    fragments = refl;
+  }
 
   -- a running mutator is one of them, and hasn't ended
   pub is_running : (i k : ℕ) → slice_get (running p g) i ≡ Some k → (k < length ms) × ((g.mutator k).ended ≡ false)
@@ -126,7 +133,21 @@ module _ (p : Program) (g : Graph) (b : Book) (s : Contents) (ms : List Mutating
     actors = actors_in ms;
     boarded = opens p (constants_of s) (words_of s) g b (actors_in ms) opened.opening;
     plays = λ more u z h. h;
-    keeps = record { layout = refl; shapes = refl; ends = refl; next = refl; words = refl };
+    keeps = record {
+      layout = refl;
+      shapes = refl;
+      ends = refl;
+      next = refl;
+      words = refl;
+      blocks = refl;
+      used = refl;
+      cards = refl;
+      marks = refl;
+      pages = refl;
+      made = refl;
+      registered = refl;
+      pairs = refl;
+    };
     are = opened.are;
     parts = λ k m n e f going.
         let same = one_some (slice_get ms k) m n e f in

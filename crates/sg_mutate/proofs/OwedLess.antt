@@ -6,8 +6,8 @@ use Rattle.sg_words.specs.Programs.{FollowsBy}
 use Rattle.sg_program.specs.declared.program.Statement.{Statement}
 use Rattle.sg_program.specs.declared.program.Program.{Program}
 use Rattle.sg_program.specs.Scripts.{made_words}
-use Rattle.sg_rules.specs.Rules.{Constants, Mid, Idle, TestTag, TestLength, Access, AccessGlobal, Look, Claim, StoreLength, StoreTag, HideLength, Ask, Left, Yielded, Actor, looking, Comes}
-use Rattle.sg_rules.specs.Rules.Comes.{test_null, test_begins, loads_tag, loads_length, test_fails, put_stores, putd_stores, get_loads, getd_loads, global_begins, gput_stores, gget_loads, num_sets, drop_clears, move_sets, push_sets, pop_sets, hide_null, hide_begins, hide_fits, hide_misses, unhide_sets, same_tells, new_bumps, new_looks, look_finds, look_goes_on, minor_asks, asks, yields, claim_wins, claim_moves, claim_goes_on, stores_length, stores_tag}
+use Rattle.sg_rules.specs.Rules.{Constants, Mid, Idle, TestTag, TestLength, Access, MarkCard, AccessGlobal, Look, Claim, StoreLength, StoreTag, HideLength, Ask, Left, Yielded, Actor, looking, Comes}
+use Rattle.sg_rules.specs.Rules.Comes.{test_null, test_begins, loads_tag, loads_length, test_fails, put_stores, put_stores_old, marks_card, putd_stores, get_loads, getd_loads, global_begins, gput_stores, gget_loads, num_sets, drop_clears, move_sets, push_sets, pop_sets, hide_null, hide_begins, hide_fits, hide_misses, unhide_sets, same_tells, new_bumps, new_looks, look_finds, look_goes_on, minor_asks, asks, yields, claim_wins, claim_moves, claim_goes_on, stores_length, stores_tag}
 use Rattle.sg_rules.specs.Sane.{IsSaneAt}
 use Rattle.sg_rules.specs.Acting.{ActsOn, RestsAt}
 use Rattle.sg_mutate.specs.Boards.{owed_at, owed, TurnsOweLess}
@@ -30,6 +30,7 @@ ends_one Idle r = omega arith
 ends_one (TestTag s test) r = absurd r
 ends_one (TestLength s test class) r = absurd r
 ends_one (Access s) r = absurd r
+ends_one (MarkCard s card) r = absurd r
 ends_one (AccessGlobal s) r = absurd r
 ends_one (Look s f) r = absurd r
 ends_one (Claim s f seen) r = omega arith
@@ -46,6 +47,7 @@ fits_on lay Idle r = tt
 fits_on lay (TestTag s test) r = tt
 fits_on lay (TestLength s test class) r = tt
 fits_on lay (Access s) r = tt
+fits_on lay (MarkCard s card) r = tt
 fits_on lay (AccessGlobal s) r = tt
 fits_on lay (Look s f) r = tt
 fits_on lay (StoreLength s x) r = tt
@@ -61,6 +63,7 @@ fits_sane p lay a Idle small sane = tt
 fits_sane p lay a (TestTag s test) small sane = tt
 fits_sane p lay a (TestLength s test class) small sane = tt
 fits_sane p lay a (Access s) small sane = tt
+fits_sane p lay a (MarkCard s card) small sane = tt
 fits_sane p lay a (AccessGlobal s) small sane = tt
 fits_sane p lay a (Look s f) small sane = tt
 fits_sane p lay a (StoreLength s x) small sane = tt
@@ -122,7 +125,9 @@ module _ (p : Program) (lay : Constants) (few : lay.fragments ≤ 2048) where
   step_owes _ _ _ _ (loads_tag a s rest test class there) fits = on_there (length rest)
   step_owes _ _ _ _ (loads_length a s rest test class len short f) fits = on_there (length rest)
   step_owes _ _ _ _ (test_fails a s rest test class len short f) fits = over_there (length rest)
-  step_owes _ _ _ _ (put_stores a rest r i s) fits = over_there (length rest)
+  step_owes _ _ _ _ (put_stores a rest r i s cardless) fits = over_there (length rest)
+  step_owes _ _ _ _ (put_stores_old a rest r i s has) fits = on_there (length rest)
+  step_owes _ _ _ _ (marks_card a rest s card) fits = over_there (length rest)
   step_owes _ _ _ _ (putd_stores a rest r i s) fits = over_there (length rest)
   step_owes _ _ _ _ (get_loads a rest d r i u ref) fits = over_there (length rest)
   step_owes _ _ _ _ (getd_loads a rest d r i u) fits = over_there (length rest)

@@ -11,7 +11,7 @@ use Rattle.sg_graph.specs.Graph.{Graph}
 use Rattle.sg_graph.specs.Book.{Book, LacksRoom}
 use Rattle.sg_graph.specs.Epoch.{Said, Turn, Explains}
 use Rattle.sg_graph.specs.Turns.{Position, Between, Claiming, HasLeft, HasGone, IsLowestFrom, HasNoneFrom}
-use Rattle.sg_rules.specs.Rules.{Constants, Mid, Idle, TestTag, TestLength, Access, AccessGlobal, Look, Claim, StoreLength, StoreTag, HideLength, Ask, Left, Yielded, Actor}
+use Rattle.sg_rules.specs.Rules.{Constants, Mid, Idle, TestTag, TestLength, Access, MarkCard, AccessGlobal, Look, Claim, StoreLength, StoreTag, HideLength, Ask, Left, Yielded, Actor}
 use Rattle.sg_rules.specs.Resting.{IsRequestOf}
 use Rattle.sg_rules.specs.Acting.{RestsAt}
 use Rattle.sg_mutate.specs.Boards.{IsAt}
@@ -23,6 +23,7 @@ at_rest p script Idle position h = tt
 at_rest p script (TestTag s test) position h = absurd h
 at_rest p script (TestLength s test class) position h = absurd h
 at_rest p script (Access s) position h = absurd h
+at_rest p script (MarkCard s card) position h = absurd h
 at_rest p script (AccessGlobal s) position h = absurd h
 at_rest p script (Look s f) position h = absurd h
 at_rest p script (Claim s f seen) position h = tt

@@ -19,7 +19,7 @@ use Rattle.sg_graph.specs.Epoch.{Said, Explains}
 use Rattle.sg_graph.specs.Laws.{HasOneTurn}
 use Rattle.sg_graph.specs.Turns.{Position, Between, Claiming, HasLeft, Board, HasGone, moved_on, asking, Searches, TakesTurn}
 use Rattle.sg_graph.specs.Turns.TakesTurn.{Ends, Yields, Collects, Does, Prepares, Needs, Claims, LooksAgain, FindsNone}
-use Rattle.sg_rules.specs.Rules.{Constants, Mid, Idle, TestTag, TestLength, Access, AccessGlobal, Look, Claim, StoreLength, StoreTag, HideLength, Ask, Left, Yielded, Actor}
+use Rattle.sg_rules.specs.Rules.{Constants, Mid, Idle, TestTag, TestLength, Access, MarkCard, AccessGlobal, Look, Claim, StoreLength, StoreTag, HideLength, Ask, Left, Yielded, Actor}
 use Rattle.sg_order.specs.Rest.{IsReady, before_it}
 use Rattle.sg_order.specs.OneOrder.{HasPrepared, IsSoFar, IsOneOrder, OrdersSoFar}
 use Rattle.sg_mutate.specs.Boards.{IsAt, IsBoarded, HasTaken, OpensBoarded, TurnsAreTaken, EndsAreTaken}
@@ -294,6 +294,7 @@ ends_are_taken p lay g b order x w actors bo k is none = record {
     only (TestTag s test) h = absurd h
     only (TestLength s test class) h = absurd h
     only (Access s) h = absurd h
+    only (MarkCard s card) h = absurd h
     only (AccessGlobal s) h = absurd h
     only (Look s f) h = absurd h
     only (Claim s f seen) h = absurd h

@@ -87,6 +87,14 @@ module _ (p : Program) (g : Graph) (b : Book) (s0 : Contents) (m0 : List Mutatin
       ends = x.keeps.ends ∙ mid.keeps.ends;
       next = x.keeps.next ∙ mid.keeps.next;
       words = x.keeps.words ∙ mid.keeps.words;
+      blocks = x.keeps.blocks ∙ mid.keeps.blocks;
+      used = x.keeps.used ∙ mid.keeps.used;
+      cards = x.keeps.cards ∙ mid.keeps.cards;
+      marks = x.keeps.marks ∙ mid.keeps.marks;
+      pages = x.keeps.pages ∙ mid.keeps.pages;
+      made = x.keeps.made ∙ mid.keeps.made;
+      registered = x.keeps.registered ∙ mid.keeps.registered;
+      pairs = x.keeps.pairs ∙ mid.keeps.pairs;
     }
 
     here : (y : Mutating) → slice_get m0 k ≡ Some y → TakesPart p (x.board.position k) y n (x.later k)

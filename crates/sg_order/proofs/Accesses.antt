@@ -1,5 +1,5 @@
 -- Each rule by which a mutator goes on keeps the relation: the load and the store of a field.
-use Rattle.std.proofs.Common.{◌≡◌, ◌≢◌, ℕ, ◌+◌, ◌<◌, ◌≤◌, ◌&&◌, not, nat_lt, Bool, true, false, Option, Some, None, List, ◌∷◌, inl, inr, sym, refl, ap, ◌∙◌, subst, le_refl, ap₂, arith}
+use Rattle.std.proofs.Common.{◌≡◌, ◌≢◌, ℕ, ◌+◌, ◌<◌, ◌≤◌, ◌⊎◌, ◌&&◌, not, nat_lt, Bool, true, false, Option, Some, None, List, ◌∷◌, inl, inr, sym, refl, ap, ◌∙◌, subst, le_refl, ap₂, arith}
 use Rattle.std.proofs.lemmas.Bool.{cases_eq, eq-eqb, ne_eqb, cond-true, cond-false, ltb-true}
 use Rattle.sg_words.specs.Address.{byte_at}
 use Rattle.sg_words.specs.declared.steps.Place.TheVariants.{Word}
@@ -16,15 +16,16 @@ use Rattle.sg_program.specs.Kinds.{IsRef, IsInt}
 use Rattle.sg_graph.specs.Graph.{Entry, Ref, Int, Inner, Mutator, Graph, stored}
 use Rattle.sg_graph.specs.Statements.{Finds, name_in}
 use Rattle.sg_program.specs.Tests.{Test, test_of}
-use Rattle.sg_graph.specs.Book.{Book, word_of}
+use Rattle.sg_graph.specs.Book.{Book, Young, Old, word_of, old_end}
 use Rattle.sg_words.specs.Sections.{globals_base}
+use Rattle.sg_words.specs.Blocks.{card_of, HasCard}
 use Rattle.sg_graph.specs.Heap.{Owner, IsKnown, IsKnownEntry, IsOfSort, layout_of}
-use Rattle.sg_rules.specs.Rules.{Constants, Access, Actor, within, over, reference_answer, object_in}
+use Rattle.sg_rules.specs.Rules.{Constants, Mid, Idle, Access, Actor, within, over, reference_answer, object_in, sections_of}
 use Rattle.sg_order.specs.Rest.{kind_of_entry}
 use Rattle.sg_order.specs.Rest.{StandsAt}
 use Rattle.sg_words.proofs.Puts.{put-at, put-other, put-all, put-along}
 use Rattle.sg_order.proofs.Frame.{entry_later}
-use Rattle.sg_order.proofs.Relation.{Ground, Tested, Stands, Later, Kept}
+use Rattle.sg_order.proofs.Relation.{Ground, Tested, Stands, Later, IsNeeded, Marks, Kept}
 use Rattle.sg_order.proofs.Moves.{Change, handed, offsets_put, unchanged, decided, fits_as}
 use Rattle.sg_order.proofs.Loads.{is_ref, is_int, same_object, name_nil, object_at, known_at, known_put}
 
@@ -76,15 +77,15 @@ finds_as p g m entry script s test t = record { test = test; tests = t.tests; ho
 
 module _ (p : Program) (lay : Constants) (w : Words) (g : Graph) (b : Book) (said : ℕ → List Answer) (k : ℕ) (owner : ℕ → Owner)
     (t : Ground p lay w g b owner) where
-  -- an object's words stand before the globals
-  pub below_globals : (n y : ℕ) → b.stands n ≡ true → y < b.address n + (g.size n + 2) → y < globals_base (layout_of p)
-  below_globals n y sn to = elim (cases_eq n 0) [
+  -- an object's words stand before the large space, and so before the globals
+  pub below_large : (n y : ℕ) → b.stands n ≡ true → y < b.address n + (g.size n + 2) → y < old_end p
+  below_large n y sn to = elim (cases_eq n 0) [
     | inl z ↦ let u : b.address n ≡ 0 = ap b.address z ∙ t.laid.nothing.at_nil in let v : g.size n ≡ 0 = ap g.size z ∙ t.laid.nothing.no_size in omega arith
-    | inr some ↦ elim (t.laid.objects.inside n (omega arith) sn) [
-      | inl i ↦ (let l = i.2 in omega arith)
-      | inr i ↦ (let l = i.2 in let u = t.laid.objects.filled.1 in omega arith)
-    ]
+    | inr some ↦ elim (t.laid.objects.inside n (omega arith) sn) [ inl i ↦ (let l = i.2 in omega arith) | inr i ↦ (let l = i.2 in omega arith) ]
   ]
+
+  pub below_globals : (n y : ℕ) → b.stands n ≡ true → y < b.address n + (g.size n + 2) → y < globals_base (layout_of p)
+  below_globals n y sn to = let l = below_large n y sn to in omega arith
 
   -- a store of a word of a standing object
   module _ (n y val : ℕ) (sn : b.stands n ≡ true) (from : b.address n ≤ y) (to : y < b.address n + (g.size n + 2)) where
@@ -108,11 +109,19 @@ module _ (p : Program) (lay : Constants) (w : Words) (g : Graph) (b : Book) (sai
           empty = λ x l m. put-other w.word y val x (λ e. let u = below_globals n y sn to in absurd (omega arith)) ∙ t.laid.globals.empty x l m;
         };
         clear = record {
+          large = λ x l m. put-other w.word y val x (λ e. let u = below_large n y sn to in absurd (omega arith)) ∙ t.laid.clear.large x l m;
           clear = λ x l m none. put-other w.word y val x (λ e. none n (t.laid.objects.owns n x sn (omega arith) (omega arith)))
               ∙ t.laid.clear.clear x l m none;
         };
         fragments = t.laid.fragments;
         buffers = t.laid.buffers;
+      };
+      blocks = record {
+        placed = t.blocks.placed;
+        each = t.blocks.each;
+        clear = λ c l x q r none clean. put-other w.word y val x (λ e. none n (t.laid.objects.owns n x sn (omega arith) (omega arith)))
+            ∙ t.blocks.clear c l x q r none clean;
+        sized = t.blocks.sized;
       };
       plain = record { links = t.plain.links; registered = t.plain.registered; ready = t.plain.ready; pairs = t.plain.pairs };
       number = t.number;
@@ -122,7 +131,7 @@ module _ (p : Program) (lay : Constants) (w : Words) (g : Graph) (b : Book) (sai
 
     pub later_stored : (fld : ℕ → ℕ → Entry) → ((m : ℕ) → IsKnown w.word g b m → IsKnown (put w.word y val) g b m) →
         ((m : ℕ) → b.stands m ≡ true → w.word (b.address m + 1) ≡ g.size m → put w.word y val (b.address m + 1) ≡ g.size m) →
-        Later w g b said (write w (Word y) val) (record g { field = fld }) b said k
+        Later p w g b said (write w (Word y) val) (record g { field = fld }) b said k
     later_stored fld known length_word = record {
       stands = λ n q. q;
       known = known;
@@ -132,6 +141,9 @@ module _ (p : Program) (lay : Constants) (w : Words) (g : Graph) (b : Book) (sai
       next = λ f. le_refl _;
       limit = λ f. refl;
       length_word = λ m q z e. length_word m q e;
+      owed = refl;
+      zeros = λ x l none e. put-other w.word y val x (λ q. none n sn (omega arith) (omega arith)) ∙ e;
+      dirty = λ x e. e;
       mutator = λ j n. refl;
       says = λ j n. refl;
       from = λ j n. refl;
@@ -203,11 +215,46 @@ module _ (p : Program) (lay : Constants) (w : Words) (g : Graph) (b : Book) (sai
     field_all P here there m = put-all (λ m f. (j : ℕ) → P m j (f j)) g.field n (put (g.field n) i e)
         (put-all (λ j x. P n j x) (g.field n) i e here (λ j _. there n j)) (λ m _. there m) m
 
-    pub field_stored : Change p lay w g b said k (write w (Word (b.address n + 2 + i)) (word_of b.address e)) (stored g n i e) b
-    field_stored = record {
+    -- a card that is needed then was needed before, or it is that of this field
+    pub needs_stored : (card : ℕ) → IsNeeded p (stored g n i e) b card →
+        IsNeeded p g b card ⊎ ((b.section n ≡ Old) × ((target : ℕ) × (e ≡ Ref target)) × (card_of (layout_of p) (b.address n + 2 + i) ≡ card))
+    needs_stored card q = elim (cases_eq q.name n) [
+      | inl same ↦
+          let field = ap (λ (f : ℕ → Entry). f q.index) (put-at g.field n (put (g.field n) i e) q.name same) in
+          elim (cases_eq q.index i) [
+            | inl here ↦ inr (
+              ap b.section (sym same) ∙ q.old,
+              (q.target, sym (put-at (g.field n) i e q.index here) ∙ sym field ∙ q.refers),
+              ap (λ m. card_of (layout_of p) (b.address m + 2 + i)) (sym same) ∙ ap (λ j. card_of (layout_of p) (b.address q.name + 2 + j)) (sym here) ∙ q.at,
+            )
+            | inr there ↦ inl (before q (ap (λ m. g.field m q.index) same ∙ sym (put-other (g.field n) i e q.index there) ∙ sym field ∙ q.refers))
+          ]
+      | inr other ↦ inl (before q (sym (ap (λ (f : ℕ → Entry). f q.index) (put-other g.field n (put (g.field n) i e) q.name other)) ∙ q.refers))
+    ]
+      where
+        before : (q : IsNeeded p (stored g n i e) b card) → g.field q.name q.index ≡ Ref q.target → IsNeeded p g b card
+        before q refers = record {
+          name = q.name;
+          index = q.index;
+          target = q.target;
+          some = q.some;
+          standing = q.standing;
+          old = q.old;
+          inside = q.inside;
+          strong = q.strong;
+          refers = refers;
+          one = q.one;
+          young = q.young;
+          at = q.at;
+        }
+
+    pub field_stored : {after : Mid} → ((card : ℕ) → IsNeeded p (stored g n i e) b card → IsNeeded p g b card ⊎ Marks card after) →
+        Change p lay w g b said k after (write w (Word (b.address n + 2 + i)) (word_of b.address e)) (stored g n i e) b
+    field_stored needs = record {
       owner = owner;
       later = later_stored n at val sn (omega arith) (omega arith) (put g.field n (put (g.field n) i e)) known_stored
           (λ m q x. length_off n at val sn (omega arith) (omega arith) (omega arith) m q ∙ x);
+      needs = needs;
       ground = ground_stored n at val sn (omega arith) (omega arith) (put g.field n (put (g.field n) i e)) known_stored holds_stored
           (λ m j q r. field_all (λ m j x. b.stands m ≡ true → j < g.size m → IsKnownEntry (put w.word at val) g b x)
           (λ _ _. entry_later w g b (write w (Word at) val) g b e known_stored ke)
@@ -217,11 +264,18 @@ module _ (p : Program) (lay : Constants) (w : Words) (g : Graph) (b : Book) (sai
       mutators = refl;
     }
 
+  -- the fields of an old object have cards
+  pub old_has_card : (n i : ℕ) → n ≢ 0 → b.stands n ≡ true → i < g.size n → b.section n ≡ Old → HasCard (layout_of p) (b.address n + 2 + i)
+  old_has_card n i some sn inside old = elim (t.laid.objects.inside n (omega (arith, some)) sn) [
+    | inl young ↦ absurd (let e : Young ≡ Old = sym young.0 ∙ old in cc)
+    | inr there ↦ let lo = there.1 in let hi = there.2 in (omega arith, omega arith)
+  ]
+
   module _ (a : Actor) (rest : List Statement) where
-    -- the deciding store of a reference
-    pub puts : (r i s : ℕ) → Stands p lay w g b said k (within a rest (Access (Put r i s))) →
+    -- the deciding store of a reference into a slot that has no card
+    pub puts : (r i s : ℕ) → ¬ HasCard (sections_of p) (object_in a r + 2 + i) → Stands p lay w g b said k (within a rest (Access (Put r i s))) →
         Kept p lay w g b said k (Access (Put r i s)) true (write w (Word (object_in a r + 2 + i)) (a.reg s)) (over a rest a.reg Fine)
-    puts r i s st =
+    puts r i s cardless st =
         let test : Test = record { register = r; field = i; sort = Reference } in
         let x = tested_as p g st.entry (Put r i s) st.at.0 test refl st.at.1 in
         let n = x.name in
@@ -231,12 +285,18 @@ module _ (p : Program) (lay : Constants) (w : Words) (g : Graph) (b : Book) (sai
         let ea = object_at p lay w g b said k owner t _ st r n x.holds in
         let es = st.regs s in
         let kt : IsKnownEntry w.word g b (Ref target.0) = subst (IsKnownEntry w.word g b) target.1 (st.known s) in
-        let ch = field_stored n i (Ref target.0) sn f.0 kt (subst (λ q. IsOfSort q (Ref target.0)) (sym f.1) tt) in
-        let known = entry_stored n i (Ref target.0) sn f.0 kt (subst (λ q. IsOfSort q (Ref target.0)) (sym f.1) tt) in
+        let sort : IsOfSort (holds_reference (kind_of p (g.class n)) i (g.size n)) (Ref target.0) = subst (λ q. IsOfSort q (Ref target.0)) (sym f.1) tt in
+        let needs : (card : ℕ) → IsNeeded p (stored g n i (Ref target.0)) b card → IsNeeded p g b card ⊎ Marks card Idle = λ card q.
+        elim (needs_stored n i (Ref target.0) sn f.0 kt sort card q) [
+          | inl old ↦ inl old
+          | inr own ↦ absurd (cardless (subst (λ z. HasCard (sections_of p) (z + 2 + i)) (sym ea) (old_has_card n i x.some sn f.0 own.0)))
+        ] in
+        let ch = field_stored n i (Ref target.0) sn f.0 kt sort needs in
+        let known = entry_stored n i (Ref target.0) sn f.0 kt sort in
         subst (λ z. Kept p lay w g b said k (Access (Put r i s)) true (write w (Word (z + 2 + i)) (a.reg s)) (over a rest a.reg Fine)) (sym ea)
         (subst (λ z. Kept p lay w g b said k (Access (Put r i s)) true (write w (Word (b.address n + 2 + i)) z) (over a rest a.reg Fine))
         (sym (es ∙ ap (word_of b.address) target.1))
-        (decided p lay w g b said k _ (λ x e. e) (write w (Word (b.address n + 2 + i)) (word_of b.address (Ref target.0))) (stored g n i (Ref target.0)) ch _
+        (decided p lay w g b said k _ tt (write w (Word (b.address n + 2 + i)) (word_of b.address (Ref target.0))) (stored g n i (Ref target.0)) ch _
         (Put r i s) rest st st.entry Fine a.reg Fine st.at.2 (
           (n, target.0, finds_as p g (g.mutator k) st.entry (Put r i s ∷ rest) (Put r i s) test x, target.1),
           ap₂ (λ o e. handed (stored g (name_in o) i e) k rest st.entry) (sym x.holds) (sym target.1),
@@ -255,12 +315,15 @@ module _ (p : Program) (lay : Constants) (w : Words) (g : Graph) (b : Book) (sai
         let number = is_int (st.entry s) (fits_as p lay w g b said k st.entry (PutD r i s ∷ rest) st.answers st.at.2 st.fits).0.1 in
         let ea = object_at p lay w g b said k owner t _ st r n x.holds in
         let es = st.regs s in
-        let ch = field_stored n i (Int number.0) sn f.0 tt (subst (λ q. IsOfSort q (Int number.0)) (sym f.1) tt) in
-        let known = entry_stored n i (Int number.0) sn f.0 tt (subst (λ q. IsOfSort q (Int number.0)) (sym f.1) tt) in
+        let sort : IsOfSort (holds_reference (kind_of p (g.class n)) i (g.size n)) (Int number.0) = subst (λ q. IsOfSort q (Int number.0)) (sym f.1) tt in
+        let needs : (card : ℕ) → IsNeeded p (stored g n i (Int number.0)) b card → IsNeeded p g b card ⊎ Marks card Idle = λ card q.
+        elim (needs_stored n i (Int number.0) sn f.0 tt sort card q) [ inl old ↦ inl old | inr own ↦ absurd (let e = own.1.1 in cc) ] in
+        let ch = field_stored n i (Int number.0) sn f.0 tt sort needs in
+        let known = entry_stored n i (Int number.0) sn f.0 tt sort in
         subst (λ z. Kept p lay w g b said k (Access (PutD r i s)) true (write w (Word (z + 2 + i)) (a.reg s)) (over a rest a.reg Fine)) (sym ea)
         (subst (λ z. Kept p lay w g b said k (Access (PutD r i s)) true (write w (Word (b.address n + 2 + i)) z) (over a rest a.reg Fine))
         (sym (es ∙ ap (word_of b.address) number.1))
-        (decided p lay w g b said k _ (λ x e. e) (write w (Word (b.address n + 2 + i)) (word_of b.address (Int number.0))) (stored g n i (Int number.0)) ch _
+        (decided p lay w g b said k _ tt (write w (Word (b.address n + 2 + i)) (word_of b.address (Int number.0))) (stored g n i (Int number.0)) ch _
         (PutD r i s) rest st st.entry Fine a.reg Fine st.at.2 (
           (n, number.0, finds_as p g (g.mutator k) st.entry (PutD r i s ∷ rest) (PutD r i s) test x, number.1),
           ap₂ (λ o e. handed (stored g (name_in o) i e) k rest st.entry) (sym x.holds) (sym number.1),
@@ -300,7 +363,7 @@ module _ (p : Program) (lay : Constants) (w : Words) (g : Graph) (b : Book) (sai
         let offsets = offsets_put g b a.offset st.entry d (Ref target) (λ o. kt.0) st.offsets in
         let kinds = put-along kind_of_entry (λ r. kind_of_entry (st.entry r)) st.entry d IsRef (Ref target) (λ r. refl) refl in
         elim (cases_eq target 0) [
-          | inl z ↦ decided p lay w g b said k _ (λ x e. e) w g (unchanged p lay w g b said k owner t) _ (Get d r i) rest st (put st.entry d (Ref 0)) Nil
+          | inl z ↦ decided p lay w g b said k _ tt w g (unchanged p lay w g b said k owner t) _ (Get d r i) rest st (put st.entry d (Ref 0)) Nil
               (put a.reg d v) (reference_answer v) st.at.2
               ((x.0, x.2, x.3 ∙ ap Ref z), refl) refl
               (subst (λ m. (q : ℕ) → put a.reg d v q ≡ word_of b.address (put st.entry d (Ref m) q)) z regs)
@@ -308,7 +371,7 @@ module _ (p : Program) (lay : Constants) (w : Words) (g : Graph) (b : Book) (sai
               (subst (λ m. (q : ℕ) → StandsAt g b (a.offset q) (put st.entry d (Ref m) q)) z offsets)
               (cond-true _ _ _ (eq-eqb v 0 (ev ∙ ap (λ m. byte_at (b.address m)) z ∙ (let u = t.laid.nothing.at_nil in omega arith)))) tt
               (subst (λ m. (q : ℕ) → put (λ r. kind_of_entry (st.entry r)) d IsRef q ≡ kind_of_entry (put st.entry d (Ref m) q)) z kinds) refl
-          | inr z ↦ decided p lay w g b said k _ (λ x e. e) w g (unchanged p lay w g b said k owner t) _ (Get d r i) rest st (put st.entry d (Ref target))
+          | inr z ↦ decided p lay w g b said k _ tt w g (unchanged p lay w g b said k owner t) _ (Get d r i) rest st (put st.entry d (Ref target))
               (At target) (put a.reg d v) (reference_answer v) st.at.2
               ((x.0, x.2, x.3, z), refl) refl regs known offsets
               (cond-false _ _ _ (ne_eqb v 0 (λ q. z (name_nil p lay w g b said k owner t target kt.0 (omega arith)))) ∙ ap At ev) kt.0 kinds refl
@@ -326,7 +389,7 @@ module _ (p : Program) (lay : Constants) (w : Words) (g : Graph) (b : Book) (sai
         let number = of_number _ (g.field n i) f.1 (t.laid.fields.sorted n i sn f.0) in
         let ev : v ≡ number.0 = sym e ∙ ap (λ z. w.word (z + 2 + i)) (object_at p lay w g b said k owner t _ st r n x.holds) ∙ t.laid.fields.holds n i sn f.0
         ∙ ap (word_of b.address) number.1 in
-        decided p lay w g b said k _ (λ x e. e) w g (unchanged p lay w g b said k owner t) _ (GetD d r i) rest st (put st.entry d (Int number.0))
+        decided p lay w g b said k _ tt w g (unchanged p lay w g b said k owner t) _ (GetD d r i) rest st (put st.entry d (Int number.0))
         (Number number.0) (put a.reg d v) (Number v) st.at.2
         ((n, finds_as p g (g.mutator k) st.entry (GetD d r i ∷ rest) (GetD d r i) test x, number.1), refl) refl
         (put-along (word_of b.address) a.reg st.entry d v (Int number.0) st.regs ev)

@@ -17,7 +17,7 @@ use Rattle.sg_rules.specs.Rules.{Constants, Mid, Idle, Claim, StoreLength, Actor
 use Rattle.sg_rules.specs.Resting.{IsRunnable}
 use Rattle.sg_words.proofs.Puts.{put-at, put-same, put-other, within_range, range-in, range-below, range-above, range-keeps}
 use Rattle.sg_order.proofs.Events.{range-was}
-use Rattle.sg_order.proofs.Relation.{Ground, IsMutator, Stands, WritesHeader, Kept}
+use Rattle.sg_order.proofs.Relation.{Ground, IsMutator, Stands, IsQuiet, Kept}
 use Rattle.sg_order.proofs.Moves.{runnable_as}
 use Rattle.sg_order.proofs.Makes.{made_known, made_no_pair, made_sized, does_making, books_making, kinds_making, piled_making}
 use Rattle.sg_order.proofs.Places.{Place, places}
@@ -65,16 +65,16 @@ module _ (p : Program) (lay : Constants) (w : Words) (g : Graph) (b : Book) (sai
   -- the object of a statement has its place
   makes : (s : Statement) → IsMaking s → (x : ℕ) (next wnext from to : ℕ → ℕ) (owner' : ℕ → Owner) →
       Place p g b k (made_words p s) x next from to owner owner' → ((f : ℕ) → f < b.fragments → wnext f ≡ byte_at (next f)) →
-      (mid : Mid) → ((y : ℕ) → WritesHeader y mid → ⊥) → (a : Actor) (rest : List Statement) (st : Stands p lay w g b said k a) →
+      (mid : Mid) → IsQuiet mid → (a : Actor) (rest : List Statement) (st : Stands p lay w g b said k a) →
       IsMutator g said k st.entry (s ∷ rest) st.answers →
-      Books p b k s (At (suc g.count)) (record (placed b (suc g.count) x) { next = next; from = from; to = to }) → (ax af at : ℕ) → ax ≡ x → af ≡ from k →
+      Books p g b k s (At (suc g.count)) (record (placed b (suc g.count) x) { next = next; from = from; to = to }) → (ax af at : ℕ) → ax ≡ x → af ≡ from k →
       at ≡ to k →
       Kept p lay w g b said k mid true (record w { next = wnext }) (within (owning a af at) rest (StoreLength s ax))
-  makes s making x next wnext from to owner' pl nexts mid none a rest st m books ax af at ex ef et =
+  makes s making x next wnext from to owner' pl nexts mid quiet a rest st m books ax af at ex ef et =
       let run = (runnable_as p lay w g b said k st.entry (s ∷ rest) st.answers m st.runnable).0 in
       places p lay w g b said k owner t (made_class s) (made_fields p s) x next wnext from to owner' pl (made_known p s making run)
       (made_sized p s making run) (made_no_pair p s making run) nexts
-      mid none a rest s st (record { runnable = run; makes = making }) refl refl m
+      mid quiet a rest s st (record { runnable = run; makes = making }) refl refl m
       (does_making p g k (record (g.mutator k) { register = st.entry; script = s ∷ rest }) s rest making) books
       (kinds_making s st.entry (g.mutator k).stack (suc g.count) making) (piled_making s st.entry (g.mutator k).stack making) ax af at ex ef et
 
@@ -86,8 +86,8 @@ module _ (p : Program) (lay : Constants) (w : Words) (g : Graph) (b : Book) (sai
       let et : a.to ≡ b.to k = st.to_is in
       let fits : b.from k + made_words p s ≤ b.to k = omega arith in
       makes s making (b.from k) b.next w.next (put b.from k (b.from k + made_words p s)) b.to _ (bump_place (made_words p s) (omega arith) fits) t.words Idle
-      (λ y e. e)
-      (before a s rest) rest st st.at (books_making p b k s (suc g.count) _ making
+      tt
+      (before a s rest) rest st st.at (books_making p g b k s (suc g.count) _ making
       (is_small s rest st.entry st.answers st.at st.runnable, inl (record { room = fits; after = refl })))
       a.from (a.from + made_words p s) a.to ef (ap (λ x. x + made_words p s) ef ∙ sym (put-same b.from k _)) et
 
@@ -162,9 +162,9 @@ module _ (p : Program) (lay : Constants) (w : Words) (g : Graph) (b : Book) (sai
         | inl e ↦ put-at w.next f _ j e ∙ sym (ap byte_at (put-at b.next f (b.next f + take) j e))
         | inr o ↦ put-other w.next f _ j o ∙ t.words j q ∙ sym (ap byte_at (put-other b.next f (b.next f + take) j o))
       ])
-      (Claim s f (b.next f)) (λ y e. e)
+      (Claim s f (b.next f)) tt
       (within a rest (Claim s f (b.next f))) rest st st.at.4
-      (books_making p b k s (suc g.count) _ st.at.0 (
+      (books_making p g b k s (suc g.count) _ st.at.0 (
         is_small s rest st.entry st.answers st.at.4 st.runnable,
         inr (
           f,

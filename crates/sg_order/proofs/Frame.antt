@@ -15,7 +15,7 @@ use Rattle.sg_graph.specs.Graph.{Entry, Ref, Int, Inner, Mutator, Graph}
 use Rattle.sg_program.specs.Tests.{Test}
 use Rattle.sg_graph.specs.Book.{Book, word_of}
 use Rattle.sg_graph.specs.Epoch.{by_address}
-use Rattle.sg_rules.specs.Rules.{Constants, StackWord, Mid, Idle, TestTag, TestLength, Access, AccessGlobal, Look, Claim, StoreLength, StoreTag, HideLength, Ask, Left, Yielded, Actor}
+use Rattle.sg_rules.specs.Rules.{Constants, StackWord, Mid, Idle, TestTag, TestLength, Access, MarkCard, AccessGlobal, Look, Claim, StoreLength, StoreTag, HideLength, Ask, Left, Yielded, Actor}
 use Rattle.sg_order.specs.Rest.{kinds_in}
 use Rattle.sg_rules.specs.Resting.{IsRunnable}
 use Rattle.sg_order.specs.Rest.{StandsAt}
@@ -117,7 +117,7 @@ stack_later w g b v h c known stands address size (x ∷ xs) (y ∷ ys) q = (
 )
 
 module _ (p : Program) (lay : Constants) (w : Words) (g : Graph) (b : Book) (said : ℕ → List Answer) (v : Words) (h : Graph) (c : Book)
-    (said' : ℕ → List Answer) (k j : ℕ) (l : Later w g b said v h c said' k) (n : j ≢ k) where
+    (said' : ℕ → List Answer) (k j : ℕ) (l : Later p w g b said v h c said' k) (n : j ≢ k) where
   -- the same, at another graph
   moved : (register : ℕ → Entry) (script : List Statement) (answers : List Answer) → IsMutator g said j register script answers →
       IsMutator h said' j register script answers
@@ -207,6 +207,7 @@ module _ (p : Program) (lay : Constants) (w : Words) (g : Graph) (b : Book) (sai
     moved _ _ _ m.2,
   )
   mid_later entry answers rest (Access s) q m = (m.0, tested entry s m.0 q m.1, moved _ _ _ m.2)
+  mid_later entry answers rest (MarkCard s card) q m = (m.0, moved _ _ _ m.1)
   mid_later entry answers rest (AccessGlobal s) q m = (m.0, moved _ _ _ m.1)
   mid_later entry answers rest (Look s f) q m = (m.0, m.1, tight _ f m.2, moved _ _ _ m.3)
   mid_later entry answers rest (Claim s f next) q m = (m.0, m.1, tight _ f m.2, m.3, moved _ _ _ m.4, (let r = l.next f in let n = m.5 in omega arith), m.6)

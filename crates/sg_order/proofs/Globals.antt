@@ -15,7 +15,7 @@ use Rattle.sg_graph.specs.Graph.{Entry, Ref, Graph}
 use Rattle.sg_graph.specs.Statements.{name_in}
 use Rattle.sg_graph.specs.Book.{Book, word_of}
 use Rattle.sg_graph.specs.Heap.{Owner, IsKnown, IsKnownEntry, layout_of}
-use Rattle.sg_rules.specs.Rules.{Constants, Idle, AccessGlobal, Actor, before, within, over, reference_answer, global_word, IsGlobal}
+use Rattle.sg_rules.specs.Rules.{Constants, Mid, Idle, AccessGlobal, Actor, before, within, over, reference_answer, global_word, IsGlobal}
 use Rattle.sg_rules.specs.Resting.{IsRunnable}
 use Rattle.sg_order.specs.Rest.{kind_of_entry, StandsAt}
 use Rattle.sg_words.proofs.Puts.{put-at, put-other, put-along}
@@ -63,7 +63,7 @@ module _ (p : Program) (lay : Constants) (w : Words) (g : Graph) (b : Book) (sai
       | inr o ↦ subst (IsKnown (put w.word at val) g b) (sym (put-other g.global x n y o)) (known_on (g.global y) (t.laid.globals.known y l))
     ]
 
-    later_on : Later w g b said (write w (Word at) val) (record g { global = put g.global x n }) b said k
+    later_on : Later p w g b said (write w (Word at) val) (record g { global = put g.global x n }) b said k
     later_on = record {
       stands = λ m q. q;
       known = known_on;
@@ -73,6 +73,9 @@ module _ (p : Program) (lay : Constants) (w : Words) (g : Graph) (b : Book) (sai
       next = λ f. le_refl _;
       limit = λ f. refl;
       length_word = λ m q z e. off m (b.address m + 1) q (omega arith) ∙ e;
+      owed = refl;
+      zeros = λ y l none e. put-other w.word at val y (λ q. absurd (omega arith)) ∙ e;
+      dirty = λ y e. e;
       mutator = λ j o. refl;
       says = λ j o. refl;
       from = λ j o. refl;
@@ -94,9 +97,18 @@ module _ (p : Program) (lay : Constants) (w : Words) (g : Graph) (b : Book) (sai
           known = global_known;
           empty = λ y l m. put-other w.word at val y (λ e. absurd (omega arith)) ∙ t.laid.globals.empty y l m;
         };
-        clear = record { clear = λ y l m none. put-other w.word at val y (λ e. absurd (omega arith)) ∙ t.laid.clear.clear y l m none };
+        clear = record {
+          large = λ y l m. put-other w.word at val y (λ e. absurd (omega arith)) ∙ t.laid.clear.large y l m;
+          clear = λ y l m none. put-other w.word at val y (λ e. absurd (omega arith)) ∙ t.laid.clear.clear y l m none;
+        };
         fragments = t.laid.fragments;
         buffers = t.laid.buffers;
+      };
+      blocks = record {
+        placed = t.blocks.placed;
+        each = t.blocks.each;
+        clear = λ c l y q r none clean. put-other w.word at val y (λ e. absurd (omega arith)) ∙ t.blocks.clear c l y q r none clean;
+        sized = t.blocks.sized;
       };
       plain = record { links = t.plain.links; registered = t.plain.registered; ready = t.plain.ready; pairs = t.plain.pairs };
       number = t.number;
@@ -104,15 +116,15 @@ module _ (p : Program) (lay : Constants) (w : Words) (g : Graph) (b : Book) (sai
       words = t.words;
     }
 
-    pub global_stored : Change p lay w g b said k (write w (Word (globals_base (layout_of p) + x)) (byte_at (b.address n)))
+    pub global_stored : {after : Mid} → Change p lay w g b said k after (write w (Word (globals_base (layout_of p) + x)) (byte_at (b.address n)))
         (record g { global = put g.global x n }) b
-    global_stored = record { owner = owner; later = later_on; ground = ground_on; mutators = refl }
+    global_stored = record { owner = owner; later = later_on; needs = λ y q. inl q; ground = ground_on; mutators = refl }
 
   module _ (a : Actor) (rest : List Statement) where
     -- the load of the stop word of a statement with a global
     pub begins_global : (s : Statement) → IsGlobal s → Stands p lay w g b said k (before a s rest) →
         Kept p lay w g b said k Idle false w (within a rest (AccessGlobal s))
-    begins_global s is st = still p lay w g b said k _ (λ x e. e) owner t _ (again p lay w g b said k _ st rest (AccessGlobal s) (is, st.at))
+    begins_global s is st = still p lay w g b said k _ tt owner t _ (again p lay w g b said k _ st rest (AccessGlobal s) (is, st.at))
 
     -- the statement with a global is run
     pub runs_global : (s : Statement) → Stands p lay w g b said k (within a rest (AccessGlobal s)) → IsRunnable p s
@@ -130,7 +142,7 @@ module _ (p : Program) (lay : Constants) (w : Words) (g : Graph) (b : Book) (sai
         let known : IsKnown w.word g b target.0 = subst (IsKnownEntry w.word g b) target.1 (st.known r) in
         subst (λ z. Kept p lay w g b said k (AccessGlobal (GPut x r)) true (write w (Word (global_word p x)) z) (over a rest a.reg Fine))
         (sym (st.regs r ∙ ap (word_of b.address) target.1))
-        (decided p lay w g b said k _ (λ x e. e) (write w (Word (global_word p x)) (byte_at (b.address target.0)))
+        (decided p lay w g b said k _ tt (write w (Word (global_word p x)) (byte_at (b.address target.0)))
         (record g { global = put g.global x target.0 }) (global_stored x target.0 there known) _ (GPut x r) rest st st.entry Fine a.reg Fine st.at.1
         ((target.0, target.1), ap (λ e. handed (record g { global = put g.global x (name_in e) }) k rest st.entry) (sym target.1))
         refl st.regs (λ q. entry_on x target.0 there known (st.entry q) (st.known q)) st.offsets refl tt (λ q. refl) refl)
@@ -148,7 +160,7 @@ module _ (p : Program) (lay : Constants) (w : Words) (g : Graph) (b : Book) (sai
         let offsets = offsets_put g b a.offset st.entry r (Ref n) (λ o. known.0) st.offsets in
         let kinds = put-along kind_of_entry (λ r. kind_of_entry (st.entry r)) st.entry r IsRef (Ref n) (λ r. refl) refl in
         elim (cases_eq n 0) [
-          | inl z ↦ decided p lay w g b said k _ (λ x e. e) w g (unchanged p lay w g b said k owner t) _ (GGet r x) rest st (put st.entry r (Ref 0)) Nil
+          | inl z ↦ decided p lay w g b said k _ tt w g (unchanged p lay w g b said k owner t) _ (GGet r x) rest st (put st.entry r (Ref 0)) Nil
               (put a.reg r v) (reference_answer v) st.at.1
               (z, refl) refl
               (subst (λ m. (q : ℕ) → put a.reg r v q ≡ word_of b.address (put st.entry r (Ref m) q)) z regs)
@@ -156,7 +168,7 @@ module _ (p : Program) (lay : Constants) (w : Words) (g : Graph) (b : Book) (sai
               (subst (λ m. (q : ℕ) → StandsAt g b (a.offset q) (put st.entry r (Ref m) q)) z offsets)
               (cond-true _ _ _ (eq-eqb v 0 (ev ∙ ap (λ m. byte_at (b.address m)) z ∙ (let u = t.laid.nothing.at_nil in omega arith)))) tt
               (subst (λ m. (q : ℕ) → put (λ r. kind_of_entry (st.entry r)) r IsRef q ≡ kind_of_entry (put st.entry r (Ref m) q)) z kinds) refl
-          | inr z ↦ decided p lay w g b said k _ (λ x e. e) w g (unchanged p lay w g b said k owner t) _ (GGet r x) rest st (put st.entry r (Ref n))
+          | inr z ↦ decided p lay w g b said k _ tt w g (unchanged p lay w g b said k owner t) _ (GGet r x) rest st (put st.entry r (Ref n))
               (At n) (put a.reg r v) (reference_answer v) st.at.1
               ((refl, z), refl) refl regs holds offsets
               (cond-false _ _ _ (ne_eqb v 0 (λ q. z (name_nil p lay w g b said k owner t n known.0 (omega arith)))) ∙ ap At ev) known.0 kinds refl

@@ -48,14 +48,15 @@ module _ (p : Program) (lay : Constants) (w : Words) (g : Graph) (b : Book) (sai
       ) in
       let entry : (e : Entry) → IsKnownEntry w.word g b e →
       IsKnownEntry (put w.word (x + 1) val) g b e = λ e. entry_later w g b (write w (Word (x + 1)) val) g b e known in
-      silent p lay w g b said k (StoreLength s x) (write w (Word (x + 1)) val) g b (record {
+      silent p lay w g b said k (StoreLength s x) (write w (Word (x + 1)) val) g b (within a rest (StoreTag s x)) (record {
         owner = owner;
         later = later_stored p lay w g b said k owner t new (x + 1) val m.stands from to g.field known length;
         ground = ground_stored p lay w g b said k owner t new (x + 1) val m.stands from to g.field known
             (fields_off p lay w g b said k owner t new (x + 1) val m.stands from to (omega arith))
             (λ o i q l. entry (g.field o i) (t.laid.fields.known o i q l)) t.laid.fields.sorted;
+        needs = λ o q. inl q;
         mutators = refl;
-      }) refl refl _ (record { begun = λ o q. inl q; done = λ o q e. inr e }) (record {
+      }) refl refl (record { begun = λ o q. inl q; done = λ o q e. inr e }) (λ o m. absurd m) (record {
         entry = st.entry;
         answers = st.answers;
         regs = st.regs;
@@ -108,18 +109,19 @@ module _ (p : Program) (lay : Constants) (w : Words) (g : Graph) (b : Book) (sai
       ) in
       let known_new : IsKnown (put w.word x val) g b new = (m.stands, inr head_new) in
       let entry : (e : Entry) → IsKnownEntry w.word g b e → IsKnownEntry (put w.word x val) g b e = λ e. entry_later w g b (write w (Word x) val) g b e known in
-      silent p lay w g b said k (StoreTag s x) (write w (Word x) val) g b (record {
+      silent p lay w g b said k (StoreTag s x) (write w (Word x) val) g b (over a rest (put a.reg (made_in s) (byte_at x)) (At (byte_at x))) (record {
         owner = owner;
         later = later_stored p lay w g b said k owner t new x val m.stands from to g.field known
             (λ o q e. length_off p lay w g b said k owner t new x val m.stands from to off o q ∙ e);
         ground = ground_stored p lay w g b said k owner t new x val m.stands from to g.field known
             (fields_off p lay w g b said k owner t new x val m.stands from to (omega arith))
             (λ o i q l. entry (g.field o i) (t.laid.fields.known o i q l)) t.laid.fields.sorted;
+        needs = λ o q. inl q;
         mutators = refl;
-      }) refl refl _ (record {
+      }) refl refl (record {
         begun = λ o q. inl q;
         done = λ o q e. inl (subst (λ i. IsHeaded (put w.word x val) g b i) (sym (there o (b.address o) q (omega arith) (omega arith) e)) head_new);
-      }) (record {
+      }) (λ o m. absurd m) (record {
         entry = put st.entry (made_in s) (Ref new);
         answers = st.answers ++ At new ∷ [];
         regs = put-along (word_of b.address) a.reg st.entry (made_in s) (byte_at x) (Ref new) st.regs (ap byte_at (sym at));

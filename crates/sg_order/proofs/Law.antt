@@ -14,7 +14,10 @@ use Rattle.sg_graph.specs.Book.{Book, empty_book, word_of, Young, Old, nursery_e
 use Rattle.sg_words.specs.Sections.{nursery_base}
 use Rattle.sg_graph.specs.Epoch.{by_address}
 use Rattle.sg_words.specs.Lists.{Pairwise}
-use Rattle.sg_graph.specs.Heap.{Owner, Of, Frag, Nobody, IsKnownEntry, IsHeap}
+use Rattle.sg_graph.specs.Heap.{Owner, Of, Frag, Nobody, IsKnownEntry, IsHeap, layout_of}
+use Rattle.sg_graph.specs.Blocks.{AreBlocks, AreSettled}
+use Rattle.sg_words.specs.Blocks.{card_of, IsOf, IsOwing}
+use Rattle.sg_words.specs.declared.steps.BlockWord.TheVariants.{Free, Swept, Sweeping}
 use Rattle.sg_rules.specs.Rules.{Constants, StackWord, Mid, Claim, Left, Actor, fresh}
 use Rattle.sg_order.specs.Rest.{Holds, IsReady, IsHeld, IsEpochOpening, before_it, IsOver, kinds_in}
 use Rattle.sg_rules.specs.Resting.{IsRunnable}
@@ -24,7 +27,7 @@ use Rattle.sg_order.specs.OneOrder.{HasPrepared, OneOrder}
 use Rattle.sg_words.proofs.Puts.{within_range, range-in, range-below}
 use Rattle.sg_order.proofs.Events.{range-was}
 use Rattle.sg_order.proofs.Cases.{by_making}
-use Rattle.sg_order.proofs.Relation.{Ground, IsMutator, Tight, AsksForRoom, AtMid, Stacked, Stands, WritesHeader, World}
+use Rattle.sg_order.proofs.Relation.{Ground, IsMutator, Tight, AsksForRoom, AtMid, Stacked, Stands, WritesHeader, IsNeeded, Marks, World}
 use Rattle.sg_order.proofs.Loads.{same_object}
 use Rattle.sg_order.proofs.Stopping.{wanted_so, wanted_at_opening}
 use Rattle.sg_order.proofs.Whole.{one_by_one}
@@ -34,7 +37,14 @@ pub at_opening : (p : Program) (lay : Constants) (w : Words) (g : Graph) (b : Bo
     World p lay w g b (λ _. []) actors
 at_opening p lay w g b actors o = record {
   owner = o.held.owner;
-  ground = record { laid = o.held.heap.laid; plain = o.held.plain; number = o.held.number; limits = o.held.limits; words = o.held.nexts };
+  ground = record {
+    laid = o.held.heap.laid;
+    blocks = o.held.settled.blocks;
+    plain = o.held.plain;
+    number = o.held.number;
+    limits = o.held.limits;
+    words = o.held.nexts;
+  };
   stands = λ k. let ready = o.ready k in record {
     entry = (g.mutator k).register;
     answers = [];
@@ -52,6 +62,9 @@ at_opening p lay w g b actors o = record {
     runnable = subst (λ script. AllByRecursion (IsRunnable p) script) (sym ready.script_is) ready.runnable;
   };
   headed = λ n l q. inl (o.held.heap.headed n l q);
+  resting = record { settled = o.held.settled.settled; inhabited = o.held.settled.inhabited; owes = o.held.settled.owes };
+  carded = λ card q. inl (subst (λ x. w.card x ≡ 1) q.at
+      (o.held.settled.cards.dirty q.name q.index q.target q.some q.standing q.old q.inside q.strong q.refers q.one q.young));
 }
   where
     a_offset : ℕ → ℕ → ℕ
@@ -157,6 +170,16 @@ over_makes_none x mid over = elim over [
   ]
 ]
 
+-- nor marks a card
+over_marks_none : (card : ℕ) (mid : Mid) → IsOver mid → Marks card mid → ⊥
+over_marks_none card mid over = elim over [
+  | inl e ↦ subst (λ mid. Marks card mid → ⊥) (sym e) (λ m. m)
+  | inr gone ↦ elim gone [
+    | inl e ↦ subst (λ mid. Marks card mid → ⊥) (sym e.1) (λ m. m)
+    | inr e ↦ subst (λ mid. Marks card mid → ⊥) (sym e) (λ m. m)
+  ]
+]
+
 -- where all are over, the words hold the graph
 pub held_at_rest : (p : Program) (lay : Constants) (w : Words) (g : Graph) (b : Book) (said : ℕ → List Answer) (actors : ℕ → Actor) →
     World p lay w g b said actors → ((k : ℕ) → IsOver (actors k).mid) → IsHeld p lay w g b
@@ -165,6 +188,33 @@ held_at_rest p lay w g b said actors wo over = record {
   heap = record {
     laid = wo.ground.laid;
     headed = λ n l q. elim (wo.headed n l q) [ inl h ↦ h | inr m ↦ absurd (over_makes_none (b.address n) (actors m.0).mid (over m.0) m.1) ];
+  };
+  settled = record {
+    blocks = wo.ground.blocks;
+    settled = wo.resting.settled;
+    inhabited = wo.resting.inhabited;
+    owes = wo.resting.owes;
+    cards = record {
+      dirty = λ n i m some standing old inside strong refers one young.
+          let need : IsNeeded p g b (card_of (layout_of p) (b.address n + 2 + i)) = record {
+            name = n;
+            index = i;
+            target = m;
+            some = some;
+            standing = standing;
+            old = old;
+            inside = inside;
+            strong = strong;
+            refers = refers;
+            one = one;
+            young = young;
+            at = refl;
+          } in
+          elim (wo.carded (card_of (layout_of p) (b.address n + 2 + i)) need) [
+            | inl dirty ↦ dirty
+            | inr j ↦ absurd (over_marks_none (card_of (layout_of p) (b.address n + 2 + i)) (actors j.0).mid (over j.0) j.1)
+          ];
+    };
   };
   plain = wo.ground.plain;
   number = wo.ground.number;
@@ -241,8 +291,6 @@ module _ (p : Program) (lay : Constants) (w : Words) (scripts : AreFirstScripts 
         owns = owns_nil;
         owned = owned_nil;
         inside = λ n l q. let e = nil n q in absurd (omega arith);
-        filled = (le_refl _, omega arith);
-        packed = λ x l r. absurd (omega arith);
       };
       fields = record {
         holds = λ n i q l. absurd (omega arith);
@@ -254,7 +302,7 @@ module _ (p : Program) (lay : Constants) (w : Words) (scripts : AreFirstScripts 
         known = λ x l. (refl, inl refl);
         empty = λ x l r. opening.word x;
       };
-      clear = record { clear = λ x l r none. opening.word x };
+      clear = record { large = λ x l r. opening.word x; clear = λ x l r none. opening.word x };
       fragments = record {
         owns = owns_frag;
         inside = λ f l. (le_refl _, omega arith, le_refl _);
@@ -268,12 +316,38 @@ module _ (p : Program) (lay : Constants) (w : Words) (scripts : AreFirstScripts 
     headed = λ n l q. let e = nil n q in absurd (omega arith);
   }
 
+  -- all blocks are free
+  first_blocks : AreBlocks p w.marks w.block w.used w.word (no_objects p).size (empty_book p).stands (empty_book p).address (empty_book p).section
+      (empty_book p).owed (first_owner p)
+  first_blocks = record {
+    placed = λ n l q. let e = nil n q in absurd (omega arith);
+    each = λ c l. record {
+      filled = λ s i o. absurd (subst (λ state. IsOf state s) (opening.block c) o);
+      bare = λ e. opening.used c;
+      owing = λ s o. absurd (subst (λ state. IsOwing state s) (opening.block c) o);
+      kept = λ s i o. absurd (subst (λ state. IsOwing state s) (opening.block c) o);
+    };
+    clear = λ c l x q r none clean. opening.word x;
+    sized = λ c s l o. absurd (subst (λ state. IsOf state s) (opening.block c) o);
+  }
+
+  -- and no card is needed
+  first_settled : AreSettled p w (no_objects p) (empty_book p) (first_owner p)
+  first_settled = record {
+    blocks = first_blocks;
+    settled = λ c s l e. let q : Free ≡ Sweeping s = sym (opening.block c) ∙ e in cc;
+    inhabited = λ c s l e. let q : Free ≡ Swept s = sym (opening.block c) ∙ e in cc;
+    owes = λ c l e. cc;
+    cards = record { dirty = λ n i m l q. let e = nil n q in absurd (omega arith) };
+  }
+
   -- the first epoch of a program
   first_opening : IsEpochOpening p lay w (no_objects p) (empty_book p) (λ k. fresh (script_of p k))
   first_opening = record {
     held = record {
       owner = first_owner p;
       heap = first_heap;
+      settled = first_settled;
       plain = record {
         links = λ n. refl;
         registered = refl;

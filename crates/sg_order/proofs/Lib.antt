@@ -7,6 +7,7 @@ pub mod Moves
 pub mod Loads
 pub mod Registers
 pub mod Accesses
+pub mod Cards
 pub mod Makes
 pub mod Globals
 pub mod Places

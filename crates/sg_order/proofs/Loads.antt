@@ -1,5 +1,5 @@
 -- Each rule by which a mutator goes on keeps the relation: the rules that change no word.
-use Rattle.std.proofs.Common.{◌≡◌, ◌≢◌, ℕ, ◌+◌, ◌<◌, ◌≤◌, true, false, Option, Some, None, List, ◌∷◌, map, inl, inr, sym, refl, ap, ◌∙◌, subst, le_refl, zero-le, nat_lt, Bool, arith}
+use Rattle.std.proofs.Common.{◌≡◌, ◌≢◌, ℕ, ◌+◌, ◌<◌, ◌≤◌, true, false, Option, Some, None, List, ◌∷◌, map, inl, inr, sym, refl, ap, ◌∙◌, subst, zero-le, nat_lt, Bool, arith}
 use Rattle.std.proofs.lemmas.Bool.{cases_eq, cases_lt, cond-true, cond-false, lt-ltb, le-ltb}
 use Rattle.sg_words.specs.Address.{byte_at, word_at}
 use Rattle.sg_words.specs.Sections.{nursery_base}
@@ -23,9 +23,9 @@ use Rattle.sg_rules.specs.Rules.{Constants, Mid, Idle, TestTag, TestLength, Acce
 use Rattle.sg_order.specs.Rest.{kind_of_entry}
 use Rattle.sg_order.specs.Rest.{StandsAt}
 use Rattle.sg_words.proofs.Puts.{put-all, put-along}
-use Rattle.sg_order.proofs.Relation.{Ground, IsMutator, Tight, AsksForRoom, AtMid, Stands, Later, Kept}
+use Rattle.sg_order.proofs.Relation.{Ground, IsMutator, Tight, AsksForRoom, AtMid, Stands, Kept}
 use Rattle.sg_order.proofs.Cases.{by_test, by_making}
-use Rattle.sg_order.proofs.Moves.{kinds_of, offsets_put, unchanged, still, no_heads, again, fits_as, decided}
+use Rattle.sg_order.proofs.Moves.{kinds_of, offsets_put, unchanged, silent, still, no_heads, ground_aside, later_aside, again, fits_as, decided}
 
 -- the word at the byte address of a word
 pub word_at-byte_at : (x : ℕ) → word_at (byte_at x) ≡ x
@@ -94,11 +94,11 @@ does_field p g k m s rest test e = by_test
     (λ s. Misses p g m s → Does p g k m s rest Field (advanced g k (record m { register = emptied s m.register }) rest)) (λ r i s f. (f, refl))
     (λ d r i f. (f, refl)) (λ r i s f. (f, refl)) (λ d r i f. (f, refl)) s test e
 
-books_null : (p : Program) (b : Book) (k : ℕ) (s : Statement) (test : Test) → test_of s ≡ Some test → Books p b k s Null b
-books_null p b k s test e = by_test (λ s. Books p b k s Null b) (λ r i s. refl) (λ d r i. refl) (λ r i s. refl) (λ d r i. refl) s test e
+books_null : (p : Program) (g : Graph) (b : Book) (k : ℕ) (s : Statement) (test : Test) → test_of s ≡ Some test → Books p g b k s Null b
+books_null p g b k s test e = by_test (λ s. Books p g b k s Null b) (λ r i s. refl) (λ d r i. refl) (λ r i s. refl) (λ d r i. refl) s test e
 
-books_field : (p : Program) (b : Book) (k : ℕ) (s : Statement) (test : Test) → test_of s ≡ Some test → Books p b k s Field b
-books_field p b k s test e = by_test (λ s. Books p b k s Field b) (λ r i s. refl) (λ d r i. refl) (λ r i s. refl) (λ d r i. refl) s test e
+books_field : (p : Program) (g : Graph) (b : Book) (k : ℕ) (s : Statement) (test : Test) → test_of s ≡ Some test → Books p g b k s Field b
+books_field p g b k s test e = by_test (λ s. Books p g b k s Field b) (λ r i s. refl) (λ d r i. refl) (λ r i s. refl) (λ d r i. refl) s test e
 
 -- who finds no room asks
 to_ask : (p : Program) (lay : Constants) (b : Book) (k : ℕ) (s : Statement) → IsMaking s → Tight b k (made_words p s) lay.fragments → AsksForRoom p lay b k s
@@ -183,10 +183,10 @@ module _ (p : Program) (lay : Constants) (w : Words) (g : Graph) (b : Book) (sai
         Kept p lay w g b said k Idle true w (over a rest (cleared s a.reg) Null)
     nulls s test e z st =
         let n = tested_name s test st e in
-        decided p lay w g b said k _ (λ x e. e) w g (unchanged p lay w g b said k owner t) _ s rest st (emptied s st.entry) Null (cleared s a.reg) Null st.at
+        decided p lay w g b said k _ tt w g (unchanged p lay w g b said k owner t) _ s rest st (emptied s st.entry) Null (cleared s a.reg) Null st.at
         (does_null p g k (record (g.mutator k) { register = st.entry; script = s ∷ rest }) s rest test e
         (record { test = test; tests = e; holds = n.1 ∙ ap Ref (is_nil _ st test.register n.0 n.1 z) }))
-        (books_null p b k s test e) (regs_emptied _ st s test e) (known_emptied _ st s test e) (offsets_emptied _ st s test e) refl tt
+        (books_null p g b k s test e) (regs_emptied _ st s test e) (known_emptied _ st s test e) (offsets_emptied _ st s test e) refl tt
         (kinds_emptied s test e st.entry (g.mutator k).stack) (kinds_piled s test e st.entry (g.mutator k).stack)
 
     -- the load of the stop word of a statement with a test
@@ -194,7 +194,7 @@ module _ (p : Program) (lay : Constants) (w : Words) (g : Graph) (b : Book) (sai
         Kept p lay w g b said k Idle false w (within a rest (TestTag s test))
     begins s test e z st =
         let n = tested_name s test st e in
-        still p lay w g b said k _ (λ x e. e) owner t _ (again p lay w g b said k _ st rest (TestTag s test)
+        still p lay w g b said k _ tt owner t _ (again p lay w g b said k _ st rest (TestTag s test)
         (record { tests = e; name = n.0; holds = n.1; some = not_nil _ st test.register n.0 n.1 z }, st.at))
 
     -- the load of the tag
@@ -205,7 +205,7 @@ module _ (p : Program) (lay : Constants) (w : Words) (g : Graph) (b : Book) (sai
         let n = st.at.0 in
         let is = tag_says n.name class n.some (known_at _ st test.register n.name n.holds)
         (ap w.word (sym (object_at _ st test.register n.name n.holds)) ∙ c) in
-        still p lay w g b said k _ (λ x e. e) owner t _ (again p lay w g b said k _ st rest (TestLength s test class) (n, is, st.at.1))
+        still p lay w g b said k _ tt owner t _ (again p lay w g b said k _ st rest (TestLength s test class) (n, is, st.at.1))
 
     -- what the header says of the field
     field_says : (s : Statement) (test : Test) (class len : ℕ) (has : Bool) → has_field test.sort (kind_of p class) len test.field ≡ has →
@@ -226,7 +226,7 @@ module _ (p : Program) (lay : Constants) (w : Words) (g : Graph) (b : Book) (sai
         Kept p lay w g b said k (TestLength s test class) false w (within a rest (Access s))
     sees_length s test class len f l st =
         let n = st.at.0 in
-        still p lay w g b said k _ (λ x e. e) owner t _ (again p lay w g b said k _ st rest (Access s)
+        still p lay w g b said k _ tt owner t _ (again p lay w g b said k _ st rest (Access s)
         (test, record { tests = n.tests; name = n.name; holds = n.holds; some = n.some; finds = field_says s test class len true f l st }, st.at.2))
 
     -- or there is none, which decides the statement
@@ -237,22 +237,22 @@ module _ (p : Program) (lay : Constants) (w : Words) (g : Graph) (b : Book) (sai
     fails s test class len f l st =
         let n = st.at.0 in
         let e = n.tests in
-        decided p lay w g b said k _ (λ x e. e) w g (unchanged p lay w g b said k owner t) _ s rest st (emptied s st.entry) Field
+        decided p lay w g b said k _ tt w g (unchanged p lay w g b said k owner t) _ s rest st (emptied s st.entry) Field
         (cleared s a.reg) Field st.at.2
         (does_field p g k (record (g.mutator k) { register = st.entry; script = s ∷ rest }) s rest test e
         (record { test = test; tests = e; name = n.name; holds = n.holds; some = n.some; misses = field_says s test class len false f l st }))
-        (books_field p b k s test e) (regs_emptied _ st s test e) (known_emptied _ st s test e) (offsets_emptied _ st s test e) refl tt
+        (books_field p g b k s test e) (regs_emptied _ st s test e) (known_emptied _ st s test e) (offsets_emptied _ st s test e) refl tt
         (kinds_emptied s test e st.entry (g.mutator k).stack) (kinds_piled s test e st.entry (g.mutator k).stack)
 
     pub sets_number : (d n : ℕ) → Stands p lay w g b said k (before a (Num d n) rest) → Kept p lay w g b said k Idle true w (over a rest (put a.reg d n) Fine)
-    sets_number d n st = decided p lay w g b said k _ (λ x e. e) w g (unchanged p lay w g b said k owner t) _ (Num d n) rest st (put st.entry d (Int n)) Fine
+    sets_number d n st = decided p lay w g b said k _ tt w g (unchanged p lay w g b said k owner t) _ (Num d n) rest st (put st.entry d (Int n)) Fine
         (put a.reg d n) Fine st.at
         (tt, refl) refl (put-along (word_of b.address) a.reg st.entry d n (Int n) st.regs refl) (known_put _ st d (Int n) tt)
         (offsets_put g b a.offset st.entry d (Int n) (λ o. tt) st.offsets) refl tt
         (put-along kind_of_entry (λ r. kind_of_entry (st.entry r)) st.entry d IsInt (Int n) (λ r. refl) refl) refl
 
     pub clears : (r : ℕ) → Stands p lay w g b said k (before a (Drop r) rest) → Kept p lay w g b said k Idle true w (over a rest (put a.reg r 0) Fine)
-    clears r st = decided p lay w g b said k _ (λ x e. e) w g (unchanged p lay w g b said k owner t) _ (Drop r) rest st (put st.entry r (Ref 0)) Fine
+    clears r st = decided p lay w g b said k _ tt w g (unchanged p lay w g b said k owner t) _ (Drop r) rest st (put st.entry r (Ref 0)) Fine
         (put a.reg r 0) Fine st.at
         (tt, refl) refl (put-along (word_of b.address) a.reg st.entry r 0 (Ref 0) st.regs word_nil) (known_put _ st r (Ref 0) known_nil)
         (offsets_put g b a.offset st.entry r (Ref 0) (λ o. t.laid.nothing.stands_nil) st.offsets) refl tt
@@ -273,7 +273,7 @@ module _ (p : Program) (lay : Constants) (w : Words) (g : Graph) (b : Book) (sai
     -- the search for a fragment
     pub searches : (s : Statement) → IsMaking s → a.to < a.from + made_words p s → Stands p lay w g b said k (before a s rest) →
         Kept p lay w g b said k Idle false w (within a rest (looking lay s 0))
-    searches s making l st = still p lay w g b said k _ (λ x e. e) owner t _ (again p lay w g b said k _ st rest (looking lay s 0)
+    searches s making l st = still p lay w g b said k _ tt owner t _ (again p lay w g b said k _ st rest (looking lay s 0)
         (looks_on s 0 making zero-le (record {
           short = (let x = st.from_is in let y = st.to_is in omega arith);
           below = λ j h. absurd
@@ -295,7 +295,7 @@ module _ (p : Program) (lay : Constants) (w : Words) (g : Graph) (b : Book) (sai
 
     pub finds_room : (s : Statement) (f next : ℕ) → next + made_words p s ≤ lay.limit f → w.next f ≡ byte_at next → Stands p lay w g b said k (within a rest (Look s f)) →
         Kept p lay w g b said k (Look s f) false w (within a rest (Claim s f next))
-    finds_room s f next l e st = still p lay w g b said k _ (λ x e. e) owner t _ (again p lay w g b said k _ st rest (Claim s f next)
+    finds_room s f next l e st = still p lay w g b said k _ tt owner t _ (again p lay w g b said k _ st rest (Claim s f next)
         (st.at.0, st.at.1, st.at.2, l, st.at.3, (let z = seen_is f next st.at.1 e in omega arith), seen_in f next st.at.1 e))
 
     -- one more fragment is too small, by the word that was seen
@@ -315,69 +315,49 @@ module _ (p : Program) (lay : Constants) (w : Words) (g : Graph) (b : Book) (sai
     pub finds_small : (s : Statement) (f next : ℕ) → lay.limit f < next + made_words p s → w.next f ≡ byte_at next →
         Stands p lay w g b said k (within a rest (Look s f)) →
         Kept p lay w g b said k (Look s f) false w (within a rest (looking lay s (f + 1)))
-    finds_small s f next l e st = still p lay w g b said k _ (λ x e. e) owner t _ (again p lay w g b said k _ st rest (looking lay s (f + 1))
+    finds_small s f next l e st = still p lay w g b said k _ tt owner t _ (again p lay w g b said k _ st rest (looking lay s (f + 1))
         (looks_on s (f + 1) st.at.0 (let u = st.at.1 in omega arith) (tighter (made_words p s) f next st.at.1 e l st.at.2) st.entry st.answers st.at.3))
 
     -- a claim that is lost: the word that was found leaves room in the same fragment, or it doesn't
     pub claims_again : (s : Statement) (f seen next : ℕ) → next + made_words p s ≤ lay.limit f → w.next f ≡ byte_at next → Stands p lay w g b said k (within a rest (Claim s f seen)) →
         Kept p lay w g b said k (Claim s f seen) false w (within a rest (Claim s f next))
-    claims_again s f seen next l e st = still p lay w g b said k _ (λ x e. e) owner t _ (again p lay w g b said k _ st rest (Claim s f next)
+    claims_again s f seen next l e st = still p lay w g b said k _ tt owner t _ (again p lay w g b said k _ st rest (Claim s f next)
         (st.at.0, st.at.1, st.at.2, l, st.at.4, (let z = seen_is f next st.at.1 e in omega arith), seen_in f next st.at.1 e))
 
     pub claims_on : (s : Statement) (f seen next : ℕ) → lay.limit f < next + made_words p s → w.next f ≡ byte_at next → Stands p lay w g b said k (within a rest (Claim s f seen)) →
         Kept p lay w g b said k (Claim s f seen) false w (within a rest (looking lay s (f + 1)))
-    claims_on s f seen next l e st = still p lay w g b said k _ (λ x e. e) owner t _ (again p lay w g b said k _ st rest (looking lay s (f + 1))
+    claims_on s f seen next l e st = still p lay w g b said k _ tt owner t _ (again p lay w g b said k _ st rest (looking lay s (f + 1))
         (looks_on s (f + 1) st.at.0 (let u = st.at.1 in omega arith) (tighter (made_words p s) f next st.at.1 e l st.at.2) st.entry st.answers st.at.4))
 
     -- a collection
     pub wants : Stands p lay w g b said k (before a (Collect false) rest) → Kept p lay w g b said k Idle false w (within a rest (Ask (Collect false)))
-    wants st = still p lay w g b said k _ (λ x e. e) owner t _ (again p lay w g b said k _ st rest (Ask (Collect false)) (tt, st.at))
+    wants st = still p lay w g b said k _ tt owner t _ (again p lay w g b said k _ st rest (Ask (Collect false)) (tt, st.at))
 
     -- another one asks for a stop
     pub gives_way : (s : Statement) → Stands p lay w g b said k (before a s rest) → Kept p lay w g b said k Idle false w (within a (s ∷ rest) Yielded)
-    gives_way s st = still p lay w g b said k _ (λ x e. e) owner t _ (again p lay w g b said k _ st (s ∷ rest) Yielded st.at)
+    gives_way s st = still p lay w g b said k _ tt owner t _ (again p lay w g b said k _ st (s ∷ rest) Yielded st.at)
 
     -- the stop word is set: it enters into nothing
     pub leaves : (s : Statement) → Stands p lay w g b said k (within a rest (Ask s)) →
         Kept p lay w g b said k (Ask s) false (write w Stop 1) (within a rest (Left s))
-    leaves s st = record {
-      h = g;
-      c = b;
-      said' = said;
+    leaves s st = silent p lay w g b said k (Ask s) (write w Stop 1) g b (within a rest (Left s)) (record {
       owner = owner;
-      moves = (refl, refl, refl);
-      later = stopped_later;
-      heads = no_heads w g b (Ask s) (write w Stop 1) g b (Left s) (λ n q. q) (λ x e. e);
-      ground = record { laid = t.laid; plain = t.plain; number = t.number; limits = t.limits; words = t.words };
-      stands = record {
-        entry = st.entry;
-        answers = st.answers;
-        regs = st.regs;
-        known = st.known;
-        offsets = st.offsets;
-        stack = st.stack;
-        told = st.told;
-        given = st.given;
-        from_is = st.from_is;
-        to_is = st.to_is;
-        at = st.at;
-        fits = st.fits;
-        runnable = st.runnable;
-      };
-    }
-      where
-        stopped_later : Later w g b said (write w Stop 1) g b said k
-        stopped_later = record {
-          stands = λ n q. q;
-          known = λ n q. q;
-          address = λ n q. refl;
-          size = λ n q. refl;
-          class = λ n q. refl;
-          next = λ f. le_refl _;
-          limit = λ f. refl;
-          length_word = λ n q z e. e;
-          mutator = λ j n. refl;
-          says = λ j n. refl;
-          from = λ j n. refl;
-          to = λ j n. refl;
-        }
+      later = later_aside p w g b said k 1 w.card (λ x e. e);
+      needs = λ x q. inl q;
+      ground = ground_aside p lay w g b owner 1 w.card t;
+      mutators = refl;
+    }) refl refl (no_heads w g b (Ask s) (write w Stop 1) g b (Left s) (λ n q. q) tt) (λ x m. absurd m) (record {
+      entry = st.entry;
+      answers = st.answers;
+      regs = st.regs;
+      known = st.known;
+      offsets = st.offsets;
+      stack = st.stack;
+      told = st.told;
+      given = st.given;
+      from_is = st.from_is;
+      to_is = st.to_is;
+      at = st.at;
+      fits = st.fits;
+      runnable = st.runnable;
+    })

@@ -60,9 +60,9 @@ does_making p g k m s rest making =
     (advanced (grown p g k (made_class s) (made_fields p s)) k (record m { register = put m.register (made_in s) (Ref (suc g.count)) }) rest))
     (λ r class. (refl, refl)) (λ r class count. (refl, refl)) s making
 
-pub books_making : (p : Program) (b : Book) (k : ℕ) (s : Statement) (name : ℕ) (c : Book) → IsMaking s → IsPlaced p b k (made_words p s) name c →
-    Books p b k s (At name) c
-books_making p b k s name c making = by_making (λ s. IsPlaced p b k (made_words p s) name c → Books p b k s (At name) c) (λ r class q. q)
+pub books_making : (p : Program) (g : Graph) (b : Book) (k : ℕ) (s : Statement) (name : ℕ) (c : Book) → IsMaking s →
+    IsPlaced p b k (made_words p s) name c → Books p g b k s (At name) c
+books_making p g b k s name c making = by_making (λ s. IsPlaced p b k (made_words p s) name c → Books p g b k s (At name) c) (λ r class q. q)
     (λ r class count q. q) s making
 
 pub kinds_making : (s : Statement) (entry : ℕ → Entry) (stack : List Entry) (name : ℕ) → IsMaking s → (r : ℕ) →

@@ -1,5 +1,5 @@
 -- What all rules share: a step that changes nothing, a step that decides, and a step with which a statement ends.
-use Rattle.std.proofs.Common.{◌≡◌, ℕ, true, false, List, [], ◌∷◌, ◌++◌, map, inl, sym, refl, ap, ◌∙◌, subst, ap₂, le_refl}
+use Rattle.std.proofs.Common.{◌≡◌, ℕ, true, false, List, [], ◌∷◌, ◌++◌, map, ◌⊎◌, inl, sym, refl, ap, ◌∙◌, subst, ap₂, le_refl}
 use Rattle.std.proofs.Math.Path.{fun_ext}
 use Rattle.std.specs.List.{AllByRecursion}
 use Rattle.sg_words.specs.Words.{put, Words}
@@ -14,13 +14,13 @@ use Rattle.sg_graph.specs.Book.{Book, Books, word_of}
 use Rattle.sg_graph.specs.Epoch.{by_address}
 use Rattle.sg_graph.specs.Invariants.{IsPlain}
 use Rattle.sg_graph.specs.Heap.{Owner, IsKnownEntry, IsLaid}
-use Rattle.sg_rules.specs.Rules.{Constants, StackWord, Mid, Idle, Actor, within, over, over_with}
+use Rattle.sg_rules.specs.Rules.{Constants, StackWord, Mid, Idle, TestTag, TestLength, Access, MarkCard, AccessGlobal, Look, Claim, StoreLength, StoreTag, HideLength, Ask, Left, Yielded, Actor, within, over, over_with}
 use Rattle.sg_order.specs.Rest.{kind_of_entry, kinds_in}
 use Rattle.sg_rules.specs.Resting.{IsRunnable}
 use Rattle.sg_order.specs.Rest.{StandsAt}
 use Rattle.sg_words.proofs.Puts.{put-same, put-other, put-all}
 use Rattle.sg_order.proofs.Frame.{answers_push, given_push, stack_later}
-use Rattle.sg_order.proofs.Relation.{Ground, IsGiven, IsMutator, AtMid, Stacked, Stands, Later, WritesHeader, Heads, Kept}
+use Rattle.sg_order.proofs.Relation.{Ground, IsGiven, IsMutator, AtMid, Stacked, Stands, Later, WritesHeader, Heads, IsNeeded, Marks, IsQuiet, Kept}
 
 -- h, where mutator k has this in its registers and on its stack, and these statements before it
 abbrev pub handed_with : Graph → ℕ → List Statement → (ℕ → Entry) → List Entry → Graph
@@ -30,8 +30,8 @@ handed_with h k rest register stack = advanced h k (record (h.mutator k) { regis
 abbrev pub handed : Graph → ℕ → List Statement → (ℕ → Entry) → Graph
 handed h k rest register = handed_with h k rest register (h.mutator k).stack
 
-pub later_refl : (w : Words) (g : Graph) (b : Book) (said : ℕ → List Answer) (k : ℕ) → Later w g b said w g b said k
-later_refl w g b said k = record {
+pub later_refl : (p : Program) (w : Words) (g : Graph) (b : Book) (said : ℕ → List Answer) (k : ℕ) → Later p w g b said w g b said k
+later_refl p w g b said k = record {
   stands = λ n q. q;
   known = λ n q. q;
   address = λ n q. refl;
@@ -40,6 +40,9 @@ later_refl w g b said k = record {
   next = λ f. le_refl _;
   limit = λ f. refl;
   length_word = λ n q z e. e;
+  owed = refl;
+  zeros = λ x l none e. e;
+  dirty = λ x e. e;
   mutator = λ j n. refl;
   says = λ j n. refl;
   from = λ j n. refl;
@@ -64,11 +67,19 @@ plain_mutators p g m t = record { links = t.links; registered = t.registered; re
 
 pub ground_mutators : (p : Program) (lay : Constants) (w : Words) (g : Graph) (b : Book) (owner : ℕ → Owner) (m : ℕ → Mutator) → Ground p lay w g b owner →
     Ground p lay w (record g { mutator = m }) b owner
-ground_mutators p lay w g b owner m t = record { laid = laid_mutators p w.word g b owner m t.laid; plain = plain_mutators p g m t.plain; number = t.number; limits = t.limits; words = t.words }
+ground_mutators p lay w g b owner m t = record {
+  laid = laid_mutators p w.word g b owner m t.laid;
+  blocks = t.blocks;
+  plain = plain_mutators p g m t.plain;
+  number = t.number;
+  limits = t.limits;
+  words = t.words;
+}
 
-later_mutators : (w : Words) (g : Graph) (b : Book) (said : ℕ → List Answer) (v : Words) (h : Graph) (c : Book) (k : ℕ) (m : Mutator) (answers : List Answer) →
-    Later w g b said v h c said k → Later w g b said v (record h { mutator = put h.mutator k m }) c (put said k answers) k
-later_mutators w g b said v h c k m answers l = record {
+later_mutators : (p : Program) (w : Words) (g : Graph) (b : Book) (said : ℕ → List Answer) (v : Words) (h : Graph) (c : Book) (k : ℕ) (m : Mutator)
+    (answers : List Answer) →
+    Later p w g b said v h c said k → Later p w g b said v (record h { mutator = put h.mutator k m }) c (put said k answers) k
+later_mutators p w g b said v h c k m answers l = record {
   stands = l.stands;
   known = l.known;
   address = l.address;
@@ -77,10 +88,45 @@ later_mutators w g b said v h c k m answers l = record {
   next = l.next;
   limit = l.limit;
   length_word = l.length_word;
+  owed = l.owed;
+  zeros = l.zeros;
+  dirty = l.dirty;
   mutator = λ j n. put-other h.mutator k m j n ∙ l.mutator j n;
   says = λ j n. put-other said k answers j n;
   from = l.from;
   to = l.to;
+}
+
+-- the stop word enters into nothing, and a card only by being dirty
+pub ground_aside : (p : Program) (lay : Constants) (w : Words) (g : Graph) (b : Book) (owner : ℕ → Owner) (stop : ℕ) (card : ℕ → ℕ) →
+    Ground p lay w g b owner → Ground p lay (record w { stop = stop; card = card }) g b owner
+ground_aside p lay w g b owner stop card t = record {
+  laid = t.laid;
+  blocks = t.blocks;
+  plain = t.plain;
+  number = t.number;
+  limits = t.limits;
+  words = t.words;
+}
+
+pub later_aside : (p : Program) (w : Words) (g : Graph) (b : Book) (said : ℕ → List Answer) (k stop : ℕ) (card : ℕ → ℕ) →
+    ((x : ℕ) → w.card x ≡ 1 → card x ≡ 1) → Later p w g b said (record w { stop = stop; card = card }) g b said k
+later_aside p w g b said k stop card dirty = record {
+  stands = λ n q. q;
+  known = λ n q. q;
+  address = λ n q. refl;
+  size = λ n q. refl;
+  class = λ n q. refl;
+  next = λ f. le_refl _;
+  limit = λ f. refl;
+  length_word = λ n q z e. e;
+  owed = refl;
+  zeros = λ x l none e. e;
+  dirty = dirty;
+  mutator = λ j n. refl;
+  says = λ j n. refl;
+  from = λ j n. refl;
+  to = λ j n. refl;
 }
 
 -- the kinds of what these registers and this stack hold
@@ -108,42 +154,91 @@ offsets_both g b offset register d o entry here there = put-all (λ r e. StandsA
     (subst (λ x. StandsAt g b x entry) (sym (put-same offset d o)) here)
     (λ j ne. subst (λ x. StandsAt g b x (register j)) (sym (put-other offset d o j ne)) (there j))
 
+-- who is quiet is about to write no header, and no card
+pub no_header : (mid : Mid) → IsQuiet mid → (x : ℕ) → WritesHeader x mid → ⊥
+no_header Idle q x m = m
+no_header (TestTag s test) q x m = m
+no_header (TestLength s test class) q x m = m
+no_header (Access s) q x m = m
+no_header (MarkCard s card) q x m = q
+no_header (AccessGlobal s) q x m = m
+no_header (Look s f) q x m = m
+no_header (Claim s f seen) q x m = m
+no_header (StoreLength s y) q x m = q
+no_header (StoreTag s y) q x m = q
+no_header (HideLength d s offset) q x m = m
+no_header (Ask s) q x m = m
+no_header (Left s) q x m = m
+no_header Yielded q x m = m
+
+pub no_mark : (mid : Mid) → IsQuiet mid → (card : ℕ) → Marks card mid → ⊥
+no_mark Idle q x m = m
+no_mark (TestTag s test) q x m = m
+no_mark (TestLength s test class) q x m = m
+no_mark (Access s) q x m = m
+no_mark (MarkCard s card) q x m = q
+no_mark (AccessGlobal s) q x m = m
+no_mark (Look s f) q x m = m
+no_mark (Claim s f seen) q x m = m
+no_mark (StoreLength s y) q x m = m
+no_mark (StoreTag s y) q x m = m
+no_mark (HideLength d s offset) q x m = m
+no_mark (Ask s) q x m = m
+no_mark (Left s) q x m = m
+no_mark Yielded q x m = m
+
 -- nothing stands new, and no header was about to be written
 pub no_heads : (w : Words) (g : Graph) (b : Book) (mid : Mid) (v : Words) (h : Graph) (c : Book) (next_mid : Mid) →
-    ((n : ℕ) → c.stands n ≡ true → b.stands n ≡ true) → ((x : ℕ) → WritesHeader x mid → ⊥) → Heads w g b mid v h c next_mid
-no_heads w g b mid v h c next_mid back none = record { begun = λ n q. inl (back n q); done = λ n q m. absurd (none (b.address n) m) }
+    ((n : ℕ) → c.stands n ≡ true → b.stands n ≡ true) → IsQuiet mid → Heads w g b mid v h c next_mid
+no_heads w g b mid v h c next_mid back quiet = record {
+  begun = λ n q. inl (back n q);
+  done = λ n q m. absurd (no_header mid quiet (b.address n) m);
+}
 
 -- who has a statement before it hasn't ended
 pub goes : (g : Graph) (said : ℕ → List Answer) (k : ℕ) (entry : ℕ → Entry) (s : Statement) (rest : List Statement) (answers : List Answer) →
     IsMutator g said k entry (s ∷ rest) answers → (g.mutator k).ended ≡ true → ⊥
 goes g said k entry s rest answers m e = let q : s ∷ rest ≡ [] = m.asleep e in cc
 
--- a step of mutator k leaves these words, objects and places
-pub record Change (p : Program) (lay : Constants) (w : Words) (g : Graph) (b : Book) (said : ℕ → List Answer) (k : ℕ) (v : Words) (h : Graph)
+-- a step of mutator k, which stands at `after` then, leaves these words, objects and places
+pub record Change (p : Program) (lay : Constants) (w : Words) (g : Graph) (b : Book) (said : ℕ → List Answer) (k : ℕ) (after : Mid) (v : Words) (h : Graph)
     (c : Book) : Type 0 where
   pub owner : ℕ → Owner
-  pub later : Later w g b said v h c said k
+  pub later : Later p w g b said v h c said k
+  pub needs : (card : ℕ) → IsNeeded p h c card → IsNeeded p g b card ⊎ Marks card after
   pub ground : Ground p lay v h c owner
   pub mutators : h.mutator ≡ g.mutator
 
 module _ (p : Program) (lay : Constants) (w : Words) (g : Graph) (b : Book) (said : ℕ → List Answer) (k : ℕ) where
-  pub unchanged : (owner : ℕ → Owner) → Ground p lay w g b owner → Change p lay w g b said k w g b
-  unchanged owner t = record { owner = owner; later = later_refl w g b said k; ground = t; mutators = refl }
+  pub unchanged : {after : Mid} (owner : ℕ → Owner) → Ground p lay w g b owner → Change p lay w g b said k after w g b
+  unchanged owner t = record { owner = owner; later = later_refl p w g b said k; needs = λ x q. inl q; ground = t; mutators = refl }
 
-  pub goes_in : (v : Words) (h : Graph) (c : Book) → Change p lay w g b said k v h c →
+  pub goes_in : {after : Mid} (v : Words) (h : Graph) (c : Book) → Change p lay w g b said k after v h c →
       (entry : ℕ → Entry) (s : Statement) (rest : List Statement) (answers : List Answer) → IsMutator g said k entry (s ∷ rest) answers →
       (h.mutator k).ended ≡ true → ⊥
   goes_in v h c ch entry s rest answers m e = goes g said k entry s rest answers m (sym (ap (λ (f : ℕ → Mutator). (f k).ended) ch.mutators) ∙ e)
 
   -- a step that doesn't decide
-  pub silent : (mid : Mid) (v : Words) (h : Graph) (c : Book) → Change p lay w g b said k v h c → h ≡ g → c ≡ b → (a : Actor) → Heads w g b mid v h c a.mid →
-      Stands p lay v h c said k a → Kept p lay w g b said k mid false v a
-  silent mid v h c ch eh ec a heads s = record { h = h; c = c; said' = said; owner = ch.owner; moves = (eh, ec, refl); later = ch.later; heads = heads; ground = ch.ground; stands = s }
+  pub silent : (mid : Mid) (v : Words) (h : Graph) (c : Book) (a : Actor) → Change p lay w g b said k a.mid v h c → h ≡ g → c ≡ b →
+      Heads w g b mid v h c a.mid → ((card : ℕ) → Marks card mid → v.card card ≡ 1) → Stands p lay v h c said k a → Kept p lay w g b said k mid false v a
+  silent mid v h c a ch eh ec heads marked s = record {
+    h = h;
+    c = c;
+    said' = said;
+    owner = ch.owner;
+    moves = (eh, ec, refl);
+    later = ch.later;
+    heads = heads;
+    cards = record { begun = ch.needs; done = marked };
+    ground = ch.ground;
+    stands = s;
+  }
 
   -- a step that changes nothing but where its mutator stands
-  pub still : (mid : Mid) → ((x : ℕ) → WritesHeader x mid → ⊥) → (owner : ℕ → Owner) → Ground p lay w g b owner → (a : Actor) → Stands p lay w g b said k a →
+  pub still : (mid : Mid) → IsQuiet mid → (owner : ℕ → Owner) → Ground p lay w g b owner → (a : Actor) → Stands p lay w g b said k a →
       Kept p lay w g b said k mid false w a
-  still mid none owner t a s = silent mid w g b (unchanged owner t) refl refl a (no_heads w g b mid w g b a.mid (λ n q. q) none) s
+  still mid quiet owner t a s =
+      silent mid w g b a (unchanged owner t) refl refl (no_heads w g b mid w g b a.mid (λ n q. q) quiet) (λ x m. absurd (no_mark mid quiet x m)) s
 
   -- the same mutator at another point
   pub again : (a : Actor) (s : Stands p lay w g b said k a) (rest : List Statement) (mid : Mid) → AtMid p lay w g b said k s.entry s.answers rest mid →
@@ -209,22 +304,22 @@ module _ (p : Program) (lay : Constants) (w : Words) (g : Graph) (b : Book) (sai
       (stack_later v h c v (handed_with h k rest register stack) c (λ n q. q) (λ n q. q) (λ n q. refl) (λ n q. refl) slots stack q)
 
   -- the stack that no statement touched
-  pub stack_kept : (v : Words) (h : Graph) (c : Book) → Change p lay w g b said k v h c → (slots : List StackWord) →
+  pub stack_kept : {after : Mid} (v : Words) (h : Graph) (c : Book) → Change p lay w g b said k after v h c → (slots : List StackWord) →
       Stacked w.word g b slots (g.mutator k).stack → Stacked v.word h c slots (h.mutator k).stack
   stack_kept v h c ch slots q =
       subst (λ (m : ℕ → Mutator). Stacked v.word h c slots (m k).stack) (sym ch.mutators)
       (stack_later w g b v h c ch.later.known ch.later.stands ch.later.address ch.later.size slots (g.mutator k).stack q)
 
   -- a deciding step: a whole statement of the graph's mutator
-  pub turned : (mid : Mid) (v : Words) (h : Graph) (c : Book) → Change p lay w g b said k v h c → (a : Actor) → Heads w g b mid v h c a.mid →
-      (s : Statement) (rest : List Statement) (entry : ℕ → Entry) (answers : List Answer)
+  pub turned : (mid : Mid) → IsQuiet mid → (v : Words) (h : Graph) (c : Book) (a : Actor) → Change p lay w g b said k a.mid v h c →
+      Heads w g b mid v h c a.mid → (s : Statement) (rest : List Statement) (entry : ℕ → Entry) (answers : List Answer)
       (register : ℕ → Entry) (stack : List Entry) (answer : Answer) →
       IsMutator g said k entry (s ∷ rest) answers →
       Does p g k (record (g.mutator k) { register = entry; script = s ∷ rest }) s rest answer (handed_with h k rest register stack) →
-      Books p b k s answer c →
+      Books p g b k s answer c →
       Stands p lay v (handed_with h k rest register stack) c (put said k (said k ++ answer ∷ [])) k a →
       Kept p lay w g b said k mid true v a
-  turned mid v h c ch a heads s rest entry answers register stack answer m does books stands =
+  turned mid quiet v h c a ch heads s rest entry answers register stack answer m does books stands =
       let is : g.mutator k ≡ record (g.mutator k) { register = entry; script = s ∷ rest } =
       λ i. record { register = m.register_is i; stack = (g.mutator k).stack; registered = (g.mutator k).registered; script = m.script_is i; ended = (g.mutator k).ended } in
       record {
@@ -243,28 +338,29 @@ module _ (p : Program) (lay : Constants) (w : Words) (g : Graph) (b : Book) (sai
           },
           refl,
         );
-        later = later_mutators w g b said v h c k _ _ ch.later;
+        later = later_mutators p w g b said v h c k _ _ ch.later;
         heads = record { begun = heads.begun; done = heads.done };
+        cards = record { begun = ch.needs; done = λ x m. absurd (no_mark mid quiet x m) };
         ground = ground_mutators p lay v h c ch.owner _ ch.ground;
         stands = stands;
       }
 
   -- a deciding step with which the statement ends
-  pub decided_with : (mid : Mid) → ((x : ℕ) → WritesHeader x mid → ⊥) → (v : Words) (h : Graph) → Change p lay w g b said k v h b →
+  pub decided_with : (mid : Mid) → IsQuiet mid → (v : Words) (h : Graph) → Change p lay w g b said k Idle v h b →
       (a : Actor) (s : Statement) (rest : List Statement) (st : Stands p lay w g b said k a)
       (register : ℕ → Entry) (stack : List Entry) (answer : Answer) (areg aoffset : ℕ → ℕ) (slots : List StackWord) (word : Answer) →
       IsMutator g said k st.entry (s ∷ rest) st.answers →
       Does p g k (record (g.mutator k) { register = st.entry; script = s ∷ rest }) s rest answer (handed_with h k rest register stack) →
-      Books p b k s answer b →
+      Books p g b k s answer b →
       ((r : ℕ) → areg r ≡ word_of b.address (register r)) → ((r : ℕ) → IsKnownEntry v.word h b (register r)) →
       ((r : ℕ) → StandsAt h b (aoffset r) (register r)) → Stacked v.word h b slots stack →
       word ≡ by_address b answer → IsGiven b.stands answer →
       ((r : ℕ) → (kinds_after (kinds_of st.entry (g.mutator k).stack) s).register r ≡ kind_of_entry (register r)) →
       (kinds_after (kinds_of st.entry (g.mutator k).stack) s).stack ≡ map kind_of_entry stack →
       Kept p lay w g b said k mid true v (over_with a rest areg aoffset slots word)
-  decided_with mid none v h ch a s rest st register stack answer areg aoffset slots word m does books regs known offsets stacked told given kinds piled =
-      turned mid v h b ch (over_with a rest areg aoffset slots word)
-      (no_heads w g b mid v h b Idle (λ n q. q) none) s rest st.entry st.answers register stack answer m does books (record {
+  decided_with mid quiet v h ch a s rest st register stack answer areg aoffset slots word m does books regs known offsets stacked told given kinds piled =
+      turned mid quiet v h b (over_with a rest areg aoffset slots word) ch
+      (no_heads w g b mid v h b Idle (λ n q. q) quiet) s rest st.entry st.answers register stack answer m does books (record {
         entry = register;
         answers = st.answers ++ answer ∷ [];
         regs = regs;
@@ -282,19 +378,19 @@ module _ (p : Program) (lay : Constants) (w : Words) (g : Graph) (b : Book) (sai
       })
 
   -- the same, where the stack and the offsets stay
-  pub decided : (mid : Mid) → ((x : ℕ) → WritesHeader x mid → ⊥) → (v : Words) (h : Graph) → (ch : Change p lay w g b said k v h b) →
+  pub decided : (mid : Mid) → IsQuiet mid → (v : Words) (h : Graph) → (ch : Change p lay w g b said k Idle v h b) →
       (a : Actor) (s : Statement) (rest : List Statement) (st : Stands p lay w g b said k a)
       (register : ℕ → Entry) (answer : Answer) (areg : ℕ → ℕ) (word : Answer) →
       IsMutator g said k st.entry (s ∷ rest) st.answers →
       Does p g k (record (g.mutator k) { register = st.entry; script = s ∷ rest }) s rest answer (handed h k rest register) →
-      Books p b k s answer b →
+      Books p g b k s answer b →
       ((r : ℕ) → areg r ≡ word_of b.address (register r)) → ((r : ℕ) → IsKnownEntry v.word h b (register r)) →
       ((r : ℕ) → StandsAt h b (a.offset r) (register r)) →
       word ≡ by_address b answer → IsGiven b.stands answer →
       ((r : ℕ) → (kinds_after (kinds_of st.entry (g.mutator k).stack) s).register r ≡ kind_of_entry (register r)) →
       (kinds_after (kinds_of st.entry (g.mutator k).stack) s).stack ≡ map kind_of_entry (g.mutator k).stack →
       Kept p lay w g b said k mid true v (over a rest areg word)
-  decided mid none v h ch a s rest st register answer areg word m does books regs known offsets told given kinds piled =
-      decided_with mid none v h ch a s rest st register (h.mutator k).stack answer areg a.offset a.stack word m does books regs known offsets
+  decided mid quiet v h ch a s rest st register answer areg word m does books regs known offsets told given kinds piled =
+      decided_with mid quiet v h ch a s rest st register (h.mutator k).stack answer areg a.offset a.stack word m does books regs known offsets
       (stack_kept v h b ch a.stack st.stack) told given kinds
       (piled ∙ sym (ap (λ (m : ℕ → Mutator). map kind_of_entry (m k).stack) ch.mutators))

@@ -8,23 +8,25 @@ use Rattle.sg_program.specs.declared.program.Statement.{Statement}
 use Rattle.sg_program.specs.declared.program.Program.{Program}
 use Rattle.sg_program.specs.declared.answers.Answer.{Answer}
 use Rattle.sg_program.specs.declared.answers.Answer.TheVariants.{At}
-use Rattle.sg_desc.specs.Shapes.{holds_reference}
+use Rattle.sg_words.specs.Blocks.{card_of}
+use Rattle.sg_desc.specs.Shapes.{holds_reference, is_strong}
 use Rattle.sg_program.specs.Scripts.{kind_of, IsSizeOf, made_in, made_class, made_fields}
 use Rattle.sg_program.specs.Kinds.{kinds_after}
 use Rattle.sg_graph.specs.Graph.{Entry, Ref, Int, Inner, Graph, grown, empty_field}
 use Rattle.sg_graph.specs.Statements.{Does}
-use Rattle.sg_graph.specs.Book.{Book, Books, placed, word_of, Young, nursery_end}
+use Rattle.sg_graph.specs.Book.{Book, Books, placed, word_of, Young, Old, nursery_end, slot_words}
 use Rattle.sg_words.specs.Sections.{nursery_base}
 use Rattle.sg_graph.specs.Pause.{is_pair}
 use Rattle.sg_graph.specs.Invariants.{IsPlain}
-use Rattle.sg_graph.specs.Heap.{Owner, Of, Frag, Buf, IsKnown, IsKnownEntry, IsOfSort, Objects, Fields}
-use Rattle.sg_rules.specs.Rules.{Constants, Mid, StoreLength, Actor, within, owning}
+use Rattle.sg_graph.specs.Heap.{Owner, Of, Frag, Buf, IsKnown, IsKnownEntry, IsOfSort, Objects, Fields, layout_of}
+use Rattle.sg_graph.specs.Blocks.{IsTakenAt, AreBlocks}
+use Rattle.sg_rules.specs.Rules.{Constants, Mid, Idle, StoreLength, Actor, within, owning}
 use Rattle.sg_order.specs.Rest.{kind_of_entry}
 use Rattle.sg_rules.specs.Sane.{IsMaker}
 use Rattle.sg_words.proofs.Puts.{put-at, put-same, put-other}
 use Rattle.sg_order.proofs.Frame.{answers_later, given_later, offset_later}
-use Rattle.sg_order.proofs.Relation.{Ground, IsMutator, Stands, Later, WritesHeader, Kept}
-use Rattle.sg_order.proofs.Moves.{Change, handed, goes, kinds_of, kinds_along, turned, is_after, stack_after, stack_kept, fits_after, fits_as, runnable_after, runnable_as}
+use Rattle.sg_order.proofs.Relation.{Ground, IsMutator, Stands, Later, IsNeeded, IsQuiet, Kept}
+use Rattle.sg_order.proofs.Moves.{Change, handed, no_header, goes, kinds_of, kinds_along, turned, is_after, stack_after, stack_kept, fits_after, fits_as, runnable_after, runnable_as}
 use Rattle.sg_order.proofs.Emptied.{of_sort_empty, empty_cond}
 
 -- What a place for a new object of m words at x has to be: the words are no object's, and inside. Next, from and to are the
@@ -117,7 +119,7 @@ module _ (p : Program) (lay : Constants) (w : Words) (g : Graph) (b : Book) (sai
   sized_as m e u a d i = subst (λ z. IsSizeOf p z (put g.size (suc g.count) n m)) (sym a) (subst (λ z. IsSizeOf p e z) (sym d) i)
 
   objects_new : Objects p (suc g.count) (put g.class (suc g.count) class) (put g.size (suc g.count) (n)) (put b.stands (suc g.count) true)
-      (put b.address (suc g.count) x) (put b.section (suc g.count) Young) b.fill owner'
+      (put b.address (suc g.count) x) (put b.section (suc g.count) Young) owner'
   objects_new = record {
     given = λ m q. elim (old_or_new m q) [ inl e ↦ omega arith | inr o ↦ (let l = t.laid.objects.given m o in omega arith) ];
     shaped = λ m l q. elim (old_or_new m q) [
@@ -147,8 +149,6 @@ module _ (p : Program) (lay : Constants) (w : Words) (g : Graph) (b : Book) (sai
             | inr i ↦ let lo = i.1 in let hi = i.2 in inr (z ∙ i.0, omega arith, omega arith)
           ]
     ];
-    filled = t.laid.objects.filled;
-    packed = λ y i j. let s = t.laid.objects.packed y i j in (s.0, pl.old s.0 y s.1);
   }
 
   fields_new : Fields p w.word (grown p g k class n) new_book
@@ -181,6 +181,72 @@ module _ (p : Program) (lay : Constants) (w : Words) (g : Graph) (b : Book) (sai
     ];
   }
 
+  section_old : (m : ℕ) → b.stands m ≡ true → put b.section (suc g.count) Young m ≡ b.section m
+  section_old m q = put-other b.section (suc g.count) Young m (not_new m q)
+
+  -- an old object is none that is new
+  old_stands : (m : ℕ) → put b.stands (suc g.count) true m ≡ true → put b.section (suc g.count) Young m ≡ Old → b.stands m ≡ true
+  old_stands m q o = elim (old_or_new m q) [
+    | inl e ↦ absurd (let z : Young ≡ Old = sym (put-at b.section (suc g.count) Young m e) ∙ o in cc)
+    | inr h ↦ h
+  ]
+
+  taken_old : (m j : ℕ) → b.stands m ≡ true → IsTakenAt p (w.marks j) (b.address m) (slot_words (g.size m)) j (w.block j) (w.used j) →
+      IsTakenAt p (w.marks j) (put b.address (suc g.count) x m) (slot_words (put g.size (suc g.count) n m)) j (w.block j) (w.used j)
+  taken_old m j q h = subst (λ a. IsTakenAt p (w.marks j) a (slot_words (put g.size (suc g.count) n m)) j (w.block j) (w.used j)) (sym (at_old m q))
+      (subst (λ size. IsTakenAt p (w.marks j) (b.address m) (slot_words size) j (w.block j) (w.used j)) (sym (size_old m q)) h)
+
+  -- a young object changes nothing in the blocks
+  blocks_new : AreBlocks p w.marks w.block w.used w.word (put g.size (suc g.count) n) (put b.stands (suc g.count) true) (put b.address (suc g.count) x)
+      (put b.section (suc g.count) Young) b.owed owner'
+  blocks_new = record {
+    placed = λ m l q o.
+        let stood = old_stands m q o in
+        let h = t.blocks.placed m l stood (sym (section_old m stood) ∙ o) in
+        (h.0, h.1, taken_old m h.0 stood h.2);
+    each = λ c l. let e = t.blocks.each c l in record {
+      filled = λ s i o f u. let h = e.filled s i o f u in let stood = h.1.standing in (
+        h.0,
+        record {
+          some = h.1.some;
+          standing = stands_old h.0 stood;
+          old = section_old h.0 stood ∙ h.1.old;
+          at = at_old h.0 stood ∙ h.1.at;
+          sized = ap slot_words (size_old h.0 stood) ∙ h.1.sized;
+        },
+      );
+      bare = e.bare;
+      owing = e.owing;
+      kept = e.kept;
+    };
+    clear = λ c l y i j none clean. t.blocks.clear c l y i j (λ o e. none o (pl.old o y e)) clean;
+    sized = t.blocks.sized;
+  }
+
+  -- and no card is needed for it, since no field refers to it
+  needs_new : (card : ℕ) → IsNeeded p (grown p g k class n) new_book card → IsNeeded p g b card
+  needs_new card q =
+      let stood = old_stands q.name q.standing q.old in
+      let size = size_old q.name stood in
+      let inside : q.index < g.size q.name = let l = q.inside in omega arith in
+      let refers : g.field q.name q.index ≡ Ref q.target = sym (field_old q.name q.index stood) ∙ q.refers in
+      let target = subst (λ e. IsKnownEntry w.word g b e) refers (t.laid.fields.known q.name q.index stood inside) in
+      record {
+        name = q.name;
+        index = q.index;
+        target = q.target;
+        some = q.some;
+        standing = stood;
+        old = sym (section_old q.name stood) ∙ q.old;
+        inside = inside;
+        strong = ap (λ s. is_strong (kind_of p (g.class q.name)) q.index s) (sym size)
+            ∙ ap (λ c. is_strong (kind_of p c) q.index (put g.size (suc g.count) n q.name)) (sym (class_old q.name stood)) ∙ q.strong;
+        refers = refers;
+        one = q.one;
+        young = sym (section_old q.target target.0) ∙ q.young;
+        at = ap (λ a. card_of (layout_of p) (a + 2 + q.index)) (sym (at_old q.name stood)) ∙ q.at;
+      }
+
   plain_new : IsPlain p (grown p g k class n)
   plain_new = record {
     links = t.plain.links;
@@ -207,7 +273,7 @@ module _ (p : Program) (lay : Constants) (w : Words) (g : Graph) (b : Book) (sai
         known = λ y l. known_old (g.global y) (t.laid.globals.known y l);
         empty = t.laid.globals.empty;
       };
-      clear = record { clear = λ y i j none. t.laid.clear.clear y i j (λ o e. none o (pl.old o y e)) };
+      clear = record { large = t.laid.clear.large; clear = λ y i j none. t.laid.clear.clear y i j (λ o e. none o (pl.old o y e)) };
       fragments = record {
         owns = pl.frags;
         inside = λ f l. let i = t.laid.fragments.inside f l in let u = pl.rises f in let lo = i.0 in (omega arith, pl.within f l, i.2);
@@ -215,13 +281,14 @@ module _ (p : Program) (lay : Constants) (w : Words) (g : Graph) (b : Book) (sai
       };
       buffers = record { owns = pl.buffers; inside = pl.in_buffers };
     };
+    blocks = blocks_new;
     plain = plain_new;
     number = t.number;
     limits = t.limits;
     words = nexts;
   }
 
-  later_new : Later w g b said (record w { next = wnext }) (grown p g k class n) new_book said k
+  later_new : Later p w g b said (record w { next = wnext }) (grown p g k class n) new_book said k
   later_new = record {
     stands = stands_old;
     known = known_old;
@@ -231,31 +298,35 @@ module _ (p : Program) (lay : Constants) (w : Words) (g : Graph) (b : Book) (sai
     next = pl.rises;
     limit = λ f. refl;
     length_word = λ m q z e. e;
+    owed = refl;
+    zeros = λ y l none e. e;
+    dirty = λ y e. e;
     mutator = λ j n. refl;
     says = λ j n. refl;
     from = pl.other_from;
     to = pl.other_to;
   }
 
-  change_new : Change p lay w g b said k (record w { next = wnext }) (grown p g k class n) new_book
-  change_new = record { owner = owner'; later = later_new; ground = ground_new; mutators = refl }
+  change_new : {after : Mid} → Change p lay w g b said k after (record w { next = wnext }) (grown p g k class n) new_book
+  change_new = record { owner = owner'; later = later_new; needs = λ card q. inl (needs_new card q); ground = ground_new; mutators = refl }
 
   -- a deciding step that gives a new object its place
-  pub places : (mid : Mid) → ((y : ℕ) → WritesHeader y mid → ⊥) → (a : Actor) (rest : List Statement) (s : Statement) (st : Stands p lay w g b said k a) →
+  pub places : (mid : Mid) → IsQuiet mid → (a : Actor) (rest : List Statement) (s : Statement) (st : Stands p lay w g b said k a) →
       IsMaker p s → class ≡ made_class s → n ≡ made_fields p s →
       IsMutator g said k st.entry (s ∷ rest) st.answers →
       Does p g k (record (g.mutator k) { register = st.entry; script = s ∷ rest }) s rest (At (suc g.count))
       (handed (grown p g k class n) k rest (put st.entry (made_in s) (Ref (suc g.count)))) →
-      Books p b k s (At (suc g.count)) new_book →
+      Books p g b k s (At (suc g.count)) new_book →
       ((r : ℕ) → (kinds_after (kinds_of st.entry (g.mutator k).stack) s).register r ≡ kind_of_entry (put st.entry (made_in s) (Ref (suc g.count)) r)) →
       (kinds_after (kinds_of st.entry (g.mutator k).stack) s).stack ≡ map kind_of_entry (g.mutator k).stack →
       (ax af at : ℕ) → ax ≡ x → af ≡ from k → at ≡ to k →
       Kept p lay w g b said k mid true (record w { next = wnext }) (within (owning a af at) rest (StoreLength s ax))
-  places mid none a rest s st maker ec en m does books kinds piled ax af at ex ef et =
-      turned p lay w g b said k mid (record w { next = wnext }) (grown p g k class n) new_book change_new (within (owning a af at) rest (StoreLength s ax))
+  places mid quiet a rest s st maker ec en m does books kinds piled ax af at ex ef et =
+      turned p lay w g b said k mid quiet (record w { next = wnext }) (grown p g k class n) new_book (within (owning a af at) rest (StoreLength s ax))
+      change_new
       (record {
         begun = λ m q. elim (old_or_new m q) [ inl e ↦ inr (put-at b.address (suc g.count) x m e ∙ sym ex) | inr o ↦ inl o ];
-        done = λ m q y. absurd (none (b.address m) y);
+        done = λ m q y. absurd (no_header mid quiet (b.address m) y);
       })
       s rest st.entry st.answers (put st.entry (made_in s) (Ref (suc g.count))) (g.mutator k).stack (At (suc g.count)) m does books (record {
         entry = st.entry;
@@ -265,7 +336,7 @@ module _ (p : Program) (lay : Constants) (w : Words) (g : Graph) (b : Book) (sai
         offsets = λ q. offset_later g b (grown p g k class n) new_book (a.offset q) (st.entry q) stands_old size_old (st.offsets q);
         stack = stack_after p lay w g b said k (record w { next = wnext }) (grown p g k class n) new_book rest
             (put st.entry (made_in s) (Ref (suc g.count))) a.stack (g.mutator k).stack
-            (stack_kept p lay w g b said k (record w { next = wnext }) (grown p g k class n) new_book change_new a.stack st.stack);
+            (stack_kept p lay w g b said k (record w { next = wnext }) (grown p g k class n) new_book (change_new {after = Idle}) a.stack st.stack);
         told = st.told ∙ sym (answers_later b new_book st.answers st.given at_old);
         given = given_later b.stands new_book.stands st.answers stands_old st.given;
         from_is = ef;

@@ -21,7 +21,7 @@ use Rattle.sg_graph.specs.Graph.{Graph}
 use Rattle.sg_graph.specs.Book.{Book}
 use Rattle.sg_graph.specs.Heap.{Owner}
 use Rattle.sg_rules.specs.Rules.{Constants, StackWord, TestTag, TestLength, Access, AccessGlobal, Look, Claim, HideLength, Actor, before, within, object_in, taken, global_word, IsLength, Comes}
-use Rattle.sg_rules.specs.Rules.Comes.{test_null, test_begins, loads_tag, loads_length, test_fails, put_stores, putd_stores, get_loads, getd_loads, global_begins, gput_stores, gget_loads, num_sets, drop_clears, move_sets, push_sets, pop_sets, hide_null, hide_begins, hide_fits, hide_misses, unhide_sets, same_tells, new_bumps, new_looks, look_finds, look_goes_on, minor_asks, asks, yields, claim_wins, claim_moves, claim_goes_on, stores_length, stores_tag}
+use Rattle.sg_rules.specs.Rules.Comes.{test_null, test_begins, loads_tag, loads_length, test_fails, put_stores, put_stores_old, marks_card, putd_stores, get_loads, getd_loads, global_begins, gput_stores, gget_loads, num_sets, drop_clears, move_sets, push_sets, pop_sets, hide_null, hide_begins, hide_fits, hide_misses, unhide_sets, same_tells, new_bumps, new_looks, look_finds, look_goes_on, minor_asks, asks, yields, claim_wins, claim_moves, claim_goes_on, stores_length, stores_tag}
 use Rattle.sg_rules.specs.Acting.{Acts}
 use Rattle.sg_order.proofs.Relation.{Ground, Stands}
 use Rattle.sg_order.proofs.Loads.{headed, known_at, object_at, needs_now}
@@ -233,7 +233,9 @@ module _ (p : Program) (lay : Constants) (w : Words) (g : Graph) (b : Book) (sai
   goes_on _ _ _ _ (loads_tag a s rest test class there) st other e saw = tag_comes a rest s test st other e saw
   goes_on _ _ _ _ (loads_length a s rest test class len short f) st other e saw = length_comes a rest s test class st other e saw
   goes_on _ _ _ _ (test_fails a s rest test class len short f) st other e saw = length_comes a rest s test class st other e saw
-  goes_on _ _ _ _ (put_stores a rest r i s) st other e saw = by_rule _ _ _ _ (put_stores a rest r i s) other (stores _ _ other e)
+  goes_on _ _ _ _ (put_stores a rest r i s cardless) st other e saw = by_rule _ _ _ _ (put_stores a rest r i s cardless) other (stores _ _ other e)
+  goes_on _ _ _ _ (put_stores_old a rest r i s has) st other e saw = by_rule _ _ _ _ (put_stores_old a rest r i s has) other (stores _ _ other e)
+  goes_on _ _ _ _ (marks_card a rest s card) st other e saw = by_rule _ _ _ _ (marks_card a rest s card) other (stores _ _ other e)
   goes_on _ _ _ _ (putd_stores a rest r i s) st other e saw = by_rule _ _ _ _ (putd_stores a rest r i s) other (stores _ _ other e)
   goes_on _ _ _ _ (get_loads a rest d r i v ref) st other e saw = field_comes a rest d r i st other e saw
   goes_on _ _ _ _ (getd_loads a rest d r i v) st other e saw = by_rule _ _ _ _ (getd_loads a rest d r i _) other (loads w _ other e saw)

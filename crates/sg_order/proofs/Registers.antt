@@ -69,7 +69,7 @@ module _ (p : Program) (lay : Constants) (w : Words) (g : Graph) (b : Book) (sai
     -- what one register holds goes into another one
     pub moves_over : (d s : ℕ) → Stands p lay w g b said k (before a (Move d s) rest) →
         Kept p lay w g b said k Idle true w (over_with a rest (put a.reg d (a.reg s)) (put a.offset d (a.offset s)) a.stack Fine)
-    moves_over d s st = decided_with p lay w g b said k Idle (λ x e. e) w g (unchanged p lay w g b said k owner t) _ (Move d s) rest st
+    moves_over d s st = decided_with p lay w g b said k Idle tt w g (unchanged p lay w g b said k owner t) _ (Move d s) rest st
         (put st.entry d (st.entry s)) (g.mutator k).stack Fine (put a.reg d (a.reg s)) (put a.offset d (a.offset s)) a.stack Fine st.at (tt, refl) refl
         (put-along (word_of b.address) a.reg st.entry d (a.reg s) (st.entry s) st.regs (st.regs s))
         (known_put p lay w g b said k owner t _ st d (st.entry s) (st.known s))
@@ -79,7 +79,7 @@ module _ (p : Program) (lay : Constants) (w : Words) (g : Graph) (b : Book) (sai
     -- onto the stack
     pub pushes : (r : ℕ) → Stands p lay w g b said k (before a (Push r) rest) →
         Kept p lay w g b said k Idle true w (over_with a rest a.reg a.offset (record { word = a.reg r; offset = a.offset r } ∷ a.stack) Fine)
-    pushes r st = decided_with p lay w g b said k Idle (λ x e. e) w g (unchanged p lay w g b said k owner t) _ (Push r) rest st
+    pushes r st = decided_with p lay w g b said k Idle tt w g (unchanged p lay w g b said k owner t) _ (Push r) rest st
         st.entry (st.entry r ∷ (g.mutator k).stack) Fine a.reg a.offset (record { word = a.reg r; offset = a.offset r } ∷ a.stack) Fine st.at (tt, refl) refl
         st.regs st.known st.offsets (record { holds = record { word_is = st.regs r; stands = st.offsets r }; known = st.known r }, st.stack) refl tt
         (λ q. refl) refl
@@ -89,7 +89,7 @@ module _ (p : Program) (lay : Constants) (w : Words) (g : Graph) (b : Book) (sai
         Kept p lay w g b said k Idle true w (over_with a rest (put a.reg r top.word) (put a.offset r top.offset) slots Fine)
     takes_top r top slots e st =
         let x = topped w.word g b top slots (g.mutator k).stack (subst (λ s. Stacked w.word g b s (g.mutator k).stack) e st.stack) in
-        decided_with p lay w g b said k Idle (λ x e. e) w g (unchanged p lay w g b said k owner t) _ (Pop r) rest st
+        decided_with p lay w g b said k Idle tt w g (unchanged p lay w g b said k owner t) _ (Pop r) rest st
         (put st.entry r x.entry) x.rest Fine (put a.reg r top.word) (put a.offset r top.offset) slots Fine st.at (
           λ e. let q : x.entry ∷ x.rest ≡ [] = sym x.is ∙ e in cc,
           ap
@@ -106,7 +106,7 @@ module _ (p : Program) (lay : Constants) (w : Words) (g : Graph) (b : Book) (sai
     hides_nothing d s offset z st =
         let n = is_ref (st.entry s) (needs_now p lay w g b said k owner t a rest (Hide d s offset) st) in
         let e : st.entry s ≡ Ref 0 = n.1 ∙ ap Ref (is_nil p lay w g b said k owner t _ st s n.0 n.1 z) in
-        decided_with p lay w g b said k Idle (λ x e. e) w g (unchanged p lay w g b said k owner t) _ (Hide d s offset) rest st
+        decided_with p lay w g b said k Idle tt w g (unchanged p lay w g b said k owner t) _ (Hide d s offset) rest st
         (put st.entry d (Inner 0 0)) (g.mutator k).stack Null (put a.reg d 0) (put a.offset d 0) a.stack Null st.at (e, refl) refl
         (put-along (word_of b.address) a.reg st.entry d 0 (Inner 0 0) st.regs (let u = t.laid.nothing.at_nil in omega arith))
         (known_put p lay w g b said k owner t _ st d (Inner 0 0) (known_nil p lay w g b said k owner t))
@@ -118,7 +118,7 @@ module _ (p : Program) (lay : Constants) (w : Words) (g : Graph) (b : Book) (sai
         Kept p lay w g b said k Idle false w (within a rest (HideLength d s offset))
     begins_hiding d s offset z st =
         let n = is_ref (st.entry s) (needs_now p lay w g b said k owner t a rest (Hide d s offset) st) in
-        still p lay w g b said k _ (λ x e. e) owner t _
+        still p lay w g b said k _ tt owner t _
         (again p lay w g b said k _ st rest (HideLength d s offset) (n.0, n.1, not_nil p lay w g b said k owner t _ st s n.0 n.1 z, st.at))
 
     -- the length of the object whose address is to be hidden
@@ -138,7 +138,7 @@ module _ (p : Program) (lay : Constants) (w : Words) (g : Graph) (b : Book) (sai
         let size : len ≡ g.size name = hidden_size d s offset len l st in
         let below : offset < byte_at (words_for (g.size name)) = omega arith in
         let known = known_at p lay w g b said k owner t _ st s name holds in
-        decided_with p lay w g b said k _ (λ x e. e) w g (unchanged p lay w g b said k owner t) _ (Hide d s offset) rest st
+        decided_with p lay w g b said k _ tt w g (unchanged p lay w g b said k owner t) _ (Hide d s offset) rest st
         (put st.entry d (Inner name offset)) (g.mutator k).stack Fine (put a.reg d (a.reg s + offset)) (put a.offset d offset) a.stack Fine st.at.3 (
           (name, holds, st.at.2, below),
           ap (λ e. advanced g k
@@ -158,7 +158,7 @@ module _ (p : Program) (lay : Constants) (w : Words) (g : Graph) (b : Book) (sai
         let name = st.at.0 in
         let size : len ≡ g.size name = hidden_size d s offset len l st in
         let above : byte_at (words_for (g.size name)) ≤ offset = omega arith in
-        decided_with p lay w g b said k _ (λ x e. e) w g (unchanged p lay w g b said k owner t) _ (Hide d s offset) rest st
+        decided_with p lay w g b said k _ tt w g (unchanged p lay w g b said k owner t) _ (Hide d s offset) rest st
         (put st.entry d (Inner 0 0)) (g.mutator k).stack Field (put a.reg d 0) (put a.offset d 0) a.stack Field st.at.3
         ((name, st.at.1, st.at.2, above), refl) refl
         (put-along (word_of b.address) a.reg st.entry d 0 (Inner 0 0) st.regs (let u = t.laid.nothing.at_nil in omega arith))
@@ -183,7 +183,7 @@ module _ (p : Program) (lay : Constants) (w : Words) (g : Graph) (b : Book) (sai
         let offsets = offsets_put g b a.offset st.entry d (Ref n) (λ o. known.0) st.offsets in
         let kinds = put-along kind_of_entry (λ r. kind_of_entry (st.entry r)) st.entry d IsRef (Ref n) (λ r. refl) refl in
         elim (cases_eq n 0) [
-          | inl z ↦ decided p lay w g b said k _ (λ x e. e) w g (unchanged p lay w g b said k owner t) _ (Unhide d s) rest st (put st.entry d (Ref 0)) Nil
+          | inl z ↦ decided p lay w g b said k _ tt w g (unchanged p lay w g b said k owner t) _ (Unhide d s) rest st (put st.entry d (Ref 0)) Nil
               (put a.reg d (unhidden a s)) (reference_answer (unhidden a s)) st.at
               ((o, x.2 ∙ ap (λ m. Inner m o) z), refl) refl
               (subst (λ m. (q : ℕ) → put a.reg d (unhidden a s) q ≡ word_of b.address (put st.entry d (Ref m) q)) z regs)
@@ -191,7 +191,7 @@ module _ (p : Program) (lay : Constants) (w : Words) (g : Graph) (b : Book) (sai
               (subst (λ m. (q : ℕ) → StandsAt g b (a.offset q) (put st.entry d (Ref m) q)) z offsets)
               (ap reference_answer is ∙ answer_none n z) tt
               (subst (λ m. (q : ℕ) → put (λ r. kind_of_entry (st.entry r)) d IsRef q ≡ kind_of_entry (put st.entry d (Ref m) q)) z kinds) refl
-          | inr z ↦ decided p lay w g b said k _ (λ x e. e) w g (unchanged p lay w g b said k owner t) _ (Unhide d s) rest st (put st.entry d (Ref n)) (At n)
+          | inr z ↦ decided p lay w g b said k _ tt w g (unchanged p lay w g b said k owner t) _ (Unhide d s) rest st (put st.entry d (Ref n)) (At n)
               (put a.reg d (unhidden a s)) (reference_answer (unhidden a s)) st.at
               ((o, x.2, z), refl) refl regs holds offsets (ap reference_answer is ∙ answer_some n z known.0) known.0 kinds refl
         ]
@@ -208,11 +208,11 @@ module _ (p : Program) (lay : Constants) (w : Words) (g : Graph) (b : Book) (sai
         let sm = (known_at p lay w g b said k owner t _ st r m.0 m.1).0 in
         let sn = (known_at p lay w g b said k owner t _ st s n.0 n.1).0 in
         elim (cases_eq m.0 n.0) [
-          | inl e ↦ decided p lay w g b said k _ (λ x e. e) w g (unchanged p lay w g b said k owner t) _ (Same r s) rest st st.entry Yes a.reg
+          | inl e ↦ decided p lay w g b said k _ tt w g (unchanged p lay w g b said k owner t) _ (Same r s) rest st st.entry Yes a.reg
               (if a.reg r == a.reg s then Yes else No) st.at
               ((n.0, m.1 ∙ ap Ref e, n.1), refl) refl st.regs st.known st.offsets
               (cond-true _ _ _ (eq-eqb (a.reg r) (a.reg s) (em ∙ ap (λ i. byte_at (b.address i)) e ∙ sym en))) tt (λ q. refl) refl
-          | inr e ↦ decided p lay w g b said k _ (λ x e. e) w g (unchanged p lay w g b said k owner t) _ (Same r s) rest st st.entry No a.reg
+          | inr e ↦ decided p lay w g b said k _ tt w g (unchanged p lay w g b said k owner t) _ (Same r s) rest st st.entry No a.reg
               (if a.reg r == a.reg s then Yes else No) st.at
               ((m.0, n.0, m.1, n.1, e), refl) refl st.regs st.known st.offsets
               (cond-false _ _ _ (ne_eqb (a.reg r) (a.reg s)

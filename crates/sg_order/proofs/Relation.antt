@@ -3,31 +3,36 @@ use Rattle.std.proofs.Common.{◌≡◌, ◌≢◌, ℕ, ◌+◌, ◌<◌, ◌�
 use Rattle.std.specs.List.{AllByRecursion}
 use Rattle.sg_words.specs.Address.{byte_at}
 use Rattle.sg_words.specs.Words.{put, Words}
-use Rattle.sg_words.specs.Sections.{nursery_base}
+use Rattle.sg_words.specs.Sections.{nursery_base, globals_base}
+use Rattle.sg_words.specs.Blocks.{card_of}
+use Rattle.sg_words.specs.declared.steps.BlockWord.TheVariants.{Swept, Need, Sweeping}
 use Rattle.sg_program.specs.declared.program.Statement.{Statement}
 use Rattle.sg_program.specs.declared.program.Statement.TheVariants.{New, NewV, Hide, Collect}
 use Rattle.sg_program.specs.declared.program.Program.{Program}
 use Rattle.sg_program.specs.declared.answers.Answer.{Answer}
 use Rattle.sg_program.specs.declared.answers.Answer.TheVariants.{At, Nil, Null, Number, Fine, Yes, No, Field, Full}
-use Rattle.sg_desc.specs.Shapes.{has_field}
-use Rattle.sg_program.specs.Scripts.{kind_of, IsMaking, made_in, made_class, made_fields, made_words}
+use Rattle.sg_desc.specs.Shapes.{has_field, is_strong}
+use Rattle.sg_program.specs.Scripts.{kind_of, words_for, IsMaking, made_in, made_class, made_fields, made_words}
 use Rattle.sg_program.specs.Invariants.{FindKinds}
 use Rattle.sg_graph.specs.Graph.{Entry, Ref, Graph}
 use Rattle.sg_program.specs.Tests.{Test, test_of}
-use Rattle.sg_graph.specs.Book.{Book, IsShort, LacksRoom, word_of}
+use Rattle.sg_graph.specs.Book.{Book, Section, Young, Old, IsShort, LacksRoom, word_of, block_at}
 use Rattle.sg_graph.specs.Epoch.{Turn, by_address}
 use Rattle.sg_words.specs.Lists.{Pairwise}
 use Rattle.sg_graph.specs.Invariants.{IsPlain}
-use Rattle.sg_graph.specs.Heap.{Owner, IsHeaded, IsKnown, IsKnownEntry, IsLaid}
-use Rattle.sg_rules.specs.Rules.{Constants, StackWord, Mid, Idle, TestTag, TestLength, Access, AccessGlobal, Look, Claim, StoreLength, StoreTag, HideLength, Ask, Left, Yielded, Actor, IsGlobal}
-use Rattle.sg_rules.specs.Sane.{IsHeading}
+use Rattle.sg_graph.specs.Heap.{Owner, IsHeaded, IsKnown, IsKnownEntry, IsLaid, layout_of}
+use Rattle.sg_graph.specs.Blocks.{AreBlocks}
+use Rattle.sg_rules.specs.Rules.{Constants, StackWord, Mid, Idle, TestTag, TestLength, Access, MarkCard, AccessGlobal, Look, Claim, StoreLength, StoreTag, HideLength, Ask, Left, Yielded, Actor, IsGlobal}
+use Rattle.sg_rules.specs.Sane.{IsHeading, IsCard}
 use Rattle.sg_order.specs.Rest.{kinds_in, Holds}
 use Rattle.sg_rules.specs.Resting.{IsRunnable}
 use Rattle.sg_order.specs.Rest.{StandsAt}
 
--- what no mutator's private state enters into: the words hold the graph, and the fragments are the book's
+-- what no mutator's private state enters into: the words hold the graph, the blocks are as their own words say, and the fragments are
+-- the book's
 pub record Ground (p : Program) (lay : Constants) (w : Words) (g : Graph) (b : Book) (owner : ℕ → Owner) : Type 0 where
   pub laid : IsLaid p w.word g b owner
+  pub blocks : AreBlocks p w.marks w.block w.used w.word g.size b.stands b.address b.section b.owed owner
   pub plain : IsPlain p g
   pub number : b.fragments ≡ lay.fragments
   pub limits : (f : ℕ) → f < b.fragments → b.limit f ≡ lay.limit f
@@ -102,6 +107,7 @@ AtMid p lay w g b said k entry answers rest (TestTag s test) = Testing entry s t
 AtMid p lay w g b said k entry answers rest (TestLength s test class) =
     (t : Testing entry s test) × (class ≡ g.class t.name) × IsMutator g said k entry (s ∷ rest) answers
 AtMid p lay w g b said k entry answers rest (Access s) = (test : Test) × Tested p g entry s test × IsMutator g said k entry (s ∷ rest) answers
+AtMid p lay w g b said k entry answers rest (MarkCard s card) = IsCard p card × IsMutator g said k entry rest (answers ++ Fine ∷ [])
 AtMid p lay w g b said k entry answers rest (AccessGlobal s) = IsGlobal s × IsMutator g said k entry (s ∷ rest) answers
 AtMid p lay w g b said k entry answers rest (Look s f) =
     IsMaking s × (f < lay.fragments) × Tight b k (made_words p s) f × IsMutator g said k entry (s ∷ rest) answers
@@ -140,8 +146,13 @@ pub record Stands (p : Program) (lay : Constants) (w : Words) (g : Graph) (b : B
   pub fits : FindKinds (kinds_in (g.mutator k)) (g.mutator k).script
   pub runnable : AllByRecursion (IsRunnable p) (g.mutator k).script
 
+-- the word is no standing object's
+abbrev pub IsNoObjects : Graph → Book → ℕ → Type 0
+IsNoObjects g b x = (n : ℕ) → b.stands n ≡ true → b.address n ≤ x → x < b.address n + words_for (g.size n) → ⊥
+
 -- what a step of mutator k leaves of what the others rest on
-pub record Later (w : Words) (g : Graph) (b : Book) (said : ℕ → List Answer) (v : Words) (h : Graph) (c : Book) (said' : ℕ → List Answer) (k : ℕ) : Type 0 where
+pub record Later (p : Program) (w : Words) (g : Graph) (b : Book) (said : ℕ → List Answer) (v : Words) (h : Graph) (c : Book)
+    (said' : ℕ → List Answer) (k : ℕ) : Type 0 where
   pub stands : (n : ℕ) → b.stands n ≡ true → c.stands n ≡ true
   pub known : (n : ℕ) → IsKnown w.word g b n → IsKnown v.word h c n
   pub address : (n : ℕ) → b.stands n ≡ true → c.address n ≡ b.address n
@@ -150,6 +161,10 @@ pub record Later (w : Words) (g : Graph) (b : Book) (said : ℕ → List Answer)
   pub next : (f : ℕ) → b.next f ≤ c.next f
   pub limit : (f : ℕ) → c.limit f ≡ b.limit f
   pub length_word : (n : ℕ) → b.stands n ≡ true → n ≢ 0 → w.word (b.address n + 1) ≡ g.size n → v.word (b.address n + 1) ≡ g.size n
+  pub owed : c.owed ≡ b.owed
+  -- a word before the globals that is zero and no object's stays zero, and a dirty card stays dirty
+  pub zeros : (x : ℕ) → x < globals_base (layout_of p) → IsNoObjects g b x → w.word x ≡ 0 → v.word x ≡ 0
+  pub dirty : (x : ℕ) → w.card x ≡ 1 → v.card x ≡ 1
   pub mutator : (j : ℕ) → j ≢ k → h.mutator j ≡ g.mutator j
   pub says : (j : ℕ) → j ≢ k → said' j ≡ said j
   pub from : (j : ℕ) → j ≢ k → c.from j ≡ b.from j
@@ -172,6 +187,43 @@ pub record Heads (w : Words) (g : Graph) (b : Book) (mid : Mid) (v : Words) (h :
   pub begun : (n : ℕ) → c.stands n ≡ true → (b.stands n ≡ true) ⊎ WritesHeader (c.address n) mid'
   pub done : (n : ℕ) → b.stands n ≡ true → WritesHeader (b.address n) mid → IsHeaded v.word h c n ⊎ WritesHeader (c.address n) mid'
 
+-- a strong field of an old object refers to a young one, and has this card
+pub record NeedsCard (p : Program) (class size : ℕ → ℕ) (field : ℕ → ℕ → Entry) (stands : ℕ → Bool) (address : ℕ → ℕ) (section : ℕ → Section)
+    (card : ℕ) : Type 0 where
+  pub name : ℕ
+  pub index : ℕ
+  pub target : ℕ
+  pub some : 1 ≤ name
+  pub standing : stands name ≡ true
+  pub old : section name ≡ Old
+  pub inside : index < size name
+  pub strong : is_strong (kind_of p (class name)) index (size name) ≡ true
+  pub refers : field name index ≡ Ref target
+  pub one : 1 ≤ target
+  pub young : section target ≡ Young
+  pub at : card_of (layout_of p) (address name + 2 + index) ≡ card
+
+abbrev pub IsNeeded : Program → Graph → Book → ℕ → Type 0
+IsNeeded p g b card = NeedsCard p g.class g.size g.field b.stands b.address b.section card
+
+-- the mutator is about to mark this card
+abbrev pub Marks : ℕ → Mid → Type 0
+Marks card (MarkCard s next) = card ≡ next
+Marks card mid = ⊥
+
+-- the mutator is about to write neither a header nor a card
+abbrev pub IsQuiet : Mid → Type 0
+IsQuiet (StoreLength s x) = ⊥
+IsQuiet (StoreTag s x) = ⊥
+IsQuiet (MarkCard s card) = ⊥
+IsQuiet mid = Unit {0}
+
+-- What a step of a mutator leaves to do of the cards: what is needed new is about to be marked, and what was about to be marked is
+-- dirty.
+pub record Cards (p : Program) (g : Graph) (b : Book) (mid : Mid) (v : Words) (h : Graph) (c : Book) (mid' : Mid) : Type 0 where
+  pub begun : (card : ℕ) → IsNeeded p h c card → IsNeeded p g b card ⊎ Marks card mid'
+  pub done : (card : ℕ) → Marks card mid → v.card card ≡ 1
+
 -- what a step of mutator k, which stood at `mid`, gives
 pub record Kept (p : Program) (lay : Constants) (w : Words) (g : Graph) (b : Book) (said : ℕ → List Answer) (k : ℕ) (mid : Mid) (decides : Bool) (v : Words)
     (a : Actor) : Type 0 where
@@ -180,14 +232,34 @@ pub record Kept (p : Program) (lay : Constants) (w : Words) (g : Graph) (b : Boo
   pub said' : ℕ → List Answer
   pub owner : ℕ → Owner
   pub moves : Moves p g b said k decides h c said'
-  pub later : Later w g b said v h c said' k
+  pub later : Later p w g b said v h c said' k
   pub heads : Heads w g b mid v h c a.mid
+  pub cards : Cards p g b mid v h c a.mid
   pub ground : Ground p lay v h c owner
   pub stands : Stands p lay v h c said' k a
 
--- the relation for all mutators: each object is headed, or a mutator is about to write its header
+-- what a step leaves of the blocks' own words: by the rules of today all
+pub record SameBlocks (w v : Words) : Type 0 where
+  pub block : v.block ≡ w.block
+  pub used : v.used ≡ w.used
+  pub marks : v.marks ≡ w.marks
+
+-- an old object stands in block c
+abbrev pub HasObject : Program → Book → ℕ → Type 0
+HasObject p b c = (n : ℕ) × (1 ≤ n) × (b.stands n ≡ true) × (block_at p c ≤ b.address n) × (b.address n < block_at p c + 256)
+
+-- no block is being swept, each swept one has an object, and the owed ones are still to be swept
+pub record AreResting (p : Program) (w : Words) (b : Book) : Type 0 where
+  pub settled : (c s : ℕ) → c < p.config.blocks → w.block c ≡ Sweeping s → ⊥
+  pub inhabited : (c s : ℕ) → c < p.config.blocks → w.block c ≡ Swept s → HasObject p b c
+  pub owes : (c : ℕ) → c < p.config.blocks → b.owed c ≡ true → (s : ℕ) × (w.block c ≡ Need s)
+
+-- the relation for all mutators: each object is headed, or a mutator is about to write its header; and each card that is needed is
+-- dirty, or a mutator is about to mark it
 pub record World (p : Program) (lay : Constants) (w : Words) (g : Graph) (b : Book) (said : ℕ → List Answer) (actors : ℕ → Actor) : Type 0 where
   pub owner : ℕ → Owner
   pub ground : Ground p lay w g b owner
   pub stands : (k : ℕ) → Stands p lay w g b said k (actors k)
   pub headed : (n : ℕ) → 1 ≤ n → b.stands n ≡ true → IsHeaded w.word g b n ⊎ ((k : ℕ) × WritesHeader (b.address n) (actors k).mid)
+  pub resting : AreResting p w b
+  pub carded : (card : ℕ) → IsNeeded p g b card → (w.card card ≡ 1) ⊎ ((k : ℕ) × Marks card (actors k).mid)

@@ -16,7 +16,7 @@ use Rattle.sg_program.specs.Kinds.{IsRef, IsInner, Needs}
 use Rattle.sg_graph.specs.Graph.{Entry, Ref, Int, Inner, Graph}
 use Rattle.sg_graph.specs.Book.{Book, word_of}
 use Rattle.sg_graph.specs.Heap.{Owner}
-use Rattle.sg_rules.specs.Rules.{Constants, StackWord, Mid, Idle, TestTag, TestLength, Access, AccessGlobal, Look, Claim, StoreLength, StoreTag, HideLength, Ask, Left, Yielded, Actor, sections_of, IsInHeap, IsReference}
+use Rattle.sg_rules.specs.Rules.{Constants, StackWord, Mid, Idle, TestTag, TestLength, Access, MarkCard, AccessGlobal, Look, Claim, StoreLength, StoreTag, HideLength, Ask, Left, Yielded, Actor, sections_of, IsInHeap, IsReference}
 use Rattle.sg_rules.specs.Resting.{IsRunnable}
 use Rattle.sg_rules.specs.Sane.{HasBuffer, HoldsInner, RestsOn, IsSaneAt, IsSane}
 use Rattle.sg_order.specs.Rest.{kind_of_entry, StandsAt}
@@ -40,15 +40,15 @@ field_within Plain kind n i e = (plain_field kind n i e).0
 module _ (p : Program) (lay : Constants) (w : Words) (g : Graph) (b : Book) (said : ℕ → List Answer) (owner : ℕ → Owner) (t : Ground p lay w g b owner) where
   -- what stands has an address in the heap, and ends there
   in_heap : (n : ℕ) → n ≢ 0 → b.stands n ≡ true → IsInHeap p (byte_at (b.address n))
-  in_heap n some stands = let fill = t.laid.objects.filled in elim (t.laid.objects.inside n (omega (arith, some)) stands) [
+  in_heap n some stands = elim (t.laid.objects.inside n (omega (arith, some)) stands) [
     | inl young ↦ record { above = omega (arith, young.1); below = omega (arith, young.2); whole = omega arith }
-    | inr old ↦ record { above = omega (arith, old.1, fill.0); below = omega (arith, old.2, fill.1); whole = omega arith }
+    | inr old ↦ record { above = omega (arith, old.1); below = omega (arith, old.2); whole = omega arith }
   ]
 
   ends_in_heap : (n : ℕ) → n ≢ 0 → b.stands n ≡ true → b.address n + (g.size n + 2) ≤ large_base (sections_of p)
-  ends_in_heap n some stands = let fill = t.laid.objects.filled in elim (t.laid.objects.inside n (omega (arith, some)) stands) [
+  ends_in_heap n some stands = elim (t.laid.objects.inside n (omega (arith, some)) stands) [
     | inl young ↦ omega (arith, young.2)
-    | inr old ↦ omega (arith, old.2, fill.1)
+    | inr old ↦ omega (arith, old.2)
   ]
 
   nil_word : (n : ℕ) → n ≡ 0 → byte_at (b.address n) ≡ 0
@@ -152,6 +152,7 @@ module _ (p : Program) (lay : Constants) (w : Words) (g : Graph) (b : Book) (sai
           testing = record { runnable = runs s a.script at.2; tests = n.tests; object = in_register test.register n.name n.holds n.some };
           inside = omega (arith, object, ends, below);
         }
+    sane_at (MarkCard s card) at = at.0
     sane_at (AccessGlobal s) at = (runs s a.script at.1, at.0)
     sane_at (Look s f) at = (record { runnable = runs s a.script at.3; makes = at.0 }, at.1)
     sane_at (Claim s f seen) at =

@@ -8,7 +8,7 @@ use Rattle.sg_words.proofs.Puts.{put-same, put-other, put-all, put-at}
 use Rattle.sg_program.specs.declared.program.Statement.{Statement}
 use Rattle.sg_program.specs.declared.program.Program.{Program}
 use Rattle.sg_rules.specs.Rules.{Constants, Mid, Idle, Look, Ask, Left, Yielded, Actor, looking, Comes, Follows}
-use Rattle.sg_rules.specs.Rules.Comes.{test_null, test_begins, loads_tag, loads_length, test_fails, put_stores, putd_stores, get_loads, getd_loads, global_begins, gput_stores, gget_loads, num_sets, drop_clears, move_sets, push_sets, pop_sets, hide_null, hide_begins, hide_fits, hide_misses, unhide_sets, same_tells, new_bumps, new_looks, look_finds, look_goes_on, minor_asks, asks, yields, claim_wins, claim_moves, claim_goes_on, stores_length, stores_tag}
+use Rattle.sg_rules.specs.Rules.Comes.{test_null, test_begins, loads_tag, loads_length, test_fails, put_stores, put_stores_old, marks_card, putd_stores, get_loads, getd_loads, global_begins, gput_stores, gget_loads, num_sets, drop_clears, move_sets, push_sets, pop_sets, hide_null, hide_begins, hide_fits, hide_misses, unhide_sets, same_tells, new_bumps, new_looks, look_finds, look_goes_on, minor_asks, asks, yields, claim_wins, claim_moves, claim_goes_on, stores_length, stores_tag}
 use Rattle.sg_order.specs.Rest.{IsWanted}
 use Rattle.sg_order.proofs.Events.{part-same, part-other}
 
@@ -49,7 +49,9 @@ module _ (p : Program) (lay : Constants) (w : Words) where
   stopping _ _ _ _ (loads_tag a s rest test class there) saw = quiet w _ _ _ refl refl refl
   stopping _ _ _ _ (loads_length a s rest test class len short f) saw = quiet w _ _ _ refl refl refl
   stopping _ _ _ _ (test_fails a s rest test class len short f) saw = quiet w _ _ _ refl refl refl
-  stopping _ _ _ _ (put_stores a rest r i s) saw = quiet w _ _ _ refl refl refl
+  stopping _ _ _ _ (put_stores a rest r i s cardless) saw = quiet w _ _ _ refl refl refl
+  stopping _ _ _ _ (put_stores_old a rest r i s has) saw = quiet w _ _ _ refl refl refl
+  stopping _ _ _ _ (marks_card a rest s card) saw = quiet w _ _ _ refl refl refl
   stopping _ _ _ _ (putd_stores a rest r i s) saw = quiet w _ _ _ refl refl refl
   stopping _ _ _ _ (get_loads a rest d r i v ref) saw = quiet w _ _ _ refl refl refl
   stopping _ _ _ _ (getd_loads a rest d r i v) saw = quiet w _ _ _ refl refl refl

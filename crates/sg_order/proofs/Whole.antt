@@ -1,6 +1,7 @@
 -- The induction over the list of events: one order of whole statements explains every legal list.
-use Rattle.std.proofs.Common.{◌≡◌, ℕ, ◌≤◌, ◌⊎◌, arith, Bool, true, false, eqb, List, [], ◌∷◌, ◌++◌, map, inl, inr, sym, refl, ap, ◌∙◌, subst, append_assoc, append-nil}
+use Rattle.std.proofs.Common.{◌≡◌, ℕ, ◌+◌, ◌<◌, ◌≤◌, ◌⊎◌, arith, Bool, true, false, eqb, List, [], ◌∷◌, ◌++◌, map, inl, inr, sym, refl, ap, ◌∙◌, subst, append_assoc, append-nil}
 use Rattle.std.proofs.lemmas.Bool.{cases_eq, eq-eqb, ne_eqb, cond-true, cond-false}
+use Rattle.sg_words.specs.declared.steps.BlockWord.{BlockWord}
 use Rattle.sg_words.specs.declared.steps.Step.{Step}
 use Rattle.sg_words.specs.declared.steps.Tick.{Tick}
 use Rattle.sg_words.specs.Words.{put, Words, Saw, after_step, after, Legal}
@@ -8,18 +9,19 @@ use Rattle.sg_words.specs.Events.{Event, ticks, part, order_of}
 use Rattle.sg_program.specs.declared.program.Program.{Program}
 use Rattle.sg_program.specs.declared.answers.Answer.{Answer}
 use Rattle.sg_graph.specs.Graph.{Graph}
-use Rattle.sg_graph.specs.Book.{Book}
+use Rattle.sg_graph.specs.Book.{Book, block_at}
 use Rattle.sg_graph.specs.Epoch.{Said, Explains, answers_of}
 use Rattle.sg_graph.specs.Heap.{Owner, IsHeaded}
 use Rattle.sg_rules.specs.Rules.{Constants, Actor, Comes, Follows}
-use Rattle.sg_rules.specs.Rules.Comes.{test_null, test_begins, loads_tag, loads_length, test_fails, put_stores, putd_stores, get_loads, getd_loads, global_begins, gput_stores, gget_loads, num_sets, drop_clears, move_sets, push_sets, pop_sets, hide_null, hide_begins, hide_fits, hide_misses, unhide_sets, same_tells, new_bumps, new_looks, look_finds, look_goes_on, minor_asks, asks, yields, claim_wins, claim_moves, claim_goes_on, stores_length, stores_tag}
+use Rattle.sg_rules.specs.Rules.Comes.{test_null, test_begins, loads_tag, loads_length, test_fails, put_stores, put_stores_old, marks_card, putd_stores, get_loads, getd_loads, global_begins, gput_stores, gget_loads, num_sets, drop_clears, move_sets, push_sets, pop_sets, hide_null, hide_begins, hide_fits, hide_misses, unhide_sets, same_tells, new_bumps, new_looks, look_finds, look_goes_on, minor_asks, asks, yields, claim_wins, claim_moves, claim_goes_on, stores_length, stores_tag}
 use Rattle.sg_words.proofs.Puts.{put-at, put-same, put-other, put-all}
 use Rattle.sg_order.proofs.Events.{part-same, part-other}
-use Rattle.sg_order.proofs.Relation.{Ground, Stands, Moves, WritesHeader, Kept, World}
+use Rattle.sg_order.proofs.Relation.{Ground, Stands, Later, Moves, WritesHeader, IsNeeded, Marks, Kept, SameBlocks, AreResting, World}
 use Rattle.sg_order.proofs.Frame.{stands_later}
 use Rattle.sg_order.proofs.Loads.{nulls, begins, fails, sees_tag, sees_length, sets_number, clears, searches, finds_room, finds_small, claims_again, claims_on, wants, gives_way, leaves}
 use Rattle.sg_order.proofs.Registers.{moves_over, pushes, takes_top, hides_nothing, begins_hiding, hides, hides_no_byte, unhides, compares}
 use Rattle.sg_order.proofs.Accesses.{puts, puts_number, gets, gets_number}
+use Rattle.sg_order.proofs.Cards.{puts_old, marks}
 use Rattle.sg_order.proofs.Globals.{begins_global, puts_global, gets_global}
 use Rattle.sg_order.proofs.Claims.{bumps, claims}
 use Rattle.sg_order.proofs.Headers.{writes_length, writes_tag}
@@ -34,7 +36,9 @@ module _ (p : Program) (lay : Constants) (w : Words) (g : Graph) (b : Book) (sai
   kept _ _ _ _ (loads_tag a s rest test class there) saw st = sees_tag p lay w g b said k owner t a rest s test class saw st
   kept _ _ _ _ (loads_length a s rest test class len short f) saw st = sees_length p lay w g b said k owner t a rest s test class len f saw st
   kept _ _ _ _ (test_fails a s rest test class len short f) saw st = fails p lay w g b said k owner t a rest s test class len f saw st
-  kept _ _ _ _ (put_stores a rest r i s) saw st = puts p lay w g b said k owner t a rest r i s st
+  kept _ _ _ _ (put_stores a rest r i s cardless) saw st = puts p lay w g b said k owner t a rest r i s cardless st
+  kept _ _ _ _ (put_stores_old a rest r i s has) saw st = puts_old p lay w g b said k owner t a rest r i s has st
+  kept _ _ _ _ (marks_card a rest s card) saw st = marks p lay w g b said k owner t a rest s card st
   kept _ _ _ _ (putd_stores a rest r i s) saw st = puts_number p lay w g b said k owner t a rest r i s st
   kept _ _ _ _ (get_loads a rest d r i v ref) saw st = gets p lay w g b said k owner t a rest d r i v saw st
   kept _ _ _ _ (getd_loads a rest d r i v) saw st = gets_number p lay w g b said k owner t a rest d r i v saw st
@@ -64,6 +68,46 @@ module _ (p : Program) (lay : Constants) (w : Words) (g : Graph) (b : Book) (sai
   kept _ _ _ _ (claim_goes_on a s rest f seen next later l) saw st = claims_on p lay w g b said k owner t a rest s f seen next l saw.0 st
   kept _ _ _ _ (stores_length a s rest x) saw st = writes_length p lay w g b said k owner t a rest s x st
   kept _ _ _ _ (stores_tag a s rest x) saw st = writes_tag p lay w g b said k owner t a rest s x st
+
+-- no rule of today touches the blocks' own words: one line for each rule
+same_blocks : (p : Program) (lay : Constants) (w : Words) (a : Actor) (e : Step) (d : Bool) (a' : Actor) → Comes p lay a e d a' → SameBlocks w (after_step w e)
+same_blocks p lay w _ _ _ _ (test_null a s rest test e z) = record { block = refl; used = refl; marks = refl }
+same_blocks p lay w _ _ _ _ (test_begins a s rest test e z) = record { block = refl; used = refl; marks = refl }
+same_blocks p lay w _ _ _ _ (loads_tag a s rest test class there) = record { block = refl; used = refl; marks = refl }
+same_blocks p lay w _ _ _ _ (loads_length a s rest test class len short f) = record { block = refl; used = refl; marks = refl }
+same_blocks p lay w _ _ _ _ (test_fails a s rest test class len short f) = record { block = refl; used = refl; marks = refl }
+same_blocks p lay w _ _ _ _ (put_stores a rest r i s cardless) = record { block = refl; used = refl; marks = refl }
+same_blocks p lay w _ _ _ _ (put_stores_old a rest r i s has) = record { block = refl; used = refl; marks = refl }
+same_blocks p lay w _ _ _ _ (marks_card a rest s card) = record { block = refl; used = refl; marks = refl }
+same_blocks p lay w _ _ _ _ (putd_stores a rest r i s) = record { block = refl; used = refl; marks = refl }
+same_blocks p lay w _ _ _ _ (get_loads a rest d r i v ref) = record { block = refl; used = refl; marks = refl }
+same_blocks p lay w _ _ _ _ (getd_loads a rest d r i v) = record { block = refl; used = refl; marks = refl }
+same_blocks p lay w _ _ _ _ (global_begins a s rest is) = record { block = refl; used = refl; marks = refl }
+same_blocks p lay w _ _ _ _ (gput_stores a rest x r) = record { block = refl; used = refl; marks = refl }
+same_blocks p lay w _ _ _ _ (gget_loads a rest r x v ref) = record { block = refl; used = refl; marks = refl }
+same_blocks p lay w _ _ _ _ (num_sets a rest d n) = record { block = refl; used = refl; marks = refl }
+same_blocks p lay w _ _ _ _ (drop_clears a rest r) = record { block = refl; used = refl; marks = refl }
+same_blocks p lay w _ _ _ _ (move_sets a rest d s) = record { block = refl; used = refl; marks = refl }
+same_blocks p lay w _ _ _ _ (push_sets a rest r) = record { block = refl; used = refl; marks = refl }
+same_blocks p lay w _ _ _ _ (pop_sets a rest r top stack e) = record { block = refl; used = refl; marks = refl }
+same_blocks p lay w _ _ _ _ (hide_null a rest d s offset z) = record { block = refl; used = refl; marks = refl }
+same_blocks p lay w _ _ _ _ (hide_begins a rest d s offset z) = record { block = refl; used = refl; marks = refl }
+same_blocks p lay w _ _ _ _ (hide_fits a rest d s offset len short f) = record { block = refl; used = refl; marks = refl }
+same_blocks p lay w _ _ _ _ (hide_misses a rest d s offset len short f) = record { block = refl; used = refl; marks = refl }
+same_blocks p lay w _ _ _ _ (unhide_sets a rest d s) = record { block = refl; used = refl; marks = refl }
+same_blocks p lay w _ _ _ _ (same_tells a rest r s) = record { block = refl; used = refl; marks = refl }
+same_blocks p lay w _ _ _ _ (new_bumps a s rest making l) = record { block = refl; used = refl; marks = refl }
+same_blocks p lay w _ _ _ _ (new_looks a s rest making l) = record { block = refl; used = refl; marks = refl }
+same_blocks p lay w _ _ _ _ (look_finds a s rest f next l) = record { block = refl; used = refl; marks = refl }
+same_blocks p lay w _ _ _ _ (look_goes_on a s rest f next l) = record { block = refl; used = refl; marks = refl }
+same_blocks p lay w _ _ _ _ (minor_asks a rest) = record { block = refl; used = refl; marks = refl }
+same_blocks p lay w _ _ _ _ (asks a rest s) = record { block = refl; used = refl; marks = refl }
+same_blocks p lay w _ _ _ _ (yields a s rest word set) = record { block = refl; used = refl; marks = refl }
+same_blocks p lay w _ _ _ _ (claim_wins a s rest f next) = record { block = refl; used = refl; marks = refl }
+same_blocks p lay w _ _ _ _ (claim_moves a s rest f seen next later l) = record { block = refl; used = refl; marks = refl }
+same_blocks p lay w _ _ _ _ (claim_goes_on a s rest f seen next later l) = record { block = refl; used = refl; marks = refl }
+same_blocks p lay w _ _ _ _ (stores_length a s rest x) = record { block = refl; used = refl; marks = refl }
+same_blocks p lay w _ _ _ _ (stores_tag a s rest x) = record { block = refl; used = refl; marks = refl }
 
 -- from words w that stand to g and b, a list of events leads to others that stand to the graph and the book after one order
 pub record Explained (p : Program) (lay : Constants) (es : List Event) (w : Words) (g : Graph) (b : Book) (said : ℕ → List Answer)
@@ -143,6 +187,38 @@ headed_later p lay w g b said actors k d v a before step n l q =
       ]
     ]
 
+-- and each card that is needed is dirty, or a mutator is about to mark it
+carded_later : (p : Program) (lay : Constants) (w : Words) (g : Graph) (b : Book) (said : ℕ → List Answer) (actors : ℕ → Actor) (k : ℕ) (d : Bool) (v : Words)
+    (a : Actor) →
+    ((card : ℕ) → IsNeeded p g b card → (w.card card ≡ 1) ⊎ ((j : ℕ) × Marks card (actors j).mid)) →
+    (step : Kept p lay w g b said k (actors k).mid d v a) →
+    (card : ℕ) → IsNeeded p step.h step.c card → (v.card card ≡ 1) ⊎ ((j : ℕ) × Marks card (put actors k a j).mid)
+carded_later p lay w g b said actors k d v a before step card q =
+    elim (step.cards.begun card q) [
+      | inr m ↦ inr (k, subst (λ (x : Actor). Marks card x.mid) (sym (put-same actors k a)) m)
+      | inl old ↦ elim (before card old) [
+        | inl dirty ↦ inl (step.later.dirty card dirty)
+        | inr m ↦ elim (cases_eq m.0 k) [
+          | inl e ↦ inl (step.cards.done card (subst (λ j. Marks card (actors j).mid) e m.1))
+          | inr o ↦ inr (m.0, subst (λ (x : Actor). Marks card x.mid) (sym (put-other actors k a m.0 o)) m.1)
+        ]
+      ]
+    ]
+
+-- a step that leaves the blocks' own words leaves them at rest
+resting_later : (p : Program) (w : Words) (g : Graph) (b : Book) (said : ℕ → List Answer) (v : Words) (h : Graph) (c : Book) (said' : ℕ → List Answer)
+    (k : ℕ) → Later p w g b said v h c said' k → SameBlocks w v → AreResting p w b → AreResting p v c
+resting_later p w g b said v h c said' k l same r = record {
+  settled = λ j s there e. r.settled j s there (was j ∙ e);
+  inhabited = λ j s there e. let n = r.inhabited j s there (was j ∙ e) in
+      let there : c.address n.0 ≡ b.address n.0 = l.address n.0 n.2 in
+      (n.0, n.1, l.stands n.0 n.2, subst (λ x. block_at p j ≤ x) (sym there) n.3, subst (λ x. x < block_at p j + 256) (sym there) n.4);
+  owes = λ j there e. let o = r.owes j there (sym (ap (λ (f : ℕ → Bool). f j) l.owed) ∙ e) in (o.0, sym (was j) ∙ o.1);
+}
+  where
+    was : (j : ℕ) → w.block j ≡ v.block j
+    was j = sym (ap (λ (f : ℕ → BlockWord). f j) same.block)
+
 pub one_by_one : (p : Program) (lay : Constants) (es : List Event) (w : Words) (g : Graph) (b : Book) (said : ℕ → List Answer) (actors last : ℕ → Actor) →
     World p lay w g b said actors → Legal w (ticks es) →
     ((k : ℕ) → Follows p lay (actors k) (part k es) (last k)) → Explained p lay es w g b said last
@@ -163,6 +239,11 @@ one_by_one p lay [] w g b said actors last wo legal follows = record {
       | inr m ↦ inr
           (m.0, subst (λ (a : Actor). WritesHeader (b.address n) a.mid) (sym (follows m.0)) m.1)
     ];
+    resting = wo.resting;
+    carded = λ card q. elim (wo.carded card q) [
+      | inl dirty ↦ inl dirty
+      | inr m ↦ inr (m.0, subst (λ (a : Actor). Marks card a.mid) (sym (follows m.0)) m.1)
+    ];
   };
 }
 one_by_one p lay (e ∷ es) w g b said actors last wo legal follows =
@@ -178,6 +259,9 @@ one_by_one p lay (e ∷ es) w g b said actors last wo legal follows =
       stands = put-all (λ j a. Stands p lay (after_step w e.tick.step) step.h step.c step.said' j a) actors k a' step.stands
           (λ j n. stands_later p lay w g b said (after_step w e.tick.step) step.h step.c step.said' k j step.later n (actors j) (wo.stands j));
       headed = headed_later p lay w g b said actors k e.tick.decides (after_step w e.tick.step) a' wo.headed step;
+      resting = resting_later p w g b said (after_step w e.tick.step) step.h step.c step.said' k step.later
+          (same_blocks p lay w (actors k) e.tick.step e.tick.decides a' mine.1) wo.resting;
+      carded = carded_later p lay w g b said actors k e.tick.decides (after_step w e.tick.step) a' wo.carded step;
     })
     legal.1
     (put-all (λ j a. Follows p lay a (part j es) (last j)) actors k a' mine.2

@@ -3,6 +3,7 @@ use Rattle.std.proofs.Common.{◌≡◌, ℕ, zero, suc, inl, inr, List, sym, ap
 use Rattle.std.proofs.Math.Path.{fun_ext}
 use Rattle.std.proofs.lemmas.Bool.{cases_Bool}
 use Rattle.sg_words.specs.Lists.{has}
+use Rattle.sg_words.proofs.Members.{not-in}
 use Rattle.sg_program.specs.declared.program.Program.{Program}
 use Rattle.sg_graph.specs.declared.reports.MinorReport.{MinorReport}
 use Rattle.sg_graph.specs.Graph.{Graph}
@@ -12,7 +13,7 @@ use Rattle.sg_graph.specs.Minor.{IsMinorPause, Telling}
 use Rattle.sg_graph.specs.Tiling.{IsTiled}
 use Rattle.sg_graph.specs.Copies.{AreCopied, CopiesInOrder}
 use Rattle.sg_replay.proofs.Keeping as keeping
-use Rattle.sg_replay.proofs.Copying.{one_found, StandsAlike, one_copy, not_found}
+use Rattle.sg_replay.proofs.Copying.{one_found, StandsAlike, one_copy}
 use Rattle.sg_replay.proofs.Tiling.{StandSame, one_tiling, one_count, one_next, one_limit}
 use Rattle.sg_replay.proofs.Telling.{one_pins, one_moves, one_fails, one_spares}
 
@@ -28,8 +29,8 @@ module _ (p : Program) (g : Graph) (b : Book) (apart : IsApart p g b) (ambiguous
   found : copies.found ≡ copies'.found
   found = one_found p g b ambiguous c d copies copies'
 
-  copied : AreCopied p g b d b.fill copies.found
-  copied = subst (λ (names : List ℕ). AreCopied p g b d b.fill names) (sym found) copies'.copied
+  copied : AreCopied p g b d b copies.found
+  copied = subst (λ (names : List ℕ). AreCopied p g b d b names) (sym found) copies'.copied
 
   stands : (n : ℕ) → c.stands n ≡ d.stands n
   stands zero = x.keeps.nothing.0 ∙ sym y.keeps.nothing.0
@@ -37,10 +38,10 @@ module _ (p : Program) (g : Graph) (b : Book) (apart : IsApart p g b) (ambiguous
 
   one_place : (n : ℕ) → StandsAlike c d n
   one_place n = elim (cases_Bool (has n copies.found)) [
-    | inl in_found ↦ (one_copy p g b c d b.fill copies.found copies.copied copied).1 n in_found
+    | inl in_found ↦ one_copy p g b c d b copies.found copies.copied copied n in_found
     | inr out ↦ (
-        let still = not_found p g b apart ambiguous r h c x copies n out in
-        let still' = not_found p g b apart ambiguous s i d y copies' n (ap (λ (names : List ℕ). has n names) (sym found) ∙ out) in
+        let still = copies.others n (not-in n copies.found out) in
+        let still' = copies'.others n (not-in n copies'.found (ap (λ (names : List ℕ). has n names) (sym found) ∙ out)) in
         (still.address ∙ sym still'.address, still.section ∙ sym still'.section)
         )
   ]
@@ -62,7 +63,7 @@ module _ (p : Program) (g : Graph) (b : Book) (apart : IsApart p g b) (ambiguous
     stands = fun_ext stands j;
     address = fun_ext same.address j;
     section = fun_ext same.section j;
-    fill = (one_copy p g b c d b.fill copies.found copies.copied copied).0 j;
+    owed = (x.tidies.owed ∙ sym y.tidies.owed) j;
     fragments = one_count p h c d r.pieces s.pieces same x.tidies.tiled tiled j;
     next = fun_ext (one_next p h c d r.pieces s.pieces same x.tidies.tiled tiled) j;
     limit = fun_ext (one_limit p h c d r.pieces s.pieces same x.tidies.tiled tiled) j;

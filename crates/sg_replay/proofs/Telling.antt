@@ -17,15 +17,15 @@ module _ (p : Program) (g : Graph) (b : Book) (apart : IsApart p g b) (ambiguous
   one_loose m n x y e = one_standing p g b apart m n x.young.0 x.young.1 y.young.0 y.young.1 (omega arith)
 
   -- none both moved and failed
-  not_both : (n : ℕ) → IsLoose g b ambiguous c n → HasMoved g b c n → HasFailed p g b c n → ⊥
-  not_both n loose moved failed = let e : Young ≡ Old = sym loose.young.2 ∙ sym failed.still.section ∙ moved.section in cc e
+  not_both : (spares n : ℕ) → IsLoose g b ambiguous c n → HasMoved p g b c n → HasFailed p g b c spares n → ⊥
+  not_both spares n loose moved failed = let e : Young ≡ Old = sym loose.young.2 ∙ sym failed.still.section ∙ moved.goes.old in cc e
 
   moves_too : (x y : MinorReport) → Telling p g b ambiguous x c → Telling p g b ambiguous y c → (move : Move) → Contains x.moves move → Contains y.moves move
   moves_too x y t u move i = let m = t.moves move i in elim (u.loose m.0 m.1) [
     | inl there ↦ subst (λ z. Contains y.moves z) (sym m.3) there
     | inr fails ↦ (
         let f = u.fails (byte_at (b.address m.0)) fails in
-        absurd (not_both m.0 m.1 m.2 (subst (λ z. HasFailed p g b c z) (sym (one_loose m.0 f.0 m.1 f.1 f.3)) f.2))
+        absurd (not_both y.spares m.0 m.1 m.2 (subst (λ z. HasFailed p g b c y.spares z) (sym (one_loose m.0 f.0 m.1 f.1 f.3)) f.2))
         )
   ]
 
@@ -34,7 +34,7 @@ module _ (p : Program) (g : Graph) (b : Book) (apart : IsApart p g b) (ambiguous
     | inl moves ↦ (
         let m = u.moves (move_of b c f.0) moves in
         let at : byte_at (b.address f.0) ≡ byte_at (b.address m.0) = ap (λ (move : Move). move.from) m.3 in
-        absurd (not_both f.0 f.1 (subst (λ z. HasMoved g b c z) (sym (one_loose f.0 m.0 f.1 m.1 at)) m.2) f.2)
+        absurd (not_both x.spares f.0 f.1 (subst (λ z. HasMoved p g b c z) (sym (one_loose f.0 m.0 f.1 m.1 at)) m.2) f.2)
         )
     | inr there ↦ subst (λ z. Contains y.fails z) (sym f.3) there
   ]
@@ -50,4 +50,4 @@ module _ (p : Program) (g : Graph) (b : Book) (apart : IsApart p g b) (ambiguous
     one_fails = one_by_order x.fails y.fails t.fails_in_order u.fails_in_order (fails_too x y t u) (fails_too y x u t)
 
     pub one_spares : x.spares ≡ y.spares
-    one_spares = t.spares ∙ sym u.spares
+    one_spares = let l = t.spares in let m = u.spares in omega arith

@@ -40,9 +40,10 @@ makes_nothing (New r class) q h k = h
 makes_nothing (NewV r class count) q h k = h
 makes_nothing s q h k = k
 
-never_done : (p : Program) (b : Book) (k : ℕ) (s : Statement) (q : Request) (answer : Answer) (c : Book) → IsCollecting s q → Books p b k s answer c → ⊥
-never_done p b k (Collect major) q answer c h x = x
-never_done p b k s q answer c h x = h
+never_done : (p : Program) (g : Graph) (b : Book) (k : ℕ) (s : Statement) (q : Request) (answer : Answer) (c : Book) → IsCollecting s q →
+    Books p g b k s answer c → ⊥
+never_done p g b k (Collect major) q answer c h x = x
+never_done p g b k s q answer c h x = h
 
 -- a statement asks for a collection
 record IsAsked (x : Board) (k : ℕ) (s : Statement) (said : List Said) (y : Board) : Type 0 where
@@ -122,8 +123,8 @@ module _ (p : Program) (x : Board) (k : ℕ) where
       (inr (inl (bumps, not_asked, record { word = said; graph = h; book = c; by = by; turn = turn; is = refl; after = refl })))
     where
       not_asked : (q : Request) → IsCollecting s q → ⊥
-      not_asked q h' = never_done p x.book said.by s q said.answer c h'
-          (subst (λ z. Books p x.book said.by z said.answer c) (same_statement s rest said h c next by turn) turn.books)
+      not_asked q h' = never_done p x.graph x.book said.by s q said.answer c h'
+          (subst (λ z. Books p x.graph x.book said.by z said.answer c) (same_statement s rest said h c next by turn) turn.books)
   by_place _ _ (Prepares s rest f at next goes searches lowest) =
       seen_at (x.position k) Between script (s ∷ rest) x.stopping false [] _ at next goes
       (inr (inr (searches, inl (record { fragment = f; lowest = lowest; quiet = refl; after = refl }))))

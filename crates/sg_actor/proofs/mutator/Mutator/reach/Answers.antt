@@ -12,7 +12,7 @@ use Rattle.sg_actor.specs.Testing.{as_test}
 use Rattle.sg_actor.proofs.Facts.{is_reference}
 use Rattle.sg_actor.proofs.Seen.{SawAt}
 use Rattle.sg_actor.proofs.Ports.{Ports, none_yet, loads_may, loads_saw, loads_done, stores_may, stores_done}
-use Rattle.sg_actor.proofs.Fields.{some_of, field_at, field_inside, field_object, put_comes, putd_comes, get_comes, getd_comes}
+use Rattle.sg_actor.proofs.Fields.{some_of, field_at, field_inside, field_object, putd_comes, get_comes, getd_comes}
 use Rattle.sg_desc.specs.Shapes.{Reference, Plain}
 use Rattle.sg_actor.proofs.mutator.Mutator.reach.Given.{Over}
 use Rattle.sg_actor.proofs.mutator.Mutator.reach.Goals as goal
@@ -89,24 +89,6 @@ store-requires-clause-may g c =
     let b = within a m.script (Access s) in
     let lay = c.requires.on.0 in
     let on = c.requires.on.1 in
-    let u : Test = record { register = c.in-Put.r; field = c.in-Put.field; sort = Reference } in
-    let at : word_at (c.held.result + 8 * (2 + c.args.test.field)) ≡ object_in a c.in-Put.r + 2 + c.in-Put.field = field_at a t u c.held.result (some_of (sym c.requires.test ∙ ap test_of c.in-Put.is)) c.held.ensures in
-    let here = Word (object_in a c.in-Put.r + 2 + c.in-Put.field) in
-    let there = Word (word_at (c.held.result + 8 * (2 + c.args.test.field))) in
-    stores_may o p lay b b x x on (none_yet o p lay b x on) here there (ap (λ n. Word n) at) true _ (a.reg c.in-Put.s) c.held-in-Put.result c.held-in-Put.ensures (put_comes p lay a m.script s c.in-Put.r c.in-Put.field c.in-Put.s c.in-Put.is)
-
-pub store-requires-in-PutD-clause-may : goal.store-requires-in-PutD-clause-may
-store-requires-in-PutD-clause-may g c =
-    let o = ports g in
-    let m = c.args.self.now in
-    let p = m.program in
-    let a = actor_of m in
-    let s = c.args.statement in
-    let t = as_test c.args.test in
-    let x = c.args.port.now in
-    let b = within a m.script (Access s) in
-    let lay = c.requires.on.0 in
-    let on = c.requires.on.1 in
     let u : Test = record { register = c.in-PutD.r; field = c.in-PutD.field; sort = Plain } in
     let at : word_at (c.held.result + 8 * (2 + c.args.test.field)) ≡ object_in a c.in-PutD.r + 2 + c.in-PutD.field = field_at a t u c.held.result (some_of (sym c.requires.test ∙ ap test_of c.in-PutD.is)) c.held.ensures in
     let here = Word (object_in a c.in-PutD.r + 2 + c.in-PutD.field) in
@@ -171,23 +153,6 @@ load-number-requires-clause-may g c =
     let there = Word (word_at (c.held.result + 8 * (2 + c.args.test.field))) in
     loads_may o p lay b b x x on (none_yet o p lay b x on) here there (ap (λ n. Word n) at) true _ 0 (getd_comes p lay a m.script s c.in-GetD.d c.in-GetD.r c.in-GetD.field 0 c.in-GetD.is)
 
-pub returns-in-Put-clause-goes : goal.returns-in-Put-clause-goes
-returns-in-Put-clause-goes g c lay on =
-    let o = ports g in
-    let m = c.args.self.now in
-    let p = m.program in
-    let a = actor_of m in
-    let s = c.args.statement in
-    let t = as_test c.args.test in
-    let x = c.args.port.now in
-    let b = within a m.script (Access s) in
-    let u : Test = record { register = c.in-Put.r; field = c.in-Put.field; sort = Reference } in
-    let at : word_at (c.held.result + 8 * (2 + c.args.test.field)) ≡ object_in a c.in-Put.r + 2 + c.in-Put.field = field_at a t u c.held.result (some_of (sym c.requires.test ∙ ap test_of c.in-Put.is)) c.held.ensures in
-    let here = Word (object_in a c.in-Put.r + 2 + c.in-Put.field) in
-    let there = Word (word_at (c.held.result + 8 * (2 + c.args.test.field))) in
-    stores_done o p lay b b x x on (none_yet o p lay b x on) here there (ap (λ n. Word n) at) true _ (a.reg c.in-Put.s) c.held-in-Put.result c.held-in-Put.ensures (put_comes p lay a m.script s c.in-Put.r c.in-Put.field c.in-Put.s c.in-Put.is)
-    c.store.new.self (actor_of c.say.new.self) (λ r. r) c.say.ensures.actor (c.store.ensures.seen, c.store.ensures.led)
-
 pub returns-in-PutD-clause-goes : goal.returns-in-PutD-clause-goes
 returns-in-PutD-clause-goes g c lay on =
     let o = ports g in
@@ -203,7 +168,7 @@ returns-in-PutD-clause-goes g c lay on =
     let here = Word (object_in a c.in-PutD.r + 2 + c.in-PutD.field) in
     let there = Word (word_at (c.held.result + 8 * (2 + c.args.test.field))) in
     stores_done o p lay b b x x on (none_yet o p lay b x on) here there (ap (λ n. Word n) at) true _ (a.reg c.in-PutD.s) c.held-in-PutD.result c.held-in-PutD.ensures (putd_comes p lay a m.script s c.in-PutD.r c.in-PutD.field c.in-PutD.s c.in-PutD.is)
-    c.store-in-PutD.new.self (actor_of c.say-in-PutD.new.self) (λ r. r) c.say-in-PutD.ensures.actor (c.store-in-PutD.ensures.seen, c.store-in-PutD.ensures.led)
+    c.store.new.self (actor_of c.say.new.self) (λ r. r) c.say.ensures.actor (c.store.ensures.seen, c.store.ensures.led)
 
 pub returns-in-Get-clause-goes : goal.returns-in-Get-clause-goes
 returns-in-Get-clause-goes g c lay on =
