@@ -1,12 +1,1 @@
-pub mod Members
-pub mod Going
-pub mod Grows
-pub mod Steps
-pub mod Ends
-pub mod Hand
-pub mod Handled
-pub mod Running
-pub mod Filled
-pub mod One
-pub mod Order
-pub mod Row
+pub mod Ports

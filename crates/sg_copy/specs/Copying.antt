@@ -1,124 +1,111 @@
--- What the code of a copier works on, and what it does with one slot.
-use Rattle.std.specs.Prelude.{◌≡◌, ◌≢◌, ℕ, ◌+◌, ◌-◌, ◌<◌, ◌≤◌, Bool, false, Option, Some, None, List, [], ◌∷◌, ◌++◌, map, length, slice_get}
-use Rattle.std.specs.List.{flat_map}
-use Rattle.std.proofs.Common.{ap, sym, subst, ◌∙◌}
-use Rattle.sg_words.specs.Address.{IsAddress, byte_at, word_at}
-use Rattle.sg_words.specs.Tags.{plain_word}
-use Rattle.sg_words.specs.declared.pieces.Move.{Move}
-use Rattle.sg_desc.specs.declared.shapes.Shape.{Shape}
-use Rattle.sg_desc.specs.Shapes.{is_strong, strong_any}
-use Rattle.sg_words.specs.Sections.{nursery_base, old_base, large_base, IsInSection}
-use Rattle.sg_space.specs.Space.{Contents, IsContents}
-use Rattle.sg_space.specs.Standing.{word}
-use Rattle.sg_space.specs.Changes.{IsStill}
-use Rattle.sg_copy.specs.declared.copier.Copier.{Copier}
-use Rattle.sg_copy.specs.Area.{Area, IsYoung, class_of, Traces}
+-- What a round of copying by one worker asks of a space, and what it makes of it.
+use Rattle.std.specs.Prelude.{◌≡◌, ◌≢◌, ℕ, ◌+◌, ◌*◌, ◌<◌, ◌≤◌, ◌⊎◌, Bool, true, false, Option, Some, None, List, ◌++◌, map, length, slice_index, slice_get}
+use Rattle.std.specs.Int.{bit_at}
+use Rattle.sg_words.specs.Address.{byte_at}
 use Rattle.sg_words.specs.Lists.{In}
 use Rattle.sg_words.specs.Objects.{size_of}
-use Rattle.sg_copy.specs.Image.{IsImage}
-use Rattle.sg_copy.specs.Order.{IsInOrder}
-use Rattle.sg_copy.specs.Round.{IsOpening, Handles, slots_by}
+use Rattle.sg_words.specs.Reach.{AreDistinct}
+use Rattle.sg_words.specs.Blocks.{IsSizeClass, slot_size, slots}
+use Rattle.sg_words.specs.Sections.{nursery_base, old_base, globals_base, words_end}
+use Rattle.sg_words.specs.declared.layout.Layout.{Layout}
+use Rattle.sg_words.specs.declared.pieces.Move.{Move}
+use Rattle.sg_words.specs.declared.steps.BlockWord.TheVariants.{Free, Swept}
+use Rattle.sg_desc.specs.declared.shapes.Shape.{Shape}
+use Rattle.sg_desc.specs.Shapes.{is_strong}
+use Rattle.sg_space.specs.Space.{Contents, IsContents}
+use Rattle.sg_space.specs.Standing.{word, block_in, used_in}
+use Rattle.sg_round.specs.Area.{Area, IsYoung, HasCard, place, card_at}
+use Rattle.sg_round.specs.Image.{IsImage}
+use Rattle.sg_round.specs.Order.{IsInOrder, strong_of}
+use Rattle.sg_round.specs.Round.{IsOpening, AreZoned, Slot, IsPassed, IsTaken}
 
 -- whether field i of an object of this shape holds a reference that keeps its object
 abbrev pub is_strong_in : Option Shape → ℕ → Bool
 is_strong_in (Some shape) i = is_strong shape.kind i shape.fields
 is_strong_in None i = false
 
--- the area of a round is the nursery and the major heap of the space
+-- the area of a round is the nursery, the blocks, the pages and the rows of the space
+abbrev pub area_by : Layout → List Shape → Area
+area_by layout shapes = record {
+  low = nursery_base;
+  high = old_base layout;
+  blocks = layout.blocks;
+  rows = globals_base layout;
+  end = words_end layout;
+  strong = λ c i. is_strong_in (slice_get shapes c) i;
+}
+
 abbrev pub area_of : Contents → Area
-area_of s = record { low = nursery_base; high = old_base s.layout; limit = large_base s.layout; strong = λ c i. is_strong_in (slice_get s.shapes c) i }
+area_of s = area_by s.layout s.shapes
 
--- which doesn't hang on how many fields it has
-pub strong_of_shape : (s : Contents) (c i n : ℕ) (shape : Shape) → slice_get s.shapes c ≡ Some shape → (area_of s).strong c i ≡ is_strong shape.kind i n
-strong_of_shape s c i n shape e = ap (λ (o : Option Shape). is_strong_in o i) e ∙ strong_any shape.kind i shape.fields n
+-- the slots of all items: these, and the strong fields of the objects that are items as wholes
+abbrev pub items_of : Contents → List ℕ → List ℕ → List ℕ
+items_of s slots wholes = slots ++ strong_of (area_of s) (word s) wholes
 
-pub area_still : (s t : Contents) → IsStill s t → area_of t ≡ area_of s
-area_still s t h = ap area_of h.0
-
--- the n words from `at` on are those from x on now, and no other one has changed
-abbrev pub HasCopied : (ℕ → ℕ) → ℕ → ℕ → ℕ → (ℕ → ℕ) → Type 0
-HasCopied old x n at new = ((y : ℕ) → at ≤ y → y < at + n → new y ≡ old (x + (y - at))) × ((y : ℕ) → (at ≤ y → y < at + n → ⊥) → new y ≡ old y)
-
--- the young object x was copied, stays where it is, or is whole and plain
-pub data IsTarget (s : Contents) (x : ℕ) : Type 0 where
-  Went : (t : ℕ) → IsAddress (byte_at t) → word s x ≡ byte_at t + 1 → IsTarget s x
-  Stays : (c : ℕ) → c < 256 → word s x ≡ plain_word c + 2 → IsTarget s x
-  IsPlain : (c : ℕ) → c < length s.shapes → word s x ≡ plain_word c → x + size_of (word s) x ≤ old_base s.layout → IsTarget s x
-
--- the young object to which the slot refers, if there is one, can be handled
-abbrev pub HasTarget : Contents → ℕ → Type 0
-HasTarget s slot = (x : ℕ) → word s slot ≡ byte_at x → IsYoung (area_of s) x → IsTarget s x
-
--- the front of the major heap's rest
-pub record IsFront (s : Contents) (front : ℕ) : Type 0 where
-  pub whole : byte_at (word_at front) ≡ front
-  pub above : old_base s.layout ≤ word_at front
-  pub below : word_at front ≤ large_base s.layout
-
--- an object that moved to the place `to`
-abbrev pub moved_to : ℕ → ℕ → Move
-moved_to to x = record { from = byte_at x; to = to }
-
--- what a copier is after it has handled a slot
-pub record IsHandled (old : Copier) (slot : ℕ) (new : Copier) : Type 0 where
-  pub still : IsStill old.space new.space
-  pub front : IsFront new.space new.front
-  pub added : List ℕ
-  pub moved : List ℕ
-  pub failed : List ℕ
-  pub handles : Handles (area_of old.space) (word old.space) (word_at old.front) slot (word new.space) (word_at new.front) added moved failed
-  pub todo : map word_at new.todo.items ≡ map word_at old.todo.items ++ added
-  pub moves : new.moves.items ≡ old.moves.items ++ map (moved_to old.front) moved
-  pub fails : new.fails.items ≡ old.fails.items ++ map byte_at failed
-
--- what a round asks of a space: what is true of every space, the opening, that its slots are words of the space, and the classes
-pub record CanCopy (s : Contents) (front : ℕ) (slots : List ℕ) : Type 0 where
+-- What a round asks of a space: what is true of every space; the opening, for some set `zone` of words that are in no object and in no
+-- occupied slot; that the words of slots that can be claimed are among these; and that no slot comes twice.
+pub record CanCopy (s : Contents) (slots wholes : List ℕ) : Type 0 where
   pub contents : IsContents s
-  pub is_front : IsFront s front
-  pub opening : IsOpening (area_of s) (word s) slots (word_at front)
-  pub words : (x : ℕ) → In x slots → IsInSection s.layout x
-  pub classes : (x c : ℕ) → Traces (area_of s) (word s) slots x → (word s x ≡ plain_word c) → c < length s.shapes
-  pub stays : (x c : ℕ) → Traces (area_of s) (word s) slots x → (word s x ≡ plain_word c + 2) → c < 256
+  pub zone : ℕ → Bool
+  pub opening : IsOpening (area_of s) (word s) (items_of s slots wholes) wholes zone
+  pub zoned : AreZoned (area_of s) (block_in s) (used_in s) zone
+  pub once : AreDistinct (items_of s slots wholes)
 
--- The space is the image of the old one by a round on these slots; these objects moved, in this order, and these failed, as
--- they were found, breadth first.
-pub record HasCopiedTo (old : Contents) (front : ℕ) (slots : List ℕ) (new : Contents) (moves : List Move) (fails : List ℕ) (end : ℕ) : Type 0 where
-  pub still : IsStill old new
+-- nothing but words, cards, block words and occupancies differs, and there are as many of each
+pub record IsStillBeside (old new : Contents) : Type 0 where
+  pub same : new ≡ record old { words = new.words; cards = new.cards; blocks = new.blocks; used = new.used }
+  pub words : length new.words ≡ length old.words
+  pub cards : length new.cards ≡ length old.cards
+  pub blocks : length new.blocks ≡ length old.blocks
+  pub used : length new.used ≡ length old.used
+
+-- the word of card c
+abbrev pub card_in : Contents → ℕ → ℕ
+card_in s c = slice_index s.cards c
+
+-- a slot of the round from this space: an item's, or a strong field of a copy or of an object that failed
+abbrev pub IsSlotOf : Contents → List ℕ → List ℕ → (ℕ → ℕ) → List ℕ → List ℕ → ℕ → Type 0
+IsSlotOf old slots wholes m went stayed s = Slot (area_of old) (word old) (items_of old slots wholes) m went stayed s
+
+-- the slot has a card and still refers to a young object
+pub record NeedsCard (old new : Contents) (s : ℕ) : Type 0 where
+  pub card : HasCard (area_of old) s
+  pub target : ℕ
+  pub young : IsYoung (area_of old) target
+  pub refers : word new s ≡ byte_at target
+
+-- the card of each such slot of the round is dirty, and no other card changes
+pub record AreMarked (old : Contents) (slots wholes : List ℕ) (m : ℕ → ℕ) (went stayed : List ℕ) (new : Contents) : Type 0 where
+  pub dirty : (s : ℕ) → IsSlotOf old slots wholes m went stayed s → NeedsCard old new s → card_in new (card_at (area_of old) s) ≢ 0
+  pub kept : (c : ℕ) → card_in old c ≢ 0 → card_in new c ≢ 0
+  pub others : (c : ℕ) → (card_in new c ≡ card_in old c)
+      ⊎ ((card_in new c ≡ 1) × ((s : ℕ) × IsSlotOf old slots wholes m went stayed s × NeedsCard old new s × (c ≡ card_at (area_of old) s)))
+
+-- A block's word changes from Free to Swept alone, and no bit falls. Each moved object is at a slot of its size that was clear, and each
+-- slot that was clear and isn't is the place of one.
+pub record AreFilled (old : Contents) (m : ℕ → ℕ) (went : List ℕ) (new : Contents) : Type 0 where
+  pub opened : (b : ℕ) → (block_in new b ≡ block_in old b) ⊎ ((b < old.layout.blocks) × (block_in old b ≡ Free) × ((z : ℕ) × IsSizeClass z × (block_in new b ≡ Swept z)))
+  pub risen : (b i : ℕ) → bit_at (used_in new b) i ≡ 0 → bit_at (used_in old b) i ≡ 0
+  pub homes : (a : ℕ) → In a went → IsTaken (area_of old) (block_in new) (used_in old) (used_in new) (m a) (slot_size (size_of (word old) a))
+  pub bits : (b i : ℕ) → bit_at (used_in new b) i ≡ 1 → bit_at (used_in old b) i ≡ 0 →
+      (z : ℕ) × IsSizeClass z × (b < old.layout.blocks) × (i < slots z) × (block_in new b ≡ Swept z) × ((a : ℕ) × In a went × (m a ≡ place (area_of old) b z i))
+
+-- an object that moved, by its byte addresses before and after
+abbrev pub moved_by : (ℕ → ℕ) → ℕ → Move
+moved_by m a = record { from = byte_at a; to = byte_at (m a) }
+
+-- The space is the image of the old one by a round of one worker over these slots and whole objects, which leaves no spare slot. The
+-- objects that went moved to m, and those that stayed failed, both in the order in which they were found; where the copies stand is
+-- said by `order` and by `blocks`. An object failed only where no block is Free and each block of its size is full.
+pub record HasCopiedTo (old : Contents) (slots wholes : List ℕ) (new : Contents) (moves : List Move) (fails : List ℕ) : Type 0 where
+  pub still : IsStillBeside old new
   pub m : ℕ → ℕ
   pub went : List ℕ
   pub stayed : List ℕ
-  pub image : IsImage (area_of old) (word old) slots (word_at front) went stayed m (word new) (word_at end)
-  pub ordered : IsInOrder (area_of old) (word old) slots (word_at front) went stayed (word_at end)
-  pub told_moves : moves ≡ map (λ a. moved_to (byte_at (m a)) a) went
+  pub image : IsImage (area_of old) (word old) (items_of old slots wholes) (λ _. true) went stayed m (word new) (λ _. false)
+  pub cards : AreMarked old slots wholes m went stayed new
+  pub blocks : AreFilled old m went new
+  pub full : (a b : ℕ) → In a stayed → b < old.layout.blocks → IsPassed (block_in new) (used_in new) (slot_size (size_of (word old) a)) b
+  pub order : IsInOrder (area_of old) (word old) (items_of old slots wholes) m (block_in old) (used_in old) went stayed (block_in new) (used_in new)
+  pub told_moves : moves ≡ map (moved_by m) went
   pub told_fails : fails ≡ map byte_at stayed
-
--- the strong fields of an object that is taken whole, and those of several, in order
-abbrev pub fields_of : Contents → ℕ → List ℕ
-fields_of s h = slots_by (area_of s) (class_of (word s h)) h 0 (word s (h + 1))
-
-abbrev pub fields_of_all : Contents → List ℕ → List ℕ
-fields_of_all s hs = flat_map (fields_of s) hs
-
--- the object is pinned, of one of the classes, and lies in the nursery
-pub record IsWhole (s : Contents) (h : ℕ) : Type 0 where
-  pub class : ℕ
-  pub known : class < length s.shapes
-  pub tag : word s h ≡ plain_word class + 2
-  pub above : nursery_base ≤ h
-  pub within : h + size_of (word s) h ≤ old_base s.layout
-
--- from the word x on the objects of the major heap stand one behind another up to the front, where none stands
-pub data IsFilled (s : Contents) (front : ℕ) : ℕ → Type 0 where
-  Ends : (x : ℕ) → x ≡ front → x ≤ large_base s.layout → (x < large_base s.layout → word s x ≡ 0) → IsFilled s front x
-  Goes : (x : ℕ) → word s x ≢ 0 → x + size_of (word s) x ≤ large_base s.layout → IsFilled s front (x + size_of (word s) x) → IsFilled s front x
-
--- what a round over slots and whole objects asks of a space, with the major heap filled to before this byte address
-pub record CanCopyFrom (s : Contents) (front : ℕ) (slots wholes : List ℕ) : Type 0 where
-  pub pinned : (h : ℕ) → In h wholes → IsWhole s h
-  pub can : CanCopy s front (slots ++ fields_of_all s wholes)
-
--- the same where the major heap is filled to some word
-pub record CanCopyAll (s : Contents) (slots wholes : List ℕ) : Type 0 where
-  pub front : ℕ
-  pub filled : IsFilled s front (old_base s.layout)
-  pub from : CanCopyFrom s (byte_at front) slots wholes

@@ -1,5 +1,6 @@
-pub mod Area
-pub mod Round
-pub mod Image
-pub mod Order
 pub mod Copying
+pub mod Telling
+pub mod Grays
+pub mod State
+pub mod Turning
+pub mod Plain

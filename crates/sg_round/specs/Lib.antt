@@ -1,0 +1,10 @@
+pub mod Area
+pub mod Items
+pub mod Worker
+pub mod Rules
+pub mod Acting
+pub mod Sane
+pub mod Image
+pub mod Round
+pub mod Order
+pub mod Laws
