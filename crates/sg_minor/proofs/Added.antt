@@ -1,4 +1,4 @@
--- The seeds of a round: which slots they are, and how a list of them grows.
+-- The slots with which a round begins: which they are, and how a list of them grows.
 use Rattle.std.proofs.Common.{◌≡◌, ◌≢◌, ℕ, zero, suc, ◌+◌, ◌-◌, ◌<◌, ◌≤◌, ◌↔◌, Bool, true, false, inl, inr, List, [], ◌∷◌, ◌++◌, filter, sym, refl, ap, ◌∙◌, subst, arith}
 use Rattle.std.specs.List.{flat_map}
 use Rattle.std.proofs.lemmas.Bool.{cases_eq, cases_Bool, cond-true, cond-false, false≢true}
@@ -12,7 +12,7 @@ use Rattle.sg_words.specs.declared.layout.Layout.{Layout}
 use Rattle.sg_words.specs.Sections.{globals_base}
 use Rattle.sg_words.proofs.Members.{in-left, in-right, in-cases, in-last, in-before, last-cases, in-filter, filter-in, in-flat, flat-in, in_map, map_in}
 use Rattle.sg_words.proofs.Numbers.{word_at-byte_at}
-use Rattle.sg_words.proofs.Objects.{slots-in, slots-are, slots-skip, slots-take}
+use Rattle.sg_words.proofs.Objects.{slots-in, slots-are}
 use Rattle.sg_program.specs.declared.program.Program.{Program}
 use Rattle.sg_program.specs.Scripts.{kind_of}
 use Rattle.sg_desc.specs.Shapes.{is_strong as is_strong_by}
@@ -20,8 +20,24 @@ use Rattle.sg_graph.specs.Graph.{Graph}
 use Rattle.sg_graph.specs.Book.{Book, Old}
 use Rattle.sg_graph.specs.Epoch.{numbers_below}
 use Rattle.sg_graph.specs.Heap.{layout_of}
-use Rattle.sg_copy.specs.Area.{Area, IsYoung}
-use Rattle.sg_minor.specs.Joined.{slots_of_name, slots_outside, global_slots, is_young_word, holds_young, AreSeeds}
+use Rattle.sg_round.specs.Area.{Area, IsYoung}
+use Rattle.sg_graph.specs.Copies.{StandsOld, AreByAddress}
+use Rattle.sg_minor.specs.Joined.{global_slots, is_young_word, holds_young}
+
+-- the slots of an object's strong fields, by number
+abbrev pub slots_of_name : Program → Graph → Book → ℕ → List ℕ
+slots_of_name p g b n = strong_slots (λ i. is_strong_by (kind_of p (g.class n)) i (g.size n)) (b.address n) 0 (g.size n)
+
+-- the slots outside of the nursery: the globals, and the strong fields of these old objects
+abbrev pub slots_outside : Program → Graph → Book → List ℕ → List ℕ
+slots_outside p g b old = global_slots (layout_of p) 64 ++ flat_map (slots_of_name p g b) old
+
+-- Those of the slots outside of the nursery that refer to young objects: the globals by number, then the strong fields of the old
+-- objects by address and number.
+pub record AreSlots (p : Program) (w : ℕ → ℕ) (area : Area) (g : Graph) (b : Book) (slots : List ℕ) : Type 0 where
+  pub old : List ℕ
+  pub old_are : AreByAddress b (StandsOld b) old
+  pub list : slots ≡ filter (holds_young area w) (slots_outside p g b old)
 
 -- a slot outside of the nursery: a global, or a strong field of an old object
 pub data IsSeed (p : Program) (g : Graph) (b : Book) (s : ℕ) : Type 0 where
@@ -69,7 +85,7 @@ pub global-more : (layout : Layout) (x : ℕ) → global_slots layout (x + 1) �
 global-more layout x =
     ap (λ (z : ℕ). global_slots layout z) (let e : x + 1 ≡ suc x = omega arith in e) ∙ map-append (λ (z : ℕ). globals_base layout + z) (numbers_below x) (x ∷ [])
 
-module _ (p : Program) (w : ℕ → ℕ) (area : Area) (g : Graph) (b : Book) (slots : List ℕ) (seeds : AreSeeds p w area g b slots) where
+module _ (p : Program) (w : ℕ → ℕ) (area : Area) (g : Graph) (b : Book) (slots : List ℕ) (seeds : AreSlots p w area g b slots) where
   pub outside-is : (s : ℕ) → In s (slots_outside p g b seeds.old) → IsSeed p g b s
   outside-is s listed =
       elim (in-cases s (global_slots (layout_of p) 64) (flat_map (slots_of_name p g b) seeds.old) listed) [
@@ -108,20 +124,3 @@ module _ (f : ℕ → Bool) where
 
   pub adds-not : (xs : List ℕ) (s : ℕ) → f s ≡ false → xs ≡ xs ++ filter f (s ∷ [])
   adds-not xs s is = sym (append-nil xs) ∙ ap (λ (l : List ℕ). xs ++ l) (sym (cond-false _ (s ∷ []) _ is))
-
-  -- the strong fields of an object from one to the next
-  module _ (strong : ℕ → Bool) (at n : ℕ) where
-    pub fields-open : (j : ℕ) (xs : List ℕ) → j ≤ n → ((k : ℕ) → 0 ≤ k → k < j → strong k ≡ false) → xs ++ filter f (strong_slots strong at j (n - j)) ≡ xs ++ filter f (strong_slots strong at 0 n)
-    fields-open j xs u none = ap (λ (l : List ℕ). xs ++ filter f l)
-        (sym (slots-skip strong at 0 j n (omega arith) u none) ∙ ap (λ (z : ℕ). strong_slots strong at 0 z) (let e : n - 0 ≡ n = omega arith in e))
-
-    pub fields-more : (i j : ℕ) (xs ys rest : List ℕ) → i < n → strong i ≡ true → i + 1 ≤ j → j ≤ n → ((k : ℕ) → i + 1 ≤ k → k < j → strong k ≡ false) → ys ≡ xs ++ filter f ((at + 2 + i) ∷ []) →
-        xs ++ filter f (strong_slots strong at i (n - i)) ≡ rest → ys ++ filter f (strong_slots strong at j (n - j)) ≡ rest
-    fields-more i j xs ys rest l is from to none e h =
-        ap (λ (z : List ℕ). z ++ filter f (strong_slots strong at j (n - j))) e ∙ append_assoc xs (filter f ((at + 2 + i) ∷ [])) (filter f (strong_slots strong at j (n - j)))
-        ∙ ap (λ (z : List ℕ). xs ++ z) (sym (filter-append f ((at + 2 + i) ∷ []) (strong_slots strong at j (n - j)))
-        ∙ ap (λ (z : List ℕ). filter f ((at + 2 + i) ∷ z)) (sym (slots-skip strong at (i + 1) j n from to none)) ∙ ap (λ (z : List ℕ). filter f z) (sym (slots-take strong at i n l is)))
-        ∙ h
-
-    pub fields-all : (xs rest : List ℕ) (i : ℕ) → n ≤ i → xs ++ filter f (strong_slots strong at i (n - i)) ≡ rest → xs ≡ rest
-    fields-all xs rest i l h = sym (append-nil xs) ∙ ap (λ (z : ℕ). xs ++ filter f (strong_slots strong at i z)) (let e : 0 ≡ n - i = omega arith in e) ∙ h

@@ -1,29 +1,30 @@
 -- The book after a pause: what is kept, where it stands, and whose word each word is.
-use Rattle.std.proofs.Common.{◌≡◌, ◌≢◌, ℕ, ◌+◌, ◌≤◌, ◌<◌, ◌⊎◌, cond, Bool, true, false, List, length, sym, ap, ◌∙◌, subst, inl, inr, arith, le_refl}
+use Rattle.std.proofs.Common.{◌≡◌, ◌≢◌, ℕ, ◌+◌, ◌-◌, ◌≤◌, ◌<◌, ◌⊎◌, cond, Bool, true, false, List, length, sym, ap, ◌∙◌, subst, inl, inr, arith, le_refl}
 use Rattle.std.proofs.lemmas.Bool.{cond-true, cond-false, cases_eq, cases_lt, cases_Bool}
 use Rattle.sg_words.specs.declared.pieces.Piece.{Piece}
 use Rattle.sg_words.specs.Pieces.{fronts_of}
 use Rattle.sg_program.specs.declared.program.Program.{Program}
 use Rattle.sg_program.specs.Scripts.{words_for}
 use Rattle.sg_graph.specs.Graph.{Graph}
-use Rattle.sg_graph.specs.Book.{Book, Section, Young, Old, nursery_end, old_end}
+use Rattle.sg_graph.specs.Book.{Book, Section, Young, Old, nursery_end, old_end, IsWordOf}
 use Rattle.sg_graph.specs.Minor.{IsStill}
 use Rattle.sg_words.specs.Sections.{nursery_base}
 use Rattle.sg_graph.specs.Laws.{QuietPause}
 use Rattle.sg_graph.specs.Invariants.{IsPlain}
 use Rattle.sg_space.specs.declared.objects.Object.{Object}
 use Rattle.sg_graph.specs.Heap.{Owner, Of, Frag, Buf, Nobody, IsHeap, layout_of}
-use Rattle.sg_copy.specs.Area.{Area, IsYoung}
+use Rattle.sg_round.specs.Area.{Area, IsYoung}
 use Rattle.sg_words.specs.Lists.{In, has}
 use Rattle.sg_words.specs.Objects.{size_of}
 use Rattle.sg_words.proofs.Members.{out}
-use Rattle.sg_words.proofs.Objects.{placed-grows, placed-in}
+use Rattle.sg_words.specs.Blocks.{slot_size}
+use Rattle.sg_words.proofs.Blocks.{slot_size-holds, slot_fits}
 use Rattle.sg_nursery.specs.Pieces.{IsTaken, ArePieces}
 use Rattle.sg_minor.specs.Joined.{IsKept, IsTraced, IsPictured, IsPicture}
 use Rattle.sg_minor.specs.Law.{HaveWords}
 use Rattle.sg_minor.proofs.Ranges.{ranged, ranged-in, ranged-out, ranged-cases}
-use Rattle.sg_minor.proofs.Owners.{settled, settled-below, settled-above, settled-in, placed-of}
-use Rattle.sg_minor.proofs.Names.{IsAreaOf, of-same, IsNamed, young-is, is-young-at, same-name, IsIn, IsOut, section, young-section, size-is, name-of, reached-young, young, young-yes, young-no, is-young, kept, keeps, kept-stands, kept-has, kept-nothing}
+use Rattle.sg_minor.proofs.Owners.{settled, IsCopyOf, settled-out, settled-in, copy-cases}
+use Rattle.sg_minor.proofs.Names.{IsAreaOf, of-same, some-name, IsNamed, young-is, is-young-at, same-name, IsIn, IsOut, section, young-section, size-is, name-of, reached-young, young, young-yes, young-no, is-young, kept, keeps, kept-stands, kept-has, kept-nothing}
 use Rattle.sg_minor.proofs.Tiles.{next_of, limit_of, IsTile, tile, tiles-apart}
 
 -- A pause that has ended: the words w before it hold the graph, and the words v after it are their picture.
@@ -38,7 +39,6 @@ pub record Ended : Type 0 where
   pub stays : List ℕ
   pub moves : List ℕ
   pub m : ℕ → ℕ
-  pub end : ℕ
   pub owner : ℕ → Owner
   pub standing : List Object
   pub pieces : List Piece
@@ -47,7 +47,7 @@ pub record Ended : Type 0 where
   pub tie : IsAreaOf p area
   pub heap : IsHeap p w g b owner
   pub traced : IsTraced p area w g b ambiguous stays moves
-  pub picture : IsPicture p area w g b stays moves m v end
+  pub picture : IsPicture p area w g b stays moves m v
   pub words : HaveWords standing w stays
   pub tiles : ArePieces (layout_of p) standing pieces
 
@@ -117,7 +117,7 @@ module _ (c : Ended) where
     stands = stands_on;
     address = address_of;
     section = section_of;
-    fill = c.end;
+    owed = c.b.owed;
     fragments = count;
     next = next_of c.pieces;
     limit = limit_of c.pieces;
@@ -158,19 +158,41 @@ module _ (c : Ended) where
   pub stays-still : (n : ℕ) → In (c.b.address n) c.stays → IsStill c.b booked n
   stays-still n h = unmoved-still n (c.traced.apart (c.b.address n) h)
 
-  pub fill-grows : c.b.fill ≤ c.end
-  fill-grows = placed-grows c.w c.m c.b.fill c.moves c.end c.picture.placed
+  -- a copy lies in the major heap, and none of its words was an object's
+  pub home-in : (a : ℕ) → In a c.moves → (nursery_end c.p ≤ c.m a) × (c.m a + size_of c.w a ≤ old_end c.p)
+  home-in a h =
+      let q = c.picture.homes a h in
+      let holds = slot_size-holds (size_of c.w a) q.small in
+      let fit = slot_fits (slot_size (size_of c.w a)) q.slot q.fits in
+      let there = q.there in
+      let at = q.at in
+      (omega arith, omega arith)
 
-  pub end-within : c.end ≤ old_end c.p
-  end-within = let room = c.picture.room in let limit = c.tie.limit in omega arith
+  pub home-free : (a x n : ℕ) → In a c.moves → IsCopyOf c.w c.m a x → IsWordOf c.g c.b n x → ⊥
+  home-free a x n h k =
+      let q = c.picture.homes a h in
+      let holds = slot_size-holds (size_of c.w a) q.small in
+      let from = k.0 in
+      let to = k.1 in
+      let at = q.at in
+      λ o. q.empty n x o (omega arith) (omega arith)
 
-  pub fill-from : nursery_end c.p ≤ c.b.fill
-  fill-from = c.heap.laid.objects.filled.0
+  -- a word is of one copy
+  pub one-copy : (a x : ℕ) → In a c.moves → IsCopyOf c.w c.m a x → (d : ℕ) → In d c.moves → IsCopyOf c.w c.m d x → d ≡ a
+  one-copy a x h k d i l =
+      let from = k.0 in
+      let to = k.1 in
+      let low = l.0 in
+      let high = l.1 in
+      c.picture.apart d a (x - c.m d) (x - c.m a) i h (omega arith) (omega arith) (omega arith)
+
+  young-no-copy : (x : ℕ) → x < nursery_end c.p → (a : ℕ) → In a c.moves → IsCopyOf c.w c.m a x → ⊥
+  young-no-copy x below a h k = let from = k.0 in let low = (home-in a h).0 in omega arith
 
   -- where a kept object stands
   pub data Place (n : ℕ) : Type 0 where
     Stayed : Lies n → In (c.b.address n) c.stays → section_of n ≡ Young → address_of n ≡ c.b.address n → Place n
-    Moved : Lies n → In (c.b.address n) c.moves → section_of n ≡ Old → c.b.fill ≤ address_of n → address_of n + words_for (c.g.size n) ≤ c.end → Place n
+    Moved : Lies n → In (c.b.address n) c.moves → section_of n ≡ Old → nursery_end c.p ≤ address_of n → address_of n + words_for (c.g.size n) ≤ old_end c.p → Place n
     Older : LiesOld n → section_of n ≡ Old → address_of n ≡ c.b.address n → Place n
 
   pub place : (n : ℕ) → n ≢ 0 → stands_on n ≡ true → Place n
@@ -179,7 +201,7 @@ module _ (c : Ended) where
       elim (lies n s d) [
         | inl i ↦ elim (is-kept n k i.young) [
           | inl h ↦ (let q = stays-still n h in Stayed i h (q.section ∙ i.section) q.address)
-          | inr h ↦ (let q = placed-in c.w c.m c.b.fill c.moves c.end c.picture.placed (c.b.address n) h in
+          | inr h ↦ (let q = home-in (c.b.address n) h in
               let l = q.0 in let u = q.1 in let z = sizes n d s in let e = at-sent n s in
               Moved i h (moved-section n s h) (omega arith) (omega arith))
         ]
@@ -212,7 +234,7 @@ module _ (c : Ended) where
   owner2 = ranged owner1 (next_of c.pieces) (limit_of c.pieces) Frag count
 
   abbrev pub owner3 : ℕ → Owner
-  owner3 = settled c.w c.m c.owner c.b.fill c.moves owner2
+  owner3 = settled c.w c.m c.owner c.moves owner2
 
   owner1-young : (x : ℕ) → IsYoung c.area x → owner1 x ≡ stayed (c.owner x)
   owner1-young x y = cond-true _ _ _ (young-yes c.p c.area c.tie c.w c.g c.b c.ambiguous c.owner c.heap x y)
@@ -238,16 +260,16 @@ module _ (c : Ended) where
   owner2-old : (x : ℕ) → (IsYoung c.area x → ⊥) → owner2 x ≡ c.owner x
   owner2-old x n = ranged-out owner1 (next_of c.pieces) (limit_of c.pieces) Frag count x (λ j l q u. n (tile-young j x l q u)) ∙ owner1-old x n
 
-  owner3-below : (x : ℕ) → x < c.b.fill → owner3 x ≡ owner2 x
-  owner3-below x l = settled-below c.w c.m c.owner c.b.fill c.moves owner2 x l
+  pub owner3-out : (x : ℕ) → ((a : ℕ) → In a c.moves → IsCopyOf c.w c.m a x → ⊥) → owner3 x ≡ owner2 x
+  owner3-out x none = settled-out c.w c.m c.owner c.moves owner2 x none
 
-  owner3-old : (x : ℕ) → (IsYoung c.area x → ⊥) → x < c.b.fill → owner3 x ≡ c.owner x
-  owner3-old x n l = owner3-below x l ∙ owner2-old x n
+  pub owner3-old : (x : ℕ) → (IsYoung c.area x → ⊥) → ((a : ℕ) → In a c.moves → IsCopyOf c.w c.m a x → ⊥) → owner3 x ≡ c.owner x
+  owner3-old x n none = owner3-out x none ∙ owner2-old x n
 
-  young-below : (x : ℕ) → IsYoung c.area x → x < c.b.fill
-  young-below x y = let l = (in-nursery x y).1 in let z = fill-from in omega arith
+  owner3-young : (x : ℕ) → IsYoung c.area x → owner3 x ≡ owner2 x
+  owner3-young x y = owner3-out x (young-no-copy x (in-nursery x y).1)
 
-  old-out : (x : ℕ) → nursery_end c.p ≤ x → IsYoung c.area x → ⊥
+  pub old-out : (x : ℕ) → nursery_end c.p ≤ x → IsYoung c.area x → ⊥
   old-out x l y = let u = (in-nursery x y).1 in omega arith
 
   stayed-of : (o : Owner) (n : ℕ) → stayed o ≡ Of n → (o ≡ Of n) × In (c.b.address n) c.stays
@@ -266,7 +288,7 @@ module _ (c : Ended) where
   -- each word of a fragment is its own
   pub frag-owns : (f x : ℕ) → f < count → next_of c.pieces f ≤ x → x < limit_of c.pieces f → owner3 x ≡ Frag f
   frag-owns f x l q u =
-      owner3-below x (young-below x (tile-young f x l q u))
+      owner3-young x (tile-young f x l q u)
       ∙ ranged-in owner1 (next_of c.pieces) (limit_of c.pieces) Frag count f x l
       (λ j more there low high. (let o = tiles-apart (layout_of c.p) c.standing c.pieces c.tiles f j more there in omega arith)) q u
 
@@ -276,9 +298,8 @@ module _ (c : Ended) where
       let a : c.b.address n ≡ 0 = ap c.b.address z ∙ c.heap.laid.nothing.at_nil in
       let e : address_of n ≡ 0 = ap address_of z ∙ nil-at in
       let i : c.g.size n ≡ 0 = ap c.g.size z ∙ c.heap.laid.nothing.no_size in
-      let f = fill-from in
       let s : c.b.stands n ≡ true = ap c.b.stands z ∙ c.heap.laid.nothing.stands_nil in
-      owner3-old x (λ y. let k = (in-nursery x y).0 in omega arith) (omega arith)
+      owner3-old x (λ y. let k = (in-nursery x y).0 in omega arith) (young-no-copy x (omega arith))
       ∙ c.heap.laid.objects.owns n x s (omega arith) (omega arith)
 
   object-owns : (n x : ℕ) → n ≢ 0 → c.b.stands n ≡ true → Place n → address_of n ≤ x → x < address_of n + words_for (c.g.size n) → owner3 x ≡ Of n
@@ -290,7 +311,7 @@ module _ (c : Ended) where
       let to : x < c.b.address n + words_for (c.g.size n) = omega arith in
       let y : IsYoung c.area x = young-at x (omega arith) (omega arith) in
       let has-it = taken (c.b.address n) x h from (omega arith) in
-      owner3-below x (young-below x y)
+      owner3-young x y
       ∙ ranged-out owner1 (next_of c.pieces) (limit_of c.pieces) Frag count x (λ j k l1 u1. tile-free j x k l1 u1 has-it)
       ∙ owner1-young x y
       ∙ ap stayed (c.heap.laid.objects.owns n x s from to)
@@ -298,12 +319,13 @@ module _ (c : Ended) where
   object-owns n x d s (Moved i h q low high) l u =
       let z = sizes n d s in
       let e = at-sent n s in
-      settled-in c.w c.m c.owner c.b.fill c.moves owner2 c.end c.picture.placed (c.b.address n) x h (omega arith) (omega arith)
+      settled-in c.w c.m c.owner c.moves owner2 (c.b.address n) x h (omega arith, omega arith) (one-copy (c.b.address n) x h (omega arith, omega arith))
       ∙ c.heap.laid.objects.owns n (c.b.address n) s (le_refl _) (omega arith)
   object-owns n x d s (Older o q e) l u =
       let above = o.above in
       let below = o.below in
-      owner3-old x (old-out x (omega arith)) (omega arith)
+      owner3-old x (old-out x (omega arith))
+      (λ a i k. home-free a x n i k (record { some = some-name n d; stands = s; above = omega arith; below = omega arith }))
       ∙ c.heap.laid.objects.owns n x s (omega arith) (omega arith)
 
   pub owns : (n x : ℕ) → stands_on n ≡ true → address_of n ≤ x → x < address_of n + words_for (c.g.size n) → owner3 x ≡ Of n
@@ -324,8 +346,8 @@ module _ (c : Ended) where
       let u = q.2 in
       (stands-kept n q.0 (λ _. inl h), omega arith, omega arith)
 
-  old-owned : (n x : ℕ) → c.owner x ≡ Of n → (IsYoung c.area x → ⊥) → x < c.b.fill → HasWord n x
-  old-owned n x o out below =
+  old-owned : (n x : ℕ) → c.owner x ≡ Of n → (IsYoung c.area x → ⊥) → HasWord n x
+  old-owned n x o out =
       let q = c.heap.laid.objects.owned n x o in
       let l = q.1 in
       let u = q.2 in
@@ -339,69 +361,39 @@ module _ (c : Ended) where
       let e = (old-still n old).address in
       (stands-kept n q.0 (λ y. absurd (old y)), omega arith, omega arith)
 
-  abbrev pub copied-of : (x : ℕ) → c.b.fill ≤ x → x < c.end → (a : ℕ) × In a c.moves × (c.m a ≤ x) × (x < c.m a + size_of c.w a)
-  copied-of x l u = placed-of c.w c.m c.b.fill c.moves c.end c.picture.placed x l u
-
-  copied-owner : (a x n : ℕ) → In a c.moves → c.m a ≤ x → x < c.m a + size_of c.w a → c.b.stands n ≡ true → c.b.address n ≡ a → owner3 x ≡ Of n
-  copied-owner a x n h l u s e =
-      settled-in c.w c.m c.owner c.b.fill c.moves owner2 c.end c.picture.placed a x h l u
+  pub copied-owner : (a x n : ℕ) → In a c.moves → IsCopyOf c.w c.m a x → c.b.stands n ≡ true → c.b.address n ≡ a → owner3 x ≡ Of n
+  copied-owner a x n h k s e =
+      settled-in c.w c.m c.owner c.moves owner2 a x h k (one-copy a x h k)
       ∙ ap c.owner (sym e)
       ∙ c.heap.laid.objects.owns n (c.b.address n) s (le_refl _) (omega arith)
 
-  copied-owned : (n x : ℕ) → owner3 x ≡ Of n → c.b.fill ≤ x → x < c.end → HasWord n x
-  copied-owned n x o l u =
-      let q = copied-of x l u in
-      let k = names q.0 (inr q.1) in
-      let e : k.name ≡ n = of-same k.name n (sym (copied-owner q.0 x k.name q.1 q.2 q.3 k.stands k.at) ∙ o) in
-      let at : c.b.address n ≡ q.0 = ap c.b.address (sym e) ∙ k.at in
+  copied-owned : (n x a : ℕ) → owner3 x ≡ Of n → In a c.moves → IsCopyOf c.w c.m a x → HasWord n x
+  copied-owned n x a o h inside =
+      let k = names a (inr h) in
+      let e : k.name ≡ n = of-same k.name n (sym (copied-owner a x k.name h inside k.stands k.at) ∙ o) in
+      let at : c.b.address n ≡ a = ap c.b.address (sym e) ∙ k.at in
       let s : c.b.stands n ≡ true = ap c.b.stands (sym e) ∙ k.stands in
       let d : n ≢ 0 = λ z. k.some (e ∙ z) in
       let m-at = at-sent n s ∙ ap c.m at in
       let size = sizes n d s in
-      let size-at : size_of c.w (c.b.address n) ≡ size_of c.w q.0 = ap (λ (z : ℕ). size_of c.w z) at in
-      let low = q.2 in
-      let high = q.3 in
-      (stands-kept n s (λ _. inr (subst (λ z. In z c.moves) (sym at) q.1)), omega arith, omega arith)
+      let size-at : size_of c.w (c.b.address n) ≡ size_of c.w a = ap (λ (z : ℕ). size_of c.w z) at in
+      let low = inside.0 in
+      let high = inside.1 in
+      (stands-kept n s (λ _. inr (subst (λ z. In z c.moves) (sym at) h)), omega arith, omega arith)
 
-  behind-owned : (n x : ℕ) → owner3 x ≡ Of n → c.end ≤ x → HasWord n x
-  behind-owned n x o l =
-      let grows = fill-grows in
-      let from = fill-from in
-      let e = sym (settled-above c.w c.m c.owner c.b.fill c.moves owner2 c.end x c.picture.placed l ∙ owner2-old x (old-out x (omega arith))) ∙ o in
-      let q = c.heap.laid.objects.owned n x e in
-      let low = q.1 in
-      let high = q.2 in
-      elim (cases_eq n 0) [
-        | inl z ↦ (let a : c.b.address n ≡ 0 = ap c.b.address z ∙ c.heap.laid.nothing.at_nil in let i : c.g.size n ≡ 0 = ap c.g.size z ∙ c.heap.laid.nothing.no_size in absurd (omega arith))
-        | inr d ↦ elim (lies n q.0 d) [
-          | inl i ↦ (let within = i.below in absurd (omega arith))
-          | inr i ↦ (let within = i.below in absurd (omega arith))
-        ]
-      ]
-
-  below-owned : (n x : ℕ) → owner3 x ≡ Of n → x < c.b.fill → HasWord n x
-  below-owned n x o below = elim (young-or x) [
-    | inr out ↦ old-owned n x (sym (owner3-old x out below) ∙ o) out below
+  other-owned : (n x : ℕ) → owner3 x ≡ Of n → ((a : ℕ) → In a c.moves → IsCopyOf c.w c.m a x → ⊥) → HasWord n x
+  other-owned n x o none = elim (young-or x) [
+    | inr out ↦ old-owned n x (sym (owner3-old x out none) ∙ o) out
     | inl y ↦ elim (ranged-cases (next_of c.pieces) (limit_of c.pieces) count x) [
       | inl f ↦ absurd (let e : Frag f.0 ≡ Of n = sym (frag-owns f.0 x f.1 f.2 f.3) ∙ o in cc)
-      | inr none ↦ (let e = sym (owner3-below x below ∙ ranged-out owner1 (next_of c.pieces) (limit_of c.pieces) Frag count x none ∙ owner1-young x y) ∙ o in
+      | inr free ↦ (let e = sym (owner3-out x none ∙ ranged-out owner1 (next_of c.pieces) (limit_of c.pieces) Frag count x free ∙ owner1-young x y) ∙ o in
           let q = stayed-of (c.owner x) n e in
           stayed-owned n x q.0 q.1)
     ]
   ]
 
   pub owned : (n x : ℕ) → owner3 x ≡ Of n → HasWord n x
-  owned n x o = elim (cases_lt x c.b.fill) [
-    | inl below ↦ below-owned n x o below
-    | inr above ↦ elim (cases_lt x c.end) [
-      | inl inside ↦ copied-owned n x o above inside
-      | inr behind ↦ behind-owned n x o behind
-    ]
-  ]
-
-  -- each word of the filled part of the major heap is some object's
-  pub packed : (x : ℕ) → nursery_end c.p ≤ x → x < c.end → (n : ℕ) × (owner3 x ≡ Of n)
-  packed x l u = elim (cases_lt x c.b.fill) [
-    | inl below ↦ (let q = c.heap.laid.objects.packed x l below in (q.0, owner3-old x (old-out x l) below ∙ q.1))
-    | inr above ↦ (let q = copied-of x above u in let k = names q.0 (inr q.1) in (k.name, copied-owner q.0 x k.name q.1 q.2 q.3 k.stands k.at))
+  owned n x o = elim (copy-cases c.w c.m c.moves x) [
+    | inl q ↦ copied-owned n x q.0 o q.1 q.2
+    | inr none ↦ other-owned n x o none
   ]

@@ -15,10 +15,8 @@ use Rattle.sg_minor.proofs.Areas.{reference_is}
 pub area-of-space : (p : Program) (s : Contents) (b : Book) → IsSpaceOf p s b → IsAreaOf p (area_of s)
 area-of-space p s b is =
     let nursery = ap (λ (l : Layout). l.nursery) is.layout in
-    let blocks = ap (λ (l : Layout). l.blocks) is.layout in
     record {
       low = refl;
       high = omega arith;
-      limit = omega arith;
       strong = λ c i n. ap (λ (shapes : List Shape). is_strong_in (slice_get shapes c) i) is.shapes ∙ reference_is p c i ∙ strong_any (kind_of p c) i (fields_of p c) n;
     }

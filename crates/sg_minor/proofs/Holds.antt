@@ -5,16 +5,17 @@ use Rattle.sg_words.specs.Address.{byte_at}
 use Rattle.sg_desc.specs.Shapes.{holds_reference}
 use Rattle.sg_program.specs.Scripts.{kind_of, words_for}
 use Rattle.sg_graph.specs.Graph.{Entry, Ref, Int, Inner}
-use Rattle.sg_graph.specs.Book.{Young, Old, nursery_end, word_of}
-use Rattle.sg_words.specs.Sections.{nursery_base, ready_base}
+use Rattle.sg_graph.specs.Book.{Young, Old, nursery_end, old_end, word_of, IsWordOf}
+use Rattle.sg_words.specs.Sections.{nursery_base, globals_base}
 use Rattle.sg_graph.specs.Heap.{Of, IsHeaded, IsKnown, IsKnownEntry, IsOfSort, Objects, Fields, Globals, Clear, Fragments, IsHeap, layout_of}
-use Rattle.sg_copy.specs.Area.{IsYoung, is_strong}
+use Rattle.sg_round.specs.Area.{IsYoung, is_strong}
 use Rattle.sg_words.specs.Lists.{In}
 use Rattle.sg_words.specs.Objects.{size_of, sent}
 use Rattle.sg_words.proofs.Objects.{sent-at}
+use Rattle.sg_minor.specs.Joined.{IsUncopied}
 use Rattle.sg_minor.proofs.Names.{some-name, name-some, size-is, strong-of, ref-stands, target-kept, global-kept}
 use Rattle.sg_minor.proofs.Tiles.{next_of, limit_of, tiles-apart}
-use Rattle.sg_minor.proofs.After.{Ended, sizes, names, young-or, stands_on, stood, stands-nothing, stands-kept, address_of, section_of, count, booked, at-sent, stays-still, fill-grows, end-within, fill-from, Place, Stayed, Moved, Older, place, pictured, nil-at, owner3, tile-of, frag-owns, owns, owned, packed}
+use Rattle.sg_minor.proofs.After.{Ended, lies, young-at, sizes, names, stands_on, stood, stands-nothing, stands-kept, address_of, section_of, count, booked, at-sent, stays-still, home-in, Place, Stayed, Moved, Older, place, pictured, nil-at, owner3, tile-of, frag-owns, owns, owned}
 
 -- a field is sent where it holds a reference, to what is at `after` then
 entry-word : (address after m : ℕ → ℕ) (e : Entry) (strong : Bool) (x : ℕ) → IsOfSort strong e → ((k : ℕ) → e ≡ Ref k → after k ≡ m (address k)) → x ≡ word_of address e →
@@ -34,7 +35,7 @@ module _ (c : Ended) where
   has-field : (n i : ℕ) → i < c.g.size n → n ≢ 0
   has-field n i l e = let u = ap c.g.size e in let z = c.heap.laid.nothing.no_size in omega arith
 
-  fields-hold : (n i : ℕ) → stands_on c n ≡ true → i < c.g.size n → c.v (address_of c n + 2 + i) ≡ word_of (address_of c) (c.g.field n i)
+  pub fields-hold : (n i : ℕ) → stands_on c n ≡ true → i < c.g.size n → c.v (address_of c n + 2 + i) ≡ word_of (address_of c) (c.g.field n i)
   fields-hold n i k l =
       let d = has-field n i l in
       let s = stood c n k in
@@ -64,7 +65,7 @@ module _ (c : Ended) where
     ],
   )
 
-  target-stands : (n i k : ℕ) → stands_on c n ≡ true → i < c.g.size n → c.g.field n i ≡ Ref k → stands_on c k ≡ true
+  pub target-stands : (n i k : ℕ) → stands_on c n ≡ true → i < c.g.size n → c.g.field n i ≡ Ref k → stands_on c k ≡ true
   target-stands n i k h l e = elim (cases_eq k 0) [
     | inl z ↦ subst (λ j. stands_on c j ≡ true) (sym z) (stands-nothing c)
     | inr d ↦
@@ -87,33 +88,41 @@ module _ (c : Ended) where
     sorted = λ n i k l. c.heap.laid.fields.sorted n i (stood c n k) l;
   }
 
-  pub rows-same : (x : ℕ) → ready_base (layout_of c.p) ≤ x → c.v x ≡ c.w x
-  rows-same x l = let limit = c.tie.limit in c.picture.rows x (omega arith) (λ j u e. omega arith)
+  -- a word behind the blocks is no object's, before or after
+  behind-free : (n x : ℕ) → old_end c.p ≤ x → IsWordOf c.g c.b n x → ⊥
+  behind-free n x l o = elim (lies c n o.stands (name-some n o.some)) [
+    | inl i ↦ let u = o.below in let end = i.below in omega arith
+    | inr i ↦ let u = o.below in let end = i.below in omega arith
+  ]
+
+  behind-uncopied : (x : ℕ) → old_end c.p ≤ x → IsUncopied c.w c.moves c.m x
+  behind-uncopied x l a i h k e = let q = (home-in c a h).1 in omega arith
+
+  pub rows-same : (x : ℕ) → old_end c.p ≤ x → ((j : ℕ) → j < 64 → x ≢ globals_base (layout_of c.p) + j) → c.v x ≡ c.w x
+  rows-same x l n = c.picture.same x (omega arith) n (λ k. behind-free k x l) (behind-uncopied x l)
 
   globals : Globals c.p c.v c.g (booked c)
   globals = record {
     holds = λ x l. c.picture.globals x l ∙ sent-at c.m _ (c.b.address (c.g.global x)) (c.heap.laid.globals.holds x l)
         ∙ ap byte_at (sym (at-sent c (c.g.global x) (c.heap.laid.globals.known x l).0));
     known = λ x l. knows (c.g.global x) (global-kept c.p c.area c.tie c.w c.g c.b c.ambiguous c.owner c.heap c.stays c.moves c.traced x l);
-    empty = λ x l u. rows-same x l ∙ c.heap.laid.globals.empty x l u;
+    empty = λ x l u. rows-same x (omega arith) (λ j k e. omega arith) ∙ c.heap.laid.globals.empty x l u;
   }
 
   place-inside : (n : ℕ) → n ≢ 0 → Place c n →
       ((section_of c n ≡ Young) × (nursery_base ≤ address_of c n) × (address_of c n + words_for (c.g.size n) ≤ nursery_end c.p))
-      ⊎ ((section_of c n ≡ Old) × (nursery_end c.p ≤ address_of c n) × (address_of c n + words_for (c.g.size n) ≤ c.end))
+      ⊎ ((section_of c n ≡ Old) × (nursery_end c.p ≤ address_of c n) × (address_of c n + words_for (c.g.size n) ≤ old_end c.p))
   place-inside n d (Stayed i h q e) = let l = i.above in let u = i.below in inl (q, omega arith, omega arith)
-  place-inside n d (Moved i h q l u) = let z = fill-from c in inr (q, omega arith, u)
-  place-inside n d (Older o q e) = let l = o.above in let u = o.below in let z = fill-grows c in inr (q, omega arith, omega arith)
+  place-inside n d (Moved i h q l u) = inr (q, l, u)
+  place-inside n d (Older o q e) = let l = o.above in let u = o.below in inr (q, omega arith, omega arith)
 
-  objects : Objects c.p c.g.count c.g.class c.g.size (stands_on c) (address_of c) (section_of c) c.end (owner3 c)
+  objects : Objects c.p c.g.count c.g.class c.g.size (stands_on c) (address_of c) (section_of c) (owner3 c)
   objects = record {
     given = λ n k. c.heap.laid.objects.given n (stood c n k);
     shaped = λ n l k. c.heap.laid.objects.shaped n l (stood c n k);
     owns = owns c;
     owned = owned c;
     inside = λ n l k. place-inside n (name-some n l) (place c n (name-some n l) k);
-    filled = (let z = fill-from c in let q = fill-grows c in omega arith, end-within c);
-    packed = packed c;
   }
 
   -- a nursery word that is no object's is no word of what stayed
@@ -130,16 +139,8 @@ module _ (c : Ended) where
 
   clear : Clear c.p c.v (owner3 c)
   clear = record {
-    clear = λ x l u out. elim (young-or c x) [
-      | inl y ↦ clear-young x y out
-      | inr old ↦ elim (cases_lt x c.end) [
-        | inl inside ↦ elim (cases_lt x (nursery_end c.p)) [
-          | inl below ↦ absurd (old (let low = c.tie.low in let high = c.tie.high in (omega arith, omega arith)))
-          | inr above ↦ (let q = packed c x above inside in absurd (out q.0 q.1))
-        ]
-        | inr behind ↦ c.picture.rest x behind (let limit = c.tie.limit in omega arith)
-      ]
-    ];
+    large = λ x l u. rows-same x l (λ j k e. omega arith) ∙ c.heap.laid.clear.large x l u;
+    clear = λ x l u out. clear-young x (young-at c x l u) out;
   }
 
   fragments : Fragments c.p (count c) (next_of c.pieces) (limit_of c.pieces) (owner3 c)

@@ -23,8 +23,8 @@ use Rattle.sg_graph.specs.Epoch.{numbers_below}
 use Rattle.sg_graph.specs.Pause.{IsPinned}
 use Rattle.sg_graph.specs.Copies.{IsMovable, name_in, names_in, targets_of, items_of, leads_of}
 use Rattle.sg_graph.specs.Heap.{Owner, IsKnownEntry, IsOfSort, layout_of, IsHeap}
-use Rattle.sg_copy.specs.Area.{Area, IsYoung, class_of}
-use Rattle.sg_copy.specs.Order.{is_plain, target, targets, slots_of, leads, Fits}
+use Rattle.sg_round.specs.Area.{Area, IsYoung, class_of}
+use Rattle.sg_round.specs.Order.{is_plain, target, targets, slots_of, leads, Fits}
 use Rattle.sg_minor.specs.Joined.{ArePins, global_slots, slots_of_name, slots_outside, is_young_word, holds_young}
 use Rattle.sg_nursery.specs.Parts.{HasTagged}
 use Rattle.sg_minor.proofs.Areas.{area_for}

@@ -15,9 +15,9 @@ use Rattle.sg_words.specs.Sections.{old_base, large_base, IsInSection}
 use Rattle.sg_space.specs.Space.{Contents, IsContents}
 use Rattle.sg_space.specs.Standing.{word}
 use Rattle.sg_graph.specs.Heap.{layout_of}
-use Rattle.sg_copy.specs.Area.{Area, Traces, class_of}
-use Rattle.sg_copy.specs.Order.{slots_of, leads, Fits, IsInOrder}
-use Rattle.sg_copy.specs.Image.{IsImage}
+use Rattle.sg_round.specs.Area.{Area, Traces, class_of}
+use Rattle.sg_round.specs.Order.{slots_of, leads, Fits, IsInOrder}
+use Rattle.sg_round.specs.Image.{IsImage}
 use Rattle.sg_copy.specs.Round.{IsOpening, slots_by}
 use Rattle.sg_copy.specs.Copying.{area_of, fields_of_all, CanCopyFrom, area_still}
 use Rattle.sg_words.proofs.Numbers.{word_at-byte_at}

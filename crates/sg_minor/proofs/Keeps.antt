@@ -9,9 +9,9 @@ use Rattle.sg_graph.specs.Graph.{Graph}
 use Rattle.sg_graph.specs.Book.{Book}
 use Rattle.sg_words.specs.Sections.{globals_base}
 use Rattle.sg_graph.specs.Heap.{Owner, layout_of, IsHeap}
-use Rattle.sg_copy.specs.Area.{IsYoung, Points, Traces}
+use Rattle.sg_round.specs.Area.{IsYoung, Points, Traces}
 use Rattle.sg_words.specs.Lists.{In, has}
-use Rattle.sg_copy.specs.Image.{IsImage}
+use Rattle.sg_round.specs.Image.{IsImage}
 use Rattle.sg_words.proofs.Members.{in-left, in-right, in-cases, out}
 use Rattle.sg_minor.specs.Joined.{ArePins, IsItem, IsKept, IsTraced}
 use Rattle.sg_nursery.specs.Parts.{HasTagged}
@@ -22,7 +22,7 @@ use Rattle.sg_minor.proofs.Opens.{start-word, named, traced-young}
 
 module _ (p : Program) (w : ℕ → ℕ) (g : Graph) (b : Book) (owner : ℕ → Owner) (t : IsHeap p w g b owner) (ambiguous pins : List ℕ) (ps : ArePins g b ambiguous pins)
     (w1 : ℕ → ℕ) (tg : HasTagged w pins w1) (items : List ℕ) (sd : AreStarts p w g b pins items)
-    (moves fails : List ℕ) (m round : ℕ → ℕ) (end : ℕ) (cp : IsImage (area_for p) w1 items b.fill moves fails m round end) where
+    (moves fails : List ℕ) (m round : ℕ → ℕ) (cp : IsImage (area_for p) w1 items (λ _. true) moves fails m round (λ _. false)) where
   name-of : (a : ℕ) → Traces (area_for p) w1 items a → (n : ℕ) × (n ≢ 0) × (b.stands n ≡ true) × (b.address n ≡ a)
   name-of = named p w g b owner t ambiguous pins ps w1 tg items sd
 

@@ -7,10 +7,10 @@ use Rattle.sg_program.specs.declared.program.Program.{Program}
 use Rattle.sg_desc.specs.Shapes.{is_strong as is_strong_by, strong_any, strong_holds}
 use Rattle.sg_program.specs.Scripts.{kind_of, fields_of}
 use Rattle.sg_graph.specs.Graph.{Entry, Graph}
-use Rattle.sg_graph.specs.Book.{Book, Young, Old, nursery_end, word_of}
+use Rattle.sg_graph.specs.Book.{Book, Young, Old, nursery_end, old_end, word_of}
 use Rattle.sg_words.specs.Sections.{nursery_base}
 use Rattle.sg_graph.specs.Heap.{Owner, IsKnownEntry, IsOfSort, IsHeap}
-use Rattle.sg_copy.specs.Area.{IsYoung, class_of, is_strong, Points}
+use Rattle.sg_round.specs.Area.{IsYoung, class_of, is_strong, Points}
 use Rattle.sg_words.specs.Lists.{has, In}
 use Rattle.sg_words.proofs.Members.{out}
 use Rattle.sg_minor.specs.Joined.{ArePins}
@@ -22,12 +22,12 @@ use Rattle.sg_minor.proofs.Names.{of-same, class-of-plain, ref-of}
 abbrev pub field_refers : Program → Graph → ℕ → ℕ → Bool
 field_refers p g n i = is_strong_by (kind_of p (g.class n)) i (g.size n)
 
--- the object's words lie in the nursery, or in the filled part of the major heap
+-- the object's words lie in the nursery, or in the major heap
 abbrev pub IsInNursery : Program → ℕ → ℕ → Type 0
 IsInNursery p a n = (nursery_base ≤ a) × (a + (n + 2) ≤ nursery_end p)
 
-abbrev pub IsInFilled : Program → ℕ → ℕ → ℕ → Type 0
-IsInFilled p fill a n = (nursery_end p ≤ a) × (a + (n + 2) ≤ fill)
+abbrev pub IsInHeap : Program → ℕ → ℕ → Type 0
+IsInHeap p a n = (nursery_end p ≤ a) × (a + (n + 2) ≤ old_end p)
 
 pub class-of-pinned : (c : ℕ) → class_of (plain_word c + 2) ≡ c
 class-of-pinned c = omega arith
@@ -55,7 +55,7 @@ module _ (p : Program) (w : ℕ → ℕ) (g : Graph) (b : Book) (owner : ℕ →
     | inr h ↦ absurd (let e = sym y ∙ h.0 in cc)
   ]
 
-  pub in-old : (n : ℕ) → b.stands n ≡ true → n ≢ 0 → b.section n ≡ Old → IsInFilled p b.fill (b.address n) (g.size n)
+  pub in-old : (n : ℕ) → b.stands n ≡ true → n ≢ 0 → b.section n ≡ Old → IsInHeap p (b.address n) (g.size n)
   in-old n s d o = elim (t.laid.objects.inside n (omega arith) s) [
     | inl h ↦ absurd (let e = sym h.0 ∙ o in cc)
     | inr h ↦ (h.1, h.2)

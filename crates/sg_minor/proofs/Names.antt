@@ -16,7 +16,7 @@ use Rattle.sg_words.specs.Reach.{Reached, Root, Next}
 use Rattle.sg_words.proofs.Closure.{within_closed}
 use Rattle.sg_graph.specs.Laws.{QuietPause}
 use Rattle.sg_graph.specs.Heap.{Owner, Of, IsOfSort, IsKnownEntry, IsHeap, layout_of}
-use Rattle.sg_copy.specs.Area.{Area, IsYoung, class_of, is_strong, Points}
+use Rattle.sg_round.specs.Area.{Area, IsYoung, class_of, is_strong, Points}
 use Rattle.sg_words.specs.Lists.{has}
 use Rattle.sg_minor.specs.Joined.{IsItem, IsKept, IsTraced}
 
@@ -38,11 +38,10 @@ ref-of (Ref k) h = (k, refl)
 ref-of (Int v) h = absurd h
 ref-of (Inner v o) h = absurd h
 
--- an area is the nursery and the major heap of the program's settings, and has its classes
+-- an area has the nursery of the program's settings, and its classes
 pub record IsAreaOf (p : Program) (area : Area) : Type 0 where
   pub low : area.low ≡ nursery_base
   pub high : area.high ≡ nursery_end p
-  pub limit : area.limit ≡ old_end p
   pub strong : (c i n : ℕ) → area.strong c i ≡ is_strong_by (kind_of p c) i n
 
 module _ (p : Program) (area : Area) (tie : IsAreaOf p area) (w : ℕ → ℕ) (g : Graph) (b : Book) (ambiguous : List ℕ) (owner : ℕ → Owner) (t : IsHeap p w g b owner) where
@@ -56,7 +55,7 @@ module _ (p : Program) (area : Area) (tie : IsAreaOf p area) (w : ℕ → ℕ) (
   pub same-name : (m n : ℕ) → b.stands m ≡ true → b.stands n ≡ true → b.address m ≡ b.address n → m ≡ n
   same-name m n p q e = of-same m n (sym (t.laid.objects.owns m (b.address m) p (le_refl _) (omega arith)) ∙ ap owner e ∙ t.laid.objects.owns n (b.address n) q (le_refl _) (omega arith))
 
-  -- a standing object is in the nursery or in the filled part of the major heap
+  -- a standing object is in the nursery or in the major heap
   pub record IsIn (n : ℕ) : Type 0 where
     pub section : b.section n ≡ Young
     pub young : IsYoung area (b.address n)
@@ -67,7 +66,7 @@ module _ (p : Program) (area : Area) (tie : IsAreaOf p area) (w : ℕ → ℕ) (
     pub section : b.section n ≡ Old
     pub old : IsYoung area (b.address n) → ⊥
     pub above : nursery_end p ≤ b.address n
-    pub below : b.address n + words_for (g.size n) ≤ b.fill
+    pub below : b.address n + words_for (g.size n) ≤ old_end p
 
   pub section : (n : ℕ) → b.stands n ≡ true → n ≢ 0 → IsIn n ⊎ IsOut n
   section n s d = elim (t.laid.objects.inside n (some-name n d) s) [

@@ -1,5 +1,5 @@
 -- The heap with the tags of pinned objects is an opening of a round.
-use Rattle.std.proofs.Common.{◌≡◌, ◌≢◌, ℕ, ◌+◌, ◌≤◌, ◌<◌, ◌⊎◌, true, List, sym, ap, ◌∙◌, subst, inl, inr, arith, length}
+use Rattle.std.proofs.Common.{◌≡◌, ◌≢◌, ℕ, ◌+◌, ◌≤◌, ◌<◌, ◌⊎◌, Bool, true, false, List, sym, ap, ◌∙◌, subst, inl, inr, arith, length}
 use Rattle.sg_words.specs.Address.{byte_at}
 use Rattle.sg_words.specs.Tags.{plain_word}
 use Rattle.sg_words.specs.Reach.Reached.{Root, Next}
@@ -7,14 +7,17 @@ use Rattle.sg_program.specs.declared.program.Program.{Program}
 use Rattle.sg_graph.specs.Graph.{Graph}
 use Rattle.sg_graph.specs.Book.{Book, old_end}
 use Rattle.sg_words.specs.Sections.{nursery_base, words_end}
-use Rattle.sg_graph.specs.Heap.{Owner, layout_of, IsHeap}
-use Rattle.sg_copy.specs.Area.{IsYoung, is_strong, Points, Traces}
+use Rattle.sg_graph.specs.Heap.{Owner, Of, layout_of, IsHeap}
+use Rattle.sg_round.specs.Area.{IsYoung, IsFixed, is_strong, Points, Traces}
+use Rattle.std.proofs.lemmas.Bool.{cases_Bool}
 use Rattle.sg_words.specs.Lists.{In}
-use Rattle.sg_copy.specs.Round.{IsOpening}
+use Rattle.sg_words.proofs.Members.{not-in}
+use Rattle.sg_round.specs.Round.{IsMet, IsOpening}
 use Rattle.sg_minor.specs.Joined.{ArePins}
 use Rattle.sg_nursery.specs.Parts.{HasTagged}
 use Rattle.sg_minor.proofs.Areas.{area_for}
 use Rattle.sg_minor.proofs.Named.{field_refers, byte-same, common, first, young-named, in-nursery, in-old, nursery, field-name, outer, inner-field, tag-of, strong, field-of, size-at}
+use Rattle.sg_minor.proofs.Zoned.{IsZone}
 use Rattle.sg_minor.proofs.Slots.{IsStart, AtGlobal, AtField, AreStarts}
 
 module _ (p : Program) (w : ℕ → ℕ) (g : Graph) (b : Book) (owner : ℕ → Owner) (t : IsHeap p w g b owner) (ambiguous pins : List ℕ) (ps : ArePins g b ambiguous pins)
@@ -75,55 +78,90 @@ module _ (p : Program) (w : ℕ → ℕ) (g : Graph) (b : Book) (owner : ℕ →
     | inr h ↦ (let z = h in omega arith)
   ]
 
-  start-run : (s : ℕ) → IsStart p g b pins s → b.fill ≤ s → s < old_end p → ⊥
-  start-run s (AtGlobal x l e) u v = let k = e in absurd (omega arith)
-  start-run s (AtField n i d st (inl o) l e q) u v = let z = (in-old p w g b owner t n st d o).1 in let k = q in absurd (omega arith)
-  start-run s (AtField n i d st (inr o) l e q) u v =
-      let k = ps.each (b.address n) o in
-      let i0 = in-nursery p w g b owner t k.0 k.1.0.1 k.1.0.0 k.1.0.2 in let i1 = i0.1 in let a = k.2 in
-      let same : k.0 ≡ n = common p w g b owner t k.0 n (b.address n) k.1.0.1 st (omega arith) (omega arith) (omega arith) (omega arith) in
-      let size = ap g.size same in let f = t.laid.objects.filled.0 in let z = q in absurd (omega arith)
-
-  pub opening : IsOpening (area_for p) w1 items b.fill
-  opening = record {
-    sections = (omega arith, omega arith, t.laid.objects.filled.0, t.laid.objects.filled.1);
-    inside = λ a tr. (let y = traced-young a tr in let n = named a tr in let e = n.3 in
-        let i = nursery p w g b owner t n.0 n.2 (subst (IsYoung (area_for p)) (sym e) y) in let i1 = i.1 in let z = size-is a n.0 n.2 n.1 e in
-        (y, (omega arith)));
-    apart = λ a c ta tc l u. (let n = named a ta in let k = named c tc in let en = n.3 in let ek = k.3 in let z = size-is a n.0 n.2 n.1 en in
-        sym en ∙ ap b.address (common p w g b owner t n.0 k.0 c n.2 k.2 (omega arith) (omega arith) (omega arith) (omega arith)) ∙ ek);
-    first = λ a ta. (let n = named a ta in (
-      g.class n.0,
-      elim (tag-is a n.0 n.2 n.1 n.3) [
-        | inl h ↦ inr h.1
-        | inr h ↦ inl h
-      ],
-    ));
-    item_apart = λ s a i ta e. (let n = named a ta in let en = n.3 in
-        let q = start-apart s n.0 (sd.each s i) n.2 n.1 (subst (IsYoung (area_for p)) (sym en) (traced-young a ta)) (omega arith) (omega arith) in let z = q.1.1 in absurd (omega arith));
-    item_out = λ s a c i ta e u v. (let n = named a ta in let en = n.3 in let z = size-is a n.0 n.2 n.1 en in
-        let q = start-apart s n.0 (sd.each s i) n.2 n.1 (subst (IsYoung (area_for p)) (sym en) (traced-young a ta)) (omega arith) (omega arith) in
-        let tp = tg.tagged (b.address n.0) q.0 in let f = first p w g b owner t n.0 n.2 n.1 in let e2 : w1 a ≡ w1 (b.address n.0) = ap w1 (sym en) in absurd (omega arith));
-    item_run = λ s i u v. start-run s (sd.each s i) u v;
-    whole = λ a c i x ta q l e f y. (let n = named a ta in let en = n.3 in let z = size-is a n.0 n.2 n.1 en in
-        let l' : i < g.size n.0 = omega arith in
-        let e' : a + 2 + i ≡ b.address n.0 + 2 + i = ap (λ (z : ℕ). z + 2 + i) (sym en) in
-        let wd : w1 (a + 2 + i) ≡ w (a + 2 + i) = ap w1 e' ∙ inner-field p w g b owner t ambiguous pins ps w1 tg n.0 i n.2 l' ∙ ap w (sym e') in
-        sd.all (a + 2 + i) x
-        (AtField n.0 i n.1 n.2 (inr (pinned-tag a c n.0 n.2 n.1 en q).0) l' (sym (strong p w g b owner t ambiguous pins ps w1 tg n.0 i n.2 n.1) ∙ ap (λ (z : ℕ). is_strong (area_for p) w1 z i) en ∙ e) e')
-        (sym wd ∙ f) y);
-  }
-
-  -- the slots are words of the space, and the tags those of the classes
+  -- the slots are words of the space
   pub start-inside : (s : ℕ) → IsStart p g b pins s → (nursery_base ≤ s) × (s < words_end (layout_of p))
   start-inside s (AtGlobal x l e) = let z = e in (omega arith, omega arith)
   start-inside s (AtField n i d st o l e q) = elim (t.laid.objects.inside n (omega arith) st) [
     | inl h ↦ (let z = q in let h1 = h.1 in let h2 = h.2 in (omega arith, omega arith))
-    | inr h ↦ (let z = q in let h1 = h.1 in let h2 = h.2 in let f = t.laid.objects.filled.1 in (omega arith, omega arith))
+    | inr h ↦ (let z = q in let h1 = h.1 in let h2 = h.2 in (omega arith, omega arith))
   ]
 
-  pub plain-class : (x c : ℕ) → Traces (area_for p) w1 items x → w1 x ≡ plain_word c → c < length p.classes
-  plain-class x c tx e = let n = named x tx in subst (λ (z : ℕ). z < length p.classes) (sym (plain-tag x c n.0 n.2 n.1 n.3 e)) (t.laid.objects.shaped n.0 (let d = n.1 in omega arith) n.2).0
+  -- what a round can come to has a name, and is young
+  pub met-named : (a : ℕ) → IsMet (area_for p) w1 items pins a → (n : ℕ) × (n ≢ 0) × (b.stands n ≡ true) × (b.address n ≡ a)
+  met-named a (inl traced) = named a traced
+  met-named a (inr pin) = let k = ps.each a pin in (k.0, k.1.0.0, k.1.0.1, k.2)
 
-  pub pinned-class : (x c : ℕ) → Traces (area_for p) w1 items x → w1 x ≡ plain_word c + 2 → c < length p.classes
-  pinned-class x c tx e = let n = named x tx in subst (λ (z : ℕ). z < length p.classes) (sym (pinned-tag x c n.0 n.2 n.1 n.3 e).1) (t.laid.objects.shaped n.0 (let d = n.1 in omega arith) n.2).0
+  met-young : (a : ℕ) → IsMet (area_for p) w1 items pins a → IsYoung (area_for p) a
+  met-young a (inl traced) = traced-young a traced
+  met-young a (inr pin) =
+      let k = ps.each a pin in
+      let i = in-nursery p w g b owner t k.0 k.1.0.1 k.1.0.0 k.1.0.2 in
+      let low = i.0 in
+      let high = i.1 in
+      let at = k.2 in
+      (omega arith, omega arith)
+
+  fixed-tag : (a c n : ℕ) → b.stands n ≡ true → n ≢ 0 → b.address n ≡ a → IsFixed c (w1 a) → In (b.address n) pins × (c ≡ g.class n)
+  fixed-tag a c n s d e (inl q) = pinned-tag a c n s d e q
+  fixed-tag a c n s d e (inr q) = elim (tag-is a n s d e) [
+    | inl h ↦ absurd (let z = h.1 in omega arith)
+    | inr h ↦ absurd (let z = h in omega arith)
+  ]
+
+  -- a slot of the beginning is a field of an object, or lies behind the blocks
+  start-owned : (s : ℕ) → IsStart p g b pins s → ((n : ℕ) × (owner s ≡ Of n)) ⊎ (old_end p ≤ s)
+  start-owned s (AtGlobal x l e) = inr (let z = e in omega arith)
+  start-owned s (AtField n i d st o l e q) = inl (n, t.laid.objects.owns n s st (let z = q in omega arith) (let z = q in omega arith))
+
+  module _ (few : length p.classes ≤ 256) (zone : ℕ → Bool) (zones : IsZone p w owner zone) where
+    zone-out : (s : ℕ) → IsStart p g b pins s → zone s ≡ false
+    zone-out s k = elim (cases_Bool (zone s)) [
+      | inr e ↦ e
+      | inl set ↦ elim (start-owned s k) [
+        | inl n ↦ absurd (zones.free s n.0 set n.1)
+        | inr behind ↦ absurd (let below = zones.below s set in omega arith)
+      ]
+    ]
+
+    pub opening : IsOpening (area_for p) w1 items pins zone
+    opening = record {
+      above = zones.above;
+      zero = λ y e. outer p w g b owner t ambiguous pins ps w1 tg y (λ young. (let low = young.1 in let high = zones.above y e in absurd (omega arith))) ∙ zones.zero y e;
+      inside = λ a met. (let y = met-young a met in let n = met-named a met in let e = n.3 in
+          let i = nursery p w g b owner t n.0 n.2 (subst (IsYoung (area_for p)) (sym e) y) in let i1 = i.1 in let z = size-is a n.0 n.2 n.1 e in
+          let most = (t.laid.objects.shaped n.0 (let d = n.1 in omega arith) n.2).1.0 in
+          (y, omega arith, omega arith));
+      apart = λ a c ta tc l u. (let n = met-named a ta in let k = met-named c tc in let en = n.3 in let ek = k.3 in let z = size-is a n.0 n.2 n.1 en in
+          sym en ∙ ap b.address (common p w g b owner t n.0 k.0 c n.2 k.2 (omega arith) (omega arith) (omega arith) (omega arith)) ∙ ek);
+      first = λ a ta. (let n = met-named a ta in (
+        g.class n.0,
+        (let known = (t.laid.objects.shaped n.0 (let d = n.1 in omega arith) n.2).0 in omega arith),
+        elim (tag-is a n.0 n.2 n.1 n.3) [
+          | inl h ↦ inr (inl h.1)
+          | inr h ↦ inl h
+        ],
+      ));
+      stays = λ a i. (let n = met-named a (inr i) in let e = n.3 in (
+        g.class n.0,
+        elim (tag-of p w g b owner t ambiguous pins ps w1 tg n.0 n.2 n.1) [
+          | inl h ↦ inl (ap w1 (sym e) ∙ h.1)
+          | inr h ↦ absurd (not-in (b.address n.0) pins h.0 (subst (λ (z : ℕ). In z pins) (sym e) i))
+        ],
+      ));
+      item_word = λ s i. start-inside s (sd.each s i);
+      item_apart = λ s a i ta. (let n = met-named a ta in let en = n.3 in
+          let y = subst (IsYoung (area_for p)) (sym en) (met-young a ta) in (
+          λ e. (let q = start-apart s n.0 (sd.each s i) n.2 n.1 y (omega arith) (omega arith) in let z = q.1.1 in absurd (omega arith)),
+          λ e. (let q = start-apart s n.0 (sd.each s i) n.2 n.1 y (omega arith) (omega arith) in let z = q.1.1 in absurd (omega arith))));
+      item_out = λ s a c i ta e u v. (let n = named a ta in let en = n.3 in let z = size-is a n.0 n.2 n.1 en in
+          let q = start-apart s n.0 (sd.each s i) n.2 n.1 (subst (IsYoung (area_for p)) (sym en) (traced-young a ta)) (omega arith) (omega arith) in
+          let tp = tg.tagged (b.address n.0) q.0 in let f = first p w g b owner t n.0 n.2 n.1 in let e2 : w1 a ≡ w1 (b.address n.0) = ap w1 (sym en) in absurd (omega arith));
+      item_zone = λ s i. zone-out s (sd.each s i);
+      whole = λ a c i x ta q l e f y. (let n = named a ta in let en = n.3 in let z = size-is a n.0 n.2 n.1 en in
+          let l' : i < g.size n.0 = omega arith in
+          let e' : a + 2 + i ≡ b.address n.0 + 2 + i = ap (λ (z : ℕ). z + 2 + i) (sym en) in
+          let wd : w1 (a + 2 + i) ≡ w (a + 2 + i) = ap w1 e' ∙ inner-field p w g b owner t ambiguous pins ps w1 tg n.0 i n.2 l' ∙ ap w (sym e') in
+          sd.all (a + 2 + i) x
+          (AtField n.0 i n.1 n.2 (inr (fixed-tag a c n.0 n.2 n.1 en q).0) l' (sym (strong p w g b owner t ambiguous pins ps w1 tg n.0 i n.2 n.1) ∙ ap (λ (z : ℕ). is_strong (area_for p) w1 z i) en ∙ e) e')
+          (sym wd ∙ f) y);
+    }

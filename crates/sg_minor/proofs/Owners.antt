@@ -1,44 +1,64 @@
 -- Whose word each word is after a pause: each copy has the owner of its original.
-use Rattle.std.proofs.Common.{◌≡◌, ℕ, ◌+◌, ◌≤◌, ◌<◌, List, [], ◌∷◌, sym, refl, ap, ◌∙◌, inl, inr, arith}
-use Rattle.std.proofs.lemmas.Bool.{cases_lt}
+use Rattle.std.proofs.Common.{◌≡◌, ℕ, ◌+◌, ◌≤◌, ◌<◌, ◌⊎◌, List, [], ◌∷◌, sym, refl, ap, ◌∙◌, subst, inl, inr, arith}
+use Rattle.std.proofs.lemmas.Bool.{cases_Bool, cases_lt}
 use Rattle.sg_graph.specs.Heap.{Owner}
-use Rattle.sg_words.specs.Lists.{In}
-use Rattle.sg_words.specs.Objects.{size_of, Placed}
-use Rattle.sg_words.proofs.Members.{has-cases, in-here, in-there}
-use Rattle.sg_words.proofs.Objects.{placed-grows}
-use Rattle.sg_words.proofs.Puts.{within_range, range-in, range-below, range-above}
+use Rattle.sg_words.specs.Lists.{In, has}
+use Rattle.sg_words.specs.Objects.{size_of}
+use Rattle.sg_words.proofs.Members.{has-cases, in-here, in-there, not-in}
+use Rattle.sg_words.proofs.Puts.{within_range, range-in}
+use Rattle.sg_minor.proofs.Ranges.{range-out}
 
 module _ (w : ℕ → ℕ) (m : ℕ → ℕ) where
-  pub settled : (ℕ → Owner) → ℕ → List ℕ → (ℕ → Owner) → ℕ → Owner
-  settled old at [] o = o
-  settled old at (a ∷ moves) o = settled old (at + size_of w a) moves (within_range o at (at + size_of w a) (old a))
+  pub settled : (ℕ → Owner) → List ℕ → (ℕ → Owner) → ℕ → Owner
+  settled old [] o = o
+  settled old (a ∷ moves) o = settled old moves (within_range o (m a) (m a + size_of w a) (old a))
 
-  pub settled-below : (old : ℕ → Owner) (at : ℕ) (moves : List ℕ) (o : ℕ → Owner) (x : ℕ) → x < at → settled old at moves o x ≡ o x
-  unfolding settled
-  settled-below old at [] o x l = refl
-  settled-below old at (a ∷ moves) o x l = settled-below old (at + size_of w a) moves (within_range o at (at + size_of w a) (old a)) x (omega arith) ∙ range-below o at (at + size_of w a) (old a) x l
+  -- the word x is one of the copy of a
+  abbrev pub IsCopyOf : ℕ → ℕ → Type 0
+  IsCopyOf a x = (m a ≤ x) × (x < m a + size_of w a)
 
-  pub settled-above : (old : ℕ → Owner) (at : ℕ) (moves : List ℕ) (o : ℕ → Owner) (end x : ℕ) → Placed w at moves m end → end ≤ x → settled old at moves o x ≡ o x
+  pub settled-out : (old : ℕ → Owner) (moves : List ℕ) (o : ℕ → Owner) (x : ℕ) → ((a : ℕ) → In a moves → IsCopyOf a x → ⊥) → settled old moves o x ≡ o x
   unfolding settled
-  settled-above old at [] o end x p l = refl
-  settled-above old at (a ∷ moves) o end x p l =
-      let g = placed-grows w m (at + size_of w a) moves end p.1 in
-      settled-above old (at + size_of w a) moves (within_range o at (at + size_of w a) (old a)) end x p.1 l ∙ range-above o at (at + size_of w a) (old a) x (omega arith)
+  settled-out old [] o x none = refl
+  settled-out old (a ∷ moves) o x none =
+      settled-out old moves (within_range o (m a) (m a + size_of w a) (old a)) x (λ c h. none c (in-there c a moves h))
+      ∙ range-out o (m a) (m a + size_of w a) (old a) x (λ l u. none a (in-here a a moves refl) (l, u))
 
-  pub settled-in : (old : ℕ → Owner) (at : ℕ) (moves : List ℕ) (o : ℕ → Owner) (end : ℕ) → Placed w at moves m end → (a x : ℕ) → In a moves → m a ≤ x → x < m a + size_of w a → settled old at moves o x ≡ old a
+  pub settled-in : (old : ℕ → Owner) (moves : List ℕ) (o : ℕ → Owner) (a x : ℕ) → In a moves → IsCopyOf a x → ((c : ℕ) → In c moves → IsCopyOf c x → c ≡ a) →
+      settled old moves o x ≡ old a
   unfolding settled
-  settled-in old at [] o end p a x h l1 l2 = absurd (let z = h in cc)
-  settled-in old at (b ∷ moves) o end p a x h l1 l2 = elim (has-cases a b moves h) [
-    | inl e ↦ (let u : m a ≡ at = ap m e ∙ p.0 in
-        let s : w (a + 1) ≡ w (b + 1) = ap (λ (z : ℕ). w (z + 1)) e in
-        settled-below old (at + size_of w b) moves (within_range o at (at + size_of w b) (old b)) x (omega arith) ∙ range-in o at (at + size_of w b) (old b) x (omega arith) (omega arith)) ∙ ap old (sym e)
-    | inr i ↦ settled-in old (at + size_of w b) moves (within_range o at (at + size_of w b) (old b)) end p.1 a x i l1 l2
+  settled-in old [] o a x h k one = absurd (let z = h in cc)
+  settled-in old (b ∷ moves) o a x h k one = elim (cases_Bool (has a moves)) [
+    | inl i ↦ settled-in old moves (within_range o (m b) (m b + size_of w b) (old b)) a x i k (λ c j. one c (in-there c b moves j))
+    | inr out ↦
+        let e : a ≡ b = elim (has-cases a b moves h) [
+          | inl e ↦ e
+          | inr i ↦ absurd (not-in a moves out i)
+        ] in
+        let l = k.0 in
+        let u = k.1 in
+        let at = ap m e in
+        let size : size_of w a ≡ size_of w b = ap (λ (z : ℕ). size_of w z) e in
+        settled-out old moves (within_range o (m b) (m b + size_of w b) (old b)) x (λ c j q. not-in a moves out (subst (λ (z : ℕ). In z moves) (one c (in-there c b moves j) q) j))
+        ∙ range-in o (m b) (m b + size_of w b) (old b) x (omega arith) (omega arith) ∙ ap old (sym e)
   ]
 
-  -- each word that the copies fill is one of a copy's
-  pub placed-of : (at : ℕ) (moves : List ℕ) (end : ℕ) → Placed w at moves m end → (x : ℕ) → at ≤ x → x < end → (a : ℕ) × In a moves × (m a ≤ x) × (x < m a + size_of w a)
-  placed-of at [] end p x l1 l2 = absurd (let q : end ≡ at = p in omega arith)
-  placed-of at (b ∷ moves) end p x l1 l2 = elim (cases_lt x (at + size_of w b)) [
-    | inl inside ↦ (let q = p.0 in (b, in-here b b moves refl, omega arith, omega arith))
-    | inr past ↦ (let q = placed-of (at + size_of w b) moves end p.1 x past l2 in (q.0, in-there q.0 b moves q.1, q.2, q.3))
+  -- x is a word of a copy, or of none
+  pub copy-cases : (moves : List ℕ) (x : ℕ) → ((a : ℕ) × In a moves × IsCopyOf a x) ⊎ ((a : ℕ) → In a moves → IsCopyOf a x → ⊥)
+  copy-cases [] x = inr (λ a h k. let z = h in cc)
+  copy-cases (b ∷ moves) x = elim (copy-cases moves x) [
+    | inl q ↦ inl (q.0, in-there q.0 b moves q.1, q.2)
+    | inr none ↦ elim (cases_lt x (m b)) [
+      | inl under ↦ inr (λ a h k. elim (has-cases a b moves h) [
+        | inl e ↦ let l = k.0 in let at = ap m e in omega arith
+        | inr i ↦ none a i k
+      ])
+      | inr over ↦ elim (cases_lt x (m b + size_of w b)) [
+        | inl inside ↦ inl (b, in-here b b moves refl, (over, inside))
+        | inr past ↦ inr (λ a h k. elim (has-cases a b moves h) [
+          | inl e ↦ let u = k.1 in let at = ap m e in let size : size_of w a ≡ size_of w b = ap (λ (z : ℕ). size_of w z) e in omega arith
+          | inr i ↦ none a i k
+        ])
+      ]
+    ]
   ]

@@ -5,13 +5,13 @@ use Rattle.sg_program.specs.declared.program.Program.{Program}
 use Rattle.sg_graph.specs.Graph.{Graph}
 use Rattle.sg_graph.specs.Book.{Book, Old, nursery_end, old_end}
 use Rattle.sg_graph.specs.Heap.{Owner, IsHeap}
-use Rattle.sg_copy.specs.Area.{IsYoung, is_strong, Traces}
+use Rattle.sg_round.specs.Area.{IsYoung, is_strong, Traces}
 use Rattle.sg_words.specs.Lists.{In, has}
 use Rattle.sg_words.specs.Objects.{size_of, sent}
-use Rattle.sg_copy.specs.Image.{IsImage}
+use Rattle.sg_round.specs.Image.{IsImage}
 use Rattle.sg_words.proofs.Members.{out, not-in}
 use Rattle.sg_words.proofs.Objects.{sent-fixed}
-use Rattle.sg_minor.specs.Joined.{ArePins}
+use Rattle.sg_minor.specs.Joined.{ArePins, IsUncopied}
 use Rattle.sg_nursery.specs.Parts.{HasTagged}
 use Rattle.sg_minor.proofs.Areas.{area_for}
 use Rattle.sg_minor.proofs.Named.{field_refers, common, inner-field, size-at}
@@ -20,7 +20,7 @@ use Rattle.sg_minor.proofs.Opens.{start-word, named, traced-young}
 
 module _ (p : Program) (w : ℕ → ℕ) (g : Graph) (b : Book) (owner : ℕ → Owner) (t : IsHeap p w g b owner) (ambiguous pins : List ℕ) (ps : ArePins g b ambiguous pins)
     (w1 : ℕ → ℕ) (tg : HasTagged w pins w1) (items : List ℕ) (sd : AreStarts p w g b pins items)
-    (moves fails : List ℕ) (m round : ℕ → ℕ) (end : ℕ) (cp : IsImage (area_for p) w1 items b.fill moves fails m round end) where
+    (moves fails : List ℕ) (m round : ℕ → ℕ) (cp : IsImage (area_for p) w1 items (λ _. true) moves fails m round (λ _. false)) where
   -- the word x is none of those of objects that moved or failed that the round writes
   pub record IsQuiet (x : ℕ) : Type 0 where
     pub moved : has x moves ≡ false
@@ -68,19 +68,19 @@ module _ (p : Program) (w : ℕ → ℕ) (g : Graph) (b : Book) (owner : ℕ →
   }
 
   -- a slot of the beginning is sent
-  pub start-sent : (s : ℕ) → IsStart p g b pins s → (b.fill ≤ s → s < end → ⊥) → IsQuiet s → round s ≡ sent m (w s)
+  pub start-sent : (s : ℕ) → IsStart p g b pins s → IsUncopied w1 moves m s → IsQuiet s → round s ≡ sent m (w s)
   start-sent s k run q = elim (cases_Bool (has s items)) [
     | inl i ↦ cp.held s i ∙ ap (sent m) (start-word p w g b owner t ambiguous pins ps w1 tg items sd s k)
-    | inr i ↦ cp.same s i run q.moved q.failed q.field ∙ start-word p w g b owner t ambiguous pins ps w1 tg items sd s k
+    | inr i ↦ cp.same s i refl run q.moved q.failed q.field ∙ start-word p w g b owner t ambiguous pins ps w1 tg items sd s k
         ∙ sym (sent-fixed m (w s) (λ x e. cp.others x (out x moves (λ h. not-in s items i (sd.all s x k e (young-of x (cp.moved x h).0))))))
   ]
 
   -- any other word stays
-  pub same-word : (x : ℕ) → (IsStart p g b pins x → ⊥) → (b.fill ≤ x → x < end → ⊥) → IsQuiet x → round x ≡ w1 x
-  same-word x n run q = cp.same x (out x items (λ h. n (sd.each x h))) run q.moved q.failed q.field
+  pub same-word : (x : ℕ) → (IsStart p g b pins x → ⊥) → IsUncopied w1 moves m x → IsQuiet x → round x ≡ w1 x
+  same-word x n run q = cp.same x (out x items (λ h. n (sd.each x h))) refl run q.moved q.failed q.field
 
   inside-heap : (n x : ℕ) → b.stands n ≡ true → n ≢ 0 → x < b.address n + (g.size n + 2) → x < old_end p
-  inside-heap n x s d l = let f = t.laid.objects.filled.0 in let f1 = t.laid.objects.filled.1 in elim (t.laid.objects.inside n (omega arith) s) [
+  inside-heap n x s d l = elim (t.laid.objects.inside n (omega arith) s) [
     | inl h ↦ (let h2 = h.2 in omega arith)
     | inr h ↦ (let h2 = h.2 in omega arith)
   ]
@@ -101,17 +101,17 @@ module _ (p : Program) (w : ℕ → ℕ) (g : Graph) (b : Book) (owner : ℕ →
       let f : true ≡ false = sym x ∙ ap (λ (z : ℕ). field_refers p g z c) (sym same) ∙ ap (λ (z : ℕ). field_refers p g n z) (sym ic) ∙ k in cc
 
   -- the length of a standing object isn't touched
-  pub length-word : (n : ℕ) → b.stands n ≡ true → n ≢ 0 → (b.fill ≤ b.address n + 1 → b.address n + 1 < end → ⊥) → round (b.address n + 1) ≡ w1 (b.address n + 1)
+  pub length-word : (n : ℕ) → b.stands n ≡ true → n ≢ 0 → IsUncopied w1 moves m (b.address n + 1) → round (b.address n + 1) ≡ w1 (b.address n + 1)
   length-word n s d run = same-word (b.address n + 1) (no-start-head n 1 s d (le_refl _)) run (quiet n 1 s (omega arith) (inl refl))
 
   -- the tag and a field of an object that neither moved nor failed
-  pub first-word : (n : ℕ) → b.stands n ≡ true → n ≢ 0 → has (b.address n) moves ≡ false → has (b.address n) fails ≡ false → (b.fill ≤ b.address n → b.address n < end → ⊥) → round (b.address n) ≡ w1 (b.address n)
+  pub first-word : (n : ℕ) → b.stands n ≡ true → n ≢ 0 → has (b.address n) moves ≡ false → has (b.address n) fails ≡ false → IsUncopied w1 moves m (b.address n) → round (b.address n) ≡ w1 (b.address n)
   first-word n s d nm nf run =
       let z : b.address n + 0 ≡ b.address n = omega arith in
       same-word (b.address n) (λ h. no-start-head n 0 s d (omega arith) (subst (IsStart p g b pins) (sym z) h)) run (subst IsQuiet z (quiet n 0 s (omega arith) (inr (nm, nf))))
 
   pub field-word : (n i : ℕ) → b.stands n ≡ true → n ≢ 0 → i < g.size n → has (b.address n) moves ≡ false → has (b.address n) fails ≡ false → (b.section n ≡ Old) ⊎ In (b.address n) pins →
-      (b.fill ≤ b.address n + 2 + i → b.address n + 2 + i < end → ⊥) → round (b.address n + 2 + i) ≡ cond (field_refers p g n i) (sent m (w (b.address n + 2 + i))) (w (b.address n + 2 + i))
+      IsUncopied w1 moves m (b.address n + 2 + i) → round (b.address n + 2 + i) ≡ cond (field_refers p g n i) (sent m (w (b.address n + 2 + i))) (w (b.address n + 2 + i))
   field-word n i s d l nm nf o run =
       let e : b.address n + (2 + i) ≡ b.address n + 2 + i = omega arith in
       let q = subst IsQuiet e (quiet n (2 + i) s (omega arith) (inr (nm, nf))) in

@@ -24,10 +24,10 @@ use Rattle.sg_space.specs.Space.{Contents, IsContents}
 use Rattle.sg_space.specs.Standing.{word, TellsYoung}
 use Rattle.sg_graph.specs.Heap.{Owner, Of, Frag, Buf, Nobody, IsHeap, layout_of, IsOfSort, IsKnownEntry}
 use Rattle.sg_minor.specs.Holding.{IsSpaceOf}
-use Rattle.sg_copy.specs.Area.{Area, IsYoung, class_of, Traces}
+use Rattle.sg_round.specs.Area.{Area, IsYoung, class_of, Traces}
 use Rattle.sg_words.specs.Lists.{In, has}
 use Rattle.sg_words.specs.Objects.{size_of}
-use Rattle.sg_copy.specs.Image.{IsImage}
+use Rattle.sg_round.specs.Image.{IsImage}
 use Rattle.sg_copy.specs.Copying.{area_of, fields_of, fields_of_all, area_still}
 use Rattle.sg_space.specs.Changes.{IsStill}
 use Rattle.sg_words.proofs.Numbers.{word_at-byte_at, is_address}

@@ -1,18 +1,25 @@
 -- A space that holds a graph by a book is sound: the owners by names give the owners by first words.
-use Rattle.std.proofs.Common.{◌≡◌, ◌≢◌, ℕ, zero, suc, ◌+◌, ◌-◌, ◌<◌, ◌≤◌, ◌⊎◌, inl, inr, List, [], ◌∷◌, map, length, Option, Some, None, true, false, refl, sym, ap, ◌∙◌, subst, arith, slice_get}
-use Rattle.std.proofs.lemmas.Bool.{cases_eq, cases_lt}
+use Rattle.std.proofs.Common.{◌≡◌, ◌≢◌, ℕ, zero, suc, ◌+◌, ◌*◌, ◌-◌, ◌/◌, ◌<◌, ◌≤◌, ◌⊎◌, inl, inr, List, [], ◌∷◌, map, length, Option, Some, None, true, false, refl, sym, ap, ◌∙◌, subst, arith, slice_get}
+use Rattle.std.specs.Int.{bit_at}
+use Rattle.std.proofs.lemmas.Bool.{cases_eq, cases_lt, false≢true}
+use Rattle.std.proofs.lemmas.Nat.Bits.{bit_at-zero}
 use Rattle.std.proofs.lemmas.List.{length-map}
 use Rattle.std.proofs.lemmas.Option.{none-some, same_Some}
 use Rattle.sg_words.specs.Tags.{plain_word}
+use Rattle.sg_words.specs.Blocks.{IsOf, IsOwing, is_taken, slots, slot_base}
+use Rattle.sg_words.specs.Sections.{globals_base}
+use Rattle.sg_words.specs.declared.steps.BlockWord.{BlockWord}
+use Rattle.sg_words.specs.declared.steps.BlockWord.TheVariants.{Free, Swept, Need, Sweeping}
 use Rattle.sg_program.specs.declared.program.Class.{Class}
 use Rattle.sg_program.specs.declared.program.Program.{Program}
 use Rattle.sg_desc.specs.declared.shapes.Shape.{Shape}
 use Rattle.sg_desc.specs.Shapes.{is_vector}
 use Rattle.sg_program.specs.Scripts.{shape_at, shape_of, kind_of, fields_of}
 use Rattle.sg_graph.specs.Graph.{Graph}
-use Rattle.sg_graph.specs.Book.{Book, Young, Old, nursery_end}
-use Rattle.sg_space.specs.Space.{Contents, IsContents}
-use Rattle.sg_space.specs.Standing.{word, size_at, IsObject, IsSoundBy, IsSound}
+use Rattle.sg_graph.specs.Book.{Book, Young, Old, nursery_end, old_end}
+use Rattle.sg_graph.specs.Blocks.{IsDirty, AreSettled}
+use Rattle.sg_space.specs.Space.{Contents, IsContents, words_of}
+use Rattle.sg_space.specs.Standing.{word, block_in, used_in, marks_in, page_in, size_at, IsObject, IsInSlot, IsPlaced, IsSoundBlock, IsSoundBy, IsSound}
 use Rattle.sg_graph.specs.Heap.{Owner, Of, Frag, Buf, Nobody, IsHeap}
 use Rattle.sg_minor.specs.Holding.{IsSpaceOf, HoldsHeap}
 use Rattle.sg_minor.proofs.Names.{of-same}
@@ -107,17 +114,17 @@ module _ (p : Program) (s : Contents) (g : Graph) (b : Book) (is : IsSpaceOf p s
 
   pub inside : (n : ℕ) → n ≢ 0 → b.stands n ≡ true →
       ((b.section n ≡ Young) × (512 ≤ b.address n) × (b.address n + (g.size n + 2) ≤ nursery_end p))
-      ⊎ ((b.section n ≡ Old) × (nursery_end p ≤ b.address n) × (b.address n + (g.size n + 2) ≤ b.fill))
+      ⊎ ((b.section n ≡ Old) × (nursery_end p ≤ b.address n) × (b.address n + (g.size n + 2) ≤ old_end p))
   inside n some stands = heap.laid.objects.inside n (omega (arith, some)) stands
 
-  -- a young object lies in the nursery, and an old one in the filled part of the major heap
+  -- a young object lies in the nursery, and an old one in the major heap
   pub young_inside : (n : ℕ) → n ≢ 0 → b.stands n ≡ true → b.section n ≡ Young → (512 ≤ b.address n) × (b.address n + (g.size n + 2) ≤ nursery_end p)
   young_inside n some stands young = elim (inside n some stands) [
     | inl in_nursery ↦ (in_nursery.1, in_nursery.2)
     | inr in_heap ↦ absurd (same_section (sym in_heap.0 ∙ young))
   ]
 
-  pub old_inside : (n : ℕ) → n ≢ 0 → b.stands n ≡ true → b.section n ≡ Old → (nursery_end p ≤ b.address n) × (b.address n + (g.size n + 2) ≤ b.fill)
+  pub old_inside : (n : ℕ) → n ≢ 0 → b.stands n ≡ true → b.section n ≡ Old → (nursery_end p ≤ b.address n) × (b.address n + (g.size n + 2) ≤ old_end p)
   old_inside n some stands old = elim (inside n some stands) [
     | inl in_nursery ↦ absurd (same_section (sym old ∙ in_nursery.0))
     | inr in_heap ↦ (in_heap.1, in_heap.2)
@@ -145,113 +152,175 @@ module _ (p : Program) (s : Contents) (g : Graph) (b : Book) (is : IsSpaceOf p s
       let to = o.2 in
       (o.1, omega arith, is_owned n (b.address n) some (owns_first n o.0))
 
-  object_at : (n : ℕ) → n ≢ 0 → b.stands n ≡ true → IsObject s (b.address n)
-  object_at n some stands =
-      let size = length_is n some stands in
-      let few = few_fields n some stands in
-      let nursery = nursery_is in
-      let blocks = blocks_is in
-      let fill = heap.laid.objects.filled.1 in
-      record {
-        class = g.class n;
-        shape = shape_of p (g.class n);
-        shape_is = shape_is n some stands;
-        tag = class_is n some stands;
-        size = λ v. length_is n some stands ∙ size_is n some stands v;
-        small = omega arith;
-        inside = elim (inside n some stands) [
-          | inl in_nursery ↦ let to = in_nursery.2 in inl (in_nursery.1, omega arith)
-          | inr in_heap ↦ let from = in_heap.1 in let to = in_heap.2 in inr (omega arith, omega arith)
-        ];
-      }
-
-  -- the object before an old one that isn't the first
-  before : (n : ℕ) → n ≢ 0 → b.stands n ≡ true → nursery_end p < b.address n → (m : ℕ) × (m ≢ 0) × (b.stands m ≡ true) × (nursery_end p ≤ b.address m) × (b.address m + (g.size m + 2) ≡ b.address n)
-  before n some stands above =
-      let old = old_there n some stands (omega arith) in
-      let place = old_inside n some stands old in
-      let to = place.1 in
-      let q = heap.laid.objects.packed (b.address n - 1) (omega arith) (omega arith) in
-      let m = q.0 in
-      let o = owned m (b.address n - 1) q.1 in
-      let from = o.1 in
-      let behind = o.2 in
-      let named : m ≢ 0 = λ z. (let at = ap b.address z ∙ heap.laid.nothing.at_nil in let none = ap g.size z ∙ heap.laid.nothing.no_size in absurd (omega arith)) in
-      let old_m : nursery_end p ≤ b.address m = elim (inside m named o.0) [
-        | inl in_nursery ↦ let end = in_nursery.2 in absurd (omega arith)
-        | inr in_heap ↦ in_heap.1
-      ] in
-      let ends : b.address m + (g.size m + 2) ≤ b.address n = elim (cases_lt (b.address n) (b.address m + (g.size m + 2))) [
-        | inl over ↦
-            let same = one_owner m n (b.address n) (owns m (b.address n) o.0 (omega arith) over) (owns_first n stands) in
-            let at = ap b.address same in
-            absurd (omega arith)
-        | inr up ↦ up
-      ] in
-      (m, named, o.0, old_m, omega arith)
-
-  pub sound_by : IsSoundBy s owner_of
-  sound_by = record {
-    words = contents.words;
-    classes = contents.shapes.classes;
-    owned = λ x h e.
-        let q = named_front b.address (owner x) h e in
-        subst (λ z. (z ≤ x) × (x < z + size_at s z) × (owner_of z ≡ Some z)) q.3 (owned_at q.0 x q.1 q.2);
-    whole = λ h x e from to.
-        let q = named_front b.address (owner h) h e in
-        let o = owned q.0 h q.2 in
-        let at = q.3 in
-        let size = length_is q.0 q.1 o.0 in
-        let there = ap (word s) (ap (λ z. z + 1) at) in
-        is_owned q.0 x q.1 (owns q.0 x o.0 (omega arith) (omega arith)) ∙ ap Some at;
-    objects = λ h e.
-        let q = named_front b.address (owner h) h e in
-        subst (IsObject s) q.3 (object_at q.0 q.1 (owned q.0 h q.2).0);
-    clear = λ x none from to.
-        let nursery = nursery_is in
-        let blocks = blocks_is in
-        heap.laid.clear.clear x from (omega arith) (λ n e. elim (cases_eq n 0) [
-          | inl z ↦ let o = owned n x e in let end = o.2 in let at = ap b.address z ∙ heap.laid.nothing.at_nil in let size = ap g.size z ∙ heap.laid.nothing.no_size in absurd (omega arith)
-          | inr some ↦ unnamed_front b.address (owner x) none n some e
-        ]);
-    packed = λ h e above.
-        let q = named_front b.address (owner h) h e in
-        let nursery = nursery_is in
-        let at = q.3 in
-        let r = before q.0 q.1 (owned q.0 h q.2).0 (omega arith) in
-        let size = length_is r.0 r.1 r.2 in
-        let low = r.3 in
-        let next = r.4 in
-        (b.address r.0, is_owned r.0 (b.address r.0) r.1 (owns_first r.0 r.2), omega arith, omega arith);
-    fragments = contents.fragments;
-    ordered = λ f there.
-        let n = is.fragments in
-        let next = is.next f (omega arith) in
-        let limit = is.limit f (omega arith) in
-        let place = heap.laid.fragments.inside f (omega arith) in
-        let low = place.0 in
-        let order = place.1 in
-        let high = place.2 in
-        let nursery = nursery_is in
-        (omega arith, omega arith, omega arith);
-    apart = λ f j less there.
-        let n = is.fragments in
-        let next = is.next j (omega arith) in
-        let limit = is.limit f (omega arith) in
-        let order = heap.laid.fragments.ordered f j less (omega arith) in
-        omega arith;
-    addresses = λ f there.
-        let n = is.fragments in
-        let next = is.next f (omega arith) in
-        let limit = is.limit f (omega arith) in
-        (omega arith, omega arith);
-    free = λ f x there from to.
-        let n = is.fragments in
-        let next = is.next f (omega arith) in
-        let limit = is.limit f (omega arith) in
-        let mine = heap.laid.fragments.owns f x (omega arith) (omega arith) (omega arith) in
-        ap (front_of b.address) mine ∙ fragment_is b.address f;
+  pub object_at : (n : ℕ) → n ≢ 0 → b.stands n ≡ true → IsObject s (b.address n)
+  object_at n some stands = record {
+    class = g.class n;
+    shape = shape_of p (g.class n);
+    shape_is = shape_is n some stands;
+    tag = class_is n some stands;
+    size = λ v. length_is n some stands ∙ size_is n some stands v;
   }
 
+  -- no block is owed, or marked
+  abbrev pub owned_block : BlockWord → ℕ → Type 0
+  owned_block state c = (z : ℕ) → IsOwing state z → b.owed c ≡ true
+
+  pub not_owing : (state : BlockWord) (c z : ℕ) → owned_block state c → IsOwing state z → ⊥
+  not_owing state c z owing h = false≢true (sym (is.unowed c) ∙ owing z h)
+
+  no_mark : (c i : ℕ) → bit_at (marks_in s c) i ≡ 1 → ⊥
+  no_mark c i e = let k = ap (λ m. bit_at m i) (is.unmarked c) ∙ bit_at-zero i in omega arith
+
+  taken_fits : (state : BlockWord) (c z i : ℕ) → (state ≡ Swept z → bit_at (used_in s c) i ≡ 1 → i < slots z) → owned_block state c → IsOf state z →
+      is_taken state (used_in s c) (marks_in s c) i ≡ 1 → i < slots z
+  taken_fits Free c z i fits owing h e = absurd h
+  taken_fits (Swept y) c z i fits owing h e = fits (ap Swept h) e
+  taken_fits (Need y) c z i fits owing h e = absurd (not_owing (Need y) c z owing h)
+  taken_fits (Sweeping y) c z i fits owing h e = absurd (not_owing (Sweeping y) c z owing h)
+
+  module _ (settled : AreSettled p (words_of s) g b owner) where
+    pub in_slot : (n : ℕ) → n ≢ 0 → b.stands n ≡ true → b.section n ≡ Old → IsInSlot s (b.address n)
+    in_slot n some stands old =
+        let q = settled.blocks.placed n (omega (arith, some)) stands old in
+        let size : size_at s (b.address n) ≡ g.size n + 2 = ap (λ z. z + 2) (length_is n some stands) in
+        let few = few_fields n some stands in
+        let nursery = nursery_is in
+        let blocks = blocks_is in
+        record {
+          block = q.0;
+          slot = q.2.slot;
+          there = let l = q.1 in omega arith;
+          sized = rw size q.2.of;
+          fits = rw size q.2.fits;
+          front = rw size (let e = q.2.address in omega arith);
+          taken = q.2.taken;
+          small = omega arith;
+        }
+
+    pub placed_at : (n : ℕ) → n ≢ 0 → b.stands n ≡ true → IsPlaced s (b.address n)
+    placed_at n some stands =
+        let size : size_at s (b.address n) ≡ g.size n + 2 = ap (λ z. z + 2) (length_is n some stands) in
+        let few = few_fields n some stands in
+        let nursery = nursery_is in
+        elim (inside n some stands) [
+          | inl in_nursery ↦ let from = in_nursery.1 in let to = in_nursery.2 in
+              inl (record { above = omega arith; within = omega arith; small = omega arith })
+          | inr in_heap ↦ inr (inl (in_slot n some stands in_heap.0))
+        ]
+
+    -- in each slot whose bit is set an old object stands
+    pub taken_named : (c z i : ℕ) → c < s.layout.blocks → IsOf (block_in s c) z → is_taken (block_in s c) (used_in s c) (marks_in s c) i ≡ 1 →
+        (i < slots z) × ((n : ℕ) × (n ≢ 0) × (b.stands n ≡ true) × (b.section n ≡ Old) × (b.address n ≡ slot_base s.layout c z i))
+    taken_named c z i there of e =
+        let blocks = blocks_is in
+        let nursery = nursery_is in
+        let block = settled.blocks.each c (omega arith) in
+        let fits = taken_fits (block_in s c) c z i (is.fits c z i) block.owing of e in
+        let n = block.filled z i of fits e in
+        let some = n.1.some in
+        let at = n.1.at in
+        (fits, (n.0, (λ k. absurd (omega arith)), n.1.standing, n.1.old, omega arith))
+
+    block_sound : (c : ℕ) → c < s.layout.blocks → IsSoundBlock s owner_of c
+    block_sound c there =
+        let blocks = blocks_is in
+        let here : c < p.config.blocks = omega arith in
+        record {
+          settled = λ z e. settled.settled c z here e;
+          sized = λ z of. settled.blocks.sized c z here of;
+          bare = λ e. ((settled.blocks.each c here).bare e, is.unmarked c);
+          filled = λ z i of e.
+              let q = taken_named c z i there of e in
+              let n = q.1 in
+              let at = n.4 in
+              (q.0, ap owner_of (sym at) ∙ is_owned n.0 (b.address n.0) n.1 (owns_first n.0 n.2) ∙ ap Some at);
+          marked = λ i e. absurd (no_mark c i e);
+        }
+
+    -- no word is to be zeroed
+    pub no_dirty : (c x : ℕ) → c < p.config.blocks → IsDirty p (marks_in s c) (block_in s c) c x → ⊥
+    no_dirty c x there d = not_owing (block_in s c) c d.size (settled.blocks.each c there).owing d.owing
+
+    -- the block of a word of the major heap
+    pub block_of : (x : ℕ) → nursery_end p ≤ x → x < old_end p → (c : ℕ) × (c < p.config.blocks) × (nursery_end p + 256 * c ≤ x) × (x < nursery_end p + 256 * c + 256)
+    block_of x from to = ((x - nursery_end p) / 256, omega arith, omega arith, omega arith)
+
+    unnamed : (x n : ℕ) → owner_of x ≡ None → nursery_end p ≤ x → owner x ≢ Of n
+    unnamed x n none above e = elim (cases_eq n 0) [
+      | inl z ↦ let o = owned n x e in let end = o.2 in let at = ap b.address z ∙ heap.laid.nothing.at_nil in let size = ap g.size z ∙ heap.laid.nothing.no_size in absurd (omega arith)
+      | inr some ↦ unnamed_front b.address (owner x) none n some e
+    ]
+
+    clear_word : (x : ℕ) → owner_of x ≡ None → 512 ≤ x → x < globals_base s.layout → word s x ≡ 0
+    clear_word x none from to =
+        let nursery = nursery_is in
+        let blocks = blocks_is in
+        let pages : s.layout.pages ≡ p.config.pages = ap (λ l. l.pages) is.layout in
+        elim (cases_lt x (nursery_end p)) [
+          | inl young ↦ heap.laid.clear.clear x from young (λ n e. elim (cases_eq n 0) [
+            | inl z ↦ let o = owned n x e in let end = o.2 in let at = ap b.address z ∙ heap.laid.nothing.at_nil in let size = ap g.size z ∙ heap.laid.nothing.no_size in absurd (omega arith)
+            | inr some ↦ unnamed_front b.address (owner x) none n some e
+          ])
+          | inr above ↦ elim (cases_lt x (old_end p)) [
+            | inl old ↦
+                let q = block_of x above old in
+                settled.blocks.clear q.0 q.1 x q.2 q.3 (λ n. unnamed x n none above) (no_dirty q.0 x q.1)
+            | inr large ↦ heap.laid.clear.large x large (omega arith)
+          ]
+        ]
+
+    pub sound_by : IsSoundBy s owner_of
+    sound_by = record {
+      words = contents.words;
+      classes = contents.shapes.classes;
+      owned = λ x h e.
+          let q = named_front b.address (owner x) h e in
+          subst (λ z. (z ≤ x) × (x < z + size_at s z) × (owner_of z ≡ Some z)) q.3 (owned_at q.0 x q.1 q.2);
+      whole = λ h x e from to.
+          let q = named_front b.address (owner h) h e in
+          let o = owned q.0 h q.2 in
+          let at = q.3 in
+          let size = length_is q.0 q.1 o.0 in
+          let there = ap (word s) (ap (λ z. z + 1) at) in
+          is_owned q.0 x q.1 (owns q.0 x o.0 (omega arith) (omega arith)) ∙ ap Some at;
+      objects = λ h e.
+          let q = named_front b.address (owner h) h e in
+          subst (IsObject s) q.3 (object_at q.0 q.1 (owned q.0 h q.2).0);
+      places = λ h e.
+          let q = named_front b.address (owner h) h e in
+          subst (IsPlaced s) q.3 (placed_at q.0 q.1 (owned q.0 h q.2).0);
+      blocks = block_sound;
+      pages = λ j there. record { named = λ q e. absurd (let none = is.pages j in omega arith) };
+      clear = λ x none from to garbage. clear_word x none from to;
+      fragments = contents.fragments;
+      ordered = λ f there.
+          let n = is.fragments in
+          let next = is.next f (omega arith) in
+          let limit = is.limit f (omega arith) in
+          let place = heap.laid.fragments.inside f (omega arith) in
+          let low = place.0 in
+          let order = place.1 in
+          let high = place.2 in
+          let nursery = nursery_is in
+          (omega arith, omega arith, omega arith);
+      apart = λ f j less there.
+          let n = is.fragments in
+          let next = is.next j (omega arith) in
+          let limit = is.limit f (omega arith) in
+          let order = heap.laid.fragments.ordered f j less (omega arith) in
+          omega arith;
+      addresses = λ f there.
+          let n = is.fragments in
+          let next = is.next f (omega arith) in
+          let limit = is.limit f (omega arith) in
+          (omega arith, omega arith);
+      free = λ f x there from to.
+          let n = is.fragments in
+          let next = is.next f (omega arith) in
+          let limit = is.limit f (omega arith) in
+          let mine = heap.laid.fragments.owns f x (omega arith) (omega arith) (omega arith) in
+          ap (front_of b.address) mine ∙ fragment_is b.address f;
+    }
+
 pub sound_of_heap : (p : Program) (s : Contents) (g : Graph) (b : Book) → HoldsHeap p s g b → IsContents s → IsSound s
-sound_of_heap p s g b heap contents = (owner_of p s g b heap.0 heap.1.0 heap.1.1 contents, sound_by p s g b heap.0 heap.1.0 heap.1.1 contents)
+sound_of_heap p s g b heap contents = (owner_of p s g b heap.0 heap.1.0 heap.1.1 contents, sound_by p s g b heap.0 heap.1.0 heap.1.1 contents heap.1.2)

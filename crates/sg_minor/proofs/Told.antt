@@ -1,31 +1,38 @@
 -- What a minor pause keeps, and what its report tells.
-use Rattle.std.proofs.Common.{◌≡◌, ◌≢◌, ℕ, ◌+◌, ◌≤◌, ◌<◌, ◌⊎◌, eqb, cond, Bool, true, false, List, ◌++◌, Contains, sym, refl, ap, ◌∙◌, subst, inl, inr, arith}
+use Rattle.std.proofs.Common.{◌≡◌, ◌≢◌, ℕ, ◌+◌, ◌-◌, ◌*◌, ◌≤◌, ◌<◌, ◌⊎◌, min, le_refl, [], ◌∷◌, eqb, cond, Bool, true, false, List, ◌++◌, Contains, sym, refl, ap, ◌∙◌, subst, inl, inr, arith}
 use Rattle.std.proofs.lemmas.Bool.{cond-true, cond-false, cases_eq, eq-eqb, ne_eqb}
 use Rattle.sg_words.specs.Address.{byte_at}
 use Rattle.sg_words.specs.declared.pieces.Move.{Move}
 use Rattle.sg_graph.specs.declared.reports.MinorReport.{MinorReport}
 use Rattle.sg_program.specs.Scripts.{words_for}
-use Rattle.sg_graph.specs.Book.{Young, Old, nursery_end, old_end, IsWordOf, IsApart}
+use Rattle.sg_graph.specs.Book.{Young, Old, nursery_end, slot_at, slot_words, IsWordOf, IsApart, IsInBlock, IsInSlot, IsEmptySlot, IsShut}
 use Rattle.sg_words.specs.Sections.{nursery_base}
 use Rattle.sg_graph.specs.Pause.{IsPinned, StandsYoung}
 use Rattle.sg_graph.specs.Tiling.{IsCovered, IsTiled, IsGap as IsGapOf}
-use Rattle.sg_graph.specs.Minor.{IsLoose, HasMoved, HasFailed, IsStill, Keeping, Staying, Telling, Tidying, IsMinorPause, move_of}
+use Rattle.sg_graph.specs.Minor.{IsLoose, HasMoved, HasFailed, IsOpen, IsLeftOver, AtMost, FewerThan, copiers, IsStill, Keeping, Staying, Telling, Tidying, IsMinorPause, move_of}
 use Rattle.sg_graph.specs.Heap.{layout_of}
-use Rattle.sg_copy.specs.Area.{IsYoung}
+use Rattle.sg_round.specs.Area.{IsYoung}
 use Rattle.sg_words.specs.Lists.{In, has}
 use Rattle.sg_words.specs.Objects.{size_of}
 use Rattle.sg_words.proofs.Members.{in-left, in-right, in-cases, not-in}
-use Rattle.sg_words.proofs.Objects.{placed-in}
+use Rattle.sg_words.specs.Blocks.{slot_size, slots}
+use Rattle.sg_words.specs.declared.steps.BlockWord.{BlockWord}
+use Rattle.sg_words.specs.declared.steps.BlockWord.TheVariants.{Swept}
+use Rattle.sg_round.specs.Round.{IsPassed}
+use Rattle.sg_minor.proofs.Mirrors.{AreBlocksBy, same-size, slot-some, in_block, passed_shut}
 use Rattle.sg_nursery.specs.Pieces.{IsTaken, IsGap}
 use Rattle.sg_minor.specs.Joined.{ArePins, IsKept}
 use Rattle.sg_minor.specs.Law.{IsReportOf}
 use Rattle.sg_minor.proofs.Names.{of-same, some-name, name-some, exactly}
 use Rattle.sg_minor.proofs.Tiles.{next-beyond, limit-beyond}
-use Rattle.sg_minor.proofs.After.{Ended, lies, sizes, one-name, names, kept-young, section-young, stands_on, stood, is-kept, stands-nothing, stands-kept, address_of, section_of, booked, at-sent, moved-section, gone-still, stays-still, fill-grows, end-within, fill-from, Place, Stayed, Moved, Older, place, nil-still, nil-at, tile-of, taken, owns, owned, packed}
+use Rattle.sg_minor.proofs.After.{Ended, lies, sizes, one-name, names, kept-young, section-young, stands_on, stood, is-kept, stands-nothing, stands-kept, address_of, section_of, booked, at-sent, moved-section, gone-still, stays-still, old-still, Place, Stayed, Moved, Older, place, nil-still, nil-at, tile-of, taken, owns}
 
 module _ (c : Ended) where
   young-not-old : (n : ℕ) → section_of c n ≡ Old → section_of c n ≡ Young → ⊥
   young-not-old n o y = let e : Young ≡ Old = sym y ∙ o in cc
+
+  old-not-young : (n : ℕ) → 1 ≤ n → c.b.stands n ≡ true → c.b.section n ≡ Old → IsYoung c.area (c.b.address n) → ⊥
+  old-not-young n l s o y = let e : Young ≡ Old = sym (section-young c n s y) ∙ o in cc
 
   -- no word is of two objects
   apart : IsApart c.p c.g (booked c)
@@ -114,24 +121,66 @@ module _ (c : Ended) where
     beyond = λ f l. (next-beyond c.pieces f l, limit-beyond c.pieces f l);
   }
 
-  -- the words that the pause has filled are those of objects of the major heap
-  filled-by : (x : ℕ) → c.b.fill ≤ x → x < c.end → (n : ℕ) × (section_of c n ≡ Old) × IsWordOf c.g (booked c) n x
-  filled-by x l u =
-      let from = fill-from c in
-      let q = packed c x (omega arith) u in
-      let h = owned c q.0 x q.1 in
-      let low = h.1 in
-      let high = h.2 in
-      let d : q.0 ≢ 0 = λ z. (let a : address_of c q.0 ≡ 0 = ap (address_of c) z ∙ nil-at c in let i : c.g.size q.0 ≡ 0 = ap c.g.size z ∙ c.heap.laid.nothing.no_size in omega arith) in
-      (q.0, go q.0 low high (place c q.0 d h.0), record { some = some-name q.0 d; stands = h.0; above = h.1; below = h.2 })
-    where
-      go : (n : ℕ) → address_of c n ≤ x → x < address_of c n + words_for (c.g.size n) → Place c n → section_of c n ≡ Old
-      go n low high (Stayed i h q e) = let below = i.below in let from = fill-from c in absurd (omega arith)
-      go n low high (Moved i h q a e) = q
-      go n low high (Older o q e) = q
+  module _ (block : ℕ → BlockWord) (used : ℕ → ℕ) (by : AreBlocksBy c.p c.g (booked c) block used) where
+    slot-taken : (j z i n : ℕ) → IsInSlot c.p c.g (booked c) n j z i → IsEmptySlot c.p c.g (booked c) j z i → ⊥
+    slot-taken j z i n h empty =
+        let some = slot-some (c.g.size n) in
+        let size = h.sized in
+        let at = h.at in
+        empty n (address_of c n) (record { some = h.some; stands = h.stands; above = le_refl _; below = omega arith }) (omega arith) (omega arith)
+
+    -- a block that is shut for an object isn't open for it
+    shut-open : (z j : ℕ) → IsShut c.p c.g (booked c) j z → IsOpen c.p c.g (booked c) z j → ⊥
+    shut-open z j (inl n) o = n.2 (o.size n.0 n.1)
+    shut-open z j (inr all) o = let n = all o.slot o.fits in slot-taken j z o.slot n.0 n.1 o.empty
+
+    -- and has no slot left of the blocks that had the object's size
+    shut-left : (z x : ℕ) → ((j : ℕ) → j < c.p.config.blocks → IsShut c.p c.g (booked c) j z) → IsLeftOver c.p c.g c.b (booked c) z x → ⊥
+    shut-left z x shut l = elim (shut l.block l.there) [
+      | inr all ↦ let n = all l.slot l.fits in slot-taken l.block z l.slot n.0 n.1 l.empty
+      | inl n ↦
+          let m = l.before.0 in
+          let h = l.before.1 in
+          let still = old-still c m (old-not-young m h.some h.stands h.old) in
+          let at = still.address in
+          let low = h.above in
+          let high = h.below in
+          let kept = stands-kept c m h.stands (λ y. absurd (old-not-young m h.some h.stands h.old y)) in
+          let here : IsInBlock c.p (booked c) m l.block = record { some = h.some; stands = kept; old = still.section ∙ h.old; above = omega arith; below = omega arith } in
+          n.2 (same-size (slot_words (c.g.size n.0)) z (sym (in_block c.p c.g (booked c) block used by n.0 l.block n.1)
+          ∙ in_block c.p c.g (booked c) block used by m l.block here ∙ ap Swept l.before.2))
+    ]
+
+    none-open : (z : ℕ) → ((j : ℕ) → j < c.p.config.blocks → IsShut c.p c.g (booked c) j z) → (most : ℕ) → AtMost most (IsOpen c.p c.g (booked c) z)
+    none-open z shut most [] once each = omega arith
+    none-open z shut most (x ∷ xs) once each = absurd (shut-open z x (shut x each.0.there) each.0)
+
+    none-left : (z : ℕ) → ((j : ℕ) → j < c.p.config.blocks → IsShut c.p c.g (booked c) j z) → FewerThan (copiers c.p) (IsLeftOver c.p c.g c.b (booked c) z)
+    none-left z shut [] once each = omega arith
+    none-left z shut (x ∷ xs) once each = absurd (shut-left z x shut each.0)
+
+    has-moved : (n : ℕ) → n ≢ 0 → c.b.stands n ≡ true → In (c.b.address n) c.moves → HasMoved c.p c.g c.b (booked c) n
+    has-moved n d s h =
+        let q = c.picture.homes (c.b.address n) h in
+        let size : slot_size (size_of c.w (c.b.address n)) ≡ slot_words (c.g.size n) = ap slot_size (sizes c n d s) in
+        record {
+          block = q.block;
+          slot = q.slot;
+          goes = record {
+            some = some-name n d;
+            stands = stands-kept c n s (λ _. inr h);
+            old = moved-section c n s h;
+            sized = refl;
+            there = q.there;
+            fits = subst (λ (z : ℕ). q.slot < slots z) size q.fits;
+            at = at-sent c n s ∙ q.at ∙ ap (λ (z : ℕ). slot_at c.p q.block z q.slot) size;
+          };
+          empty = subst (λ (z : ℕ). IsEmptySlot c.p c.g c.b q.block z q.slot) size q.empty;
+        }
 
   module _ (pins fails : List ℕ) (split : c.stays ≡ pins ++ fails) (pinned : ArePins c.g c.b c.ambiguous pins) (failed : (a : ℕ) → In a fails → has a pins ≡ false)
-      (full : (a : ℕ) → In a fails → old_end c.p < c.end + size_of c.w a) (report : MinorReport) (told : IsReportOf report pins c.moves fails c.m) where
+      (block : ℕ → BlockWord) (used : ℕ → ℕ) (by : AreBlocksBy c.p c.g (booked c) block used)
+      (full : (a j : ℕ) → In a fails → j < c.p.config.blocks → IsPassed block used (slot_size (size_of c.w a)) j) (report : MinorReport) (told : IsReportOf report pins c.moves fails c.m) where
     pin-stays : (a : ℕ) → In a pins → In a c.stays
     pin-stays a h = subst (λ (l : List ℕ). In a l) (sym split) (in-left a pins fails h)
 
@@ -165,35 +214,37 @@ module _ (c : Ended) where
     told-to : (n : ℕ) → c.b.stands n ≡ true → moved-from c.m (c.b.address n) ≡ move_of c.b (booked c) n
     told-to n s = ap (λ (z : ℕ). record { from = byte_at (c.b.address n); to = byte_at z }) (sym (at-sent c n s))
 
-    told-move : (move : Move) → Contains report.moves move → (n : ℕ) × IsLoose c.g c.b c.ambiguous (booked c) n × HasMoved c.g c.b (booked c) n × (move ≡ move_of c.b (booked c) n)
+    told-move : (move : Move) → Contains report.moves move → (n : ℕ) × IsLoose c.g c.b c.ambiguous (booked c) n × HasMoved c.p c.g c.b (booked c) n × (move ≡ move_of c.b (booked c) n)
     told-move move h =
         let e = (told.moves.exact move).0 h in
         let x = e.0 in
         let k = names c x (inr e.1) in
         let here : In (c.b.address k.name) c.moves = subst (λ z. In z c.moves) (sym k.at) e.1 in
-        let size = sizes c k.name k.some k.stands in
-        let q = placed-in c.w c.m c.b.fill c.moves c.end c.picture.placed (c.b.address k.name) here in
-        let behind = q.0 in
-        let before = q.1 in
-        let to = at-sent c k.name k.stands in (
+        (
           k.name,
           record { young = stands-young x (inr e.1); kept = named-stands x (inr e.1); loose = moved-loose k.name here },
-          record { section = moved-section c k.name k.stands here; behind = omega arith; before = omega arith },
+          has-moved block used by k.name k.some k.stands here,
           e.2 ∙ ap (moved-from c.m) (sym k.at) ∙ told-to k.name k.stands,
         )
 
-    told-fail : (a : ℕ) → Contains report.fails a → (n : ℕ) × IsLoose c.g c.b c.ambiguous (booked c) n × HasFailed c.p c.g c.b (booked c) n × (a ≡ byte_at (c.b.address n))
+    told-fail : (a : ℕ) → Contains report.fails a → (n : ℕ) × IsLoose c.g c.b c.ambiguous (booked c) n × HasFailed c.p c.g c.b (booked c) report.spares n × (a ≡ byte_at (c.b.address n))
     told-fail a h =
         let e = (told.fails.exact a).0 h in
         let x = e.0 in
         let s = fail-stays x e.1 in
         let k = names c x (inl s) in
         let here : In (c.b.address k.name) fails = subst (λ z. In z fails) (sym k.at) e.1 in
-        let size = sizes c k.name k.some k.stands in
-        let q = full (c.b.address k.name) here in (
+        let size : slot_size (size_of c.w (c.b.address k.name)) ≡ slot_words (c.g.size k.name) = ap slot_size (sizes c k.name k.some k.stands) in
+        let shut : (j : ℕ) → j < c.p.config.blocks → IsShut c.p c.g (booked c) j (slot_words (c.g.size k.name)) =
+            λ j there. passed_shut c.p c.g (booked c) block used by (slot_words (c.g.size k.name)) j there
+            (subst (λ (z : ℕ). IsPassed block used z j) size (full (c.b.address k.name) j here there)) in (
           k.name,
           record { young = stands-young x (inl s); kept = named-stands x (inl s); loose = failed-loose k.name here },
-          record { still = stays-still c k.name (fail-stays (c.b.address k.name) here); full = omega arith },
+          record {
+            still = stays-still c k.name (fail-stays (c.b.address k.name) here);
+            few_blocks = none-open block used by (slot_words (c.g.size k.name)) shut (min report.spares (9 * copiers c.p - 1));
+            few_slots = none-left block used by (slot_words (c.g.size k.name)) shut;
+          },
           e.2 ∙ ap byte_at (sym k.at),
         )
 
@@ -221,7 +272,7 @@ module _ (c : Ended) where
       fails_in_order = told.fails.in_order;
       fails = told-fail;
       loose = loose-told;
-      spares = told.spares;
+      spares = let none = told.spares in omega arith;
     }
 
     still-or-told : (n : ℕ) → c.b.stands n ≡ true → Place c n → IsStill c.b (booked c) n ⊎ Contains report.moves (move_of c.b (booked c) n)
@@ -263,11 +314,14 @@ module _ (c : Ended) where
 
     tidies : c.pieces ≡ report.pieces → Tidying c.p c.b report.pieces c.g (booked c)
     tidies same = record {
-      filled = (fill-grows c, end-within c);
-      packed = filled-by;
+      owed = refl;
       tiled = subst (IsTiled c.p c.g (booked c)) same tiled;
       emptied = λ k. (refl, refl);
-      sound = record { apart = apart };
+      sound = record {
+        apart = apart;
+        slotted = λ n l s o. (let q = by.seated n l s o in (q.block, q.slot, q.seat));
+        one_size = λ m n j h k. same-size (slot_words (c.g.size m)) (slot_words (c.g.size n)) (sym (in_block c.p c.g (booked c) block used by m j h) ∙ in_block c.p c.g (booked c) block used by n j k);
+      };
     }
 
     pub minor : c.pieces ≡ report.pieces → IsMinorPause c.p c.g c.b c.ambiguous report c.g (booked c)

@@ -16,7 +16,7 @@ use Rattle.sg_space.specs.declared.objects.Object.{Object}
 use Rattle.sg_space.specs.Space.{Contents, IsContents}
 use Rattle.sg_space.specs.Standing.{word, IsSoundBy, TellsYoung}
 use Rattle.sg_minor.specs.Holding.{HoldsHeap}
-use Rattle.sg_copy.specs.Image.{IsImage}
+use Rattle.sg_round.specs.Image.{IsImage}
 use Rattle.sg_copy.specs.Copying.{area_of, CanCopyFrom, HasCopiedTo, fields_of_all, area_still}
 use Rattle.sg_space.specs.Changes.{IsStill, still_on, contents_still}
 use Rattle.sg_words.proofs.Numbers.{word_at-byte_at}

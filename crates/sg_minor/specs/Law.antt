@@ -43,9 +43,10 @@ pub record IsReportOf (report : MinorReport) (pinned moved failed : List ℕ) (m
 abbrev pub HaveWords : List Object → (ℕ → ℕ) → List ℕ → Type 0
 HaveWords standing w stays = (x : ℕ) → IsTaken standing x ↔ ((a : ℕ) × In a stays × (a ≤ x) × (x < a + size_of w a))
 
--- the space after the pause: other words, and new fragments
-abbrev pub IsRefitted : Contents → Contents → List Piece → Type 0
-IsRefitted s v pieces = (v ≡ record s { words = v.words; next = fronts_of pieces; ends = ends_of pieces }) × (length v.words ≡ length s.words)
+-- the space after the pause: other words, blocks, occupancies and cards, and new fragments
+pub record IsRefitted (s v : Contents) (pieces : List Piece) : Type 0 where
+  pub same : v ≡ record s { words = v.words; next = fronts_of pieces; ends = ends_of pieces; blocks = v.blocks; used = v.used; cards = v.cards }
+  pub words : length v.words ≡ length s.words
 
 -- The pause leads from the space s, which holds g by b, to v, which holds g by another book. One worker copies, in order.
 pub record HasPaused (p : Program) (g : Graph) (b : Book) (ambiguous : List ℕ) (v : Contents) (report : MinorReport) : Type 0 where
@@ -56,7 +57,7 @@ pub record HasPaused (p : Program) (g : Graph) (b : Book) (ambiguous : List ℕ)
 
 abbrev pub PauseLaw : Type 0
 PauseLaw =
-    (p : Program) (s : Contents) (g : Graph) (b : Book) (ambiguous pins moves fails : List ℕ) (m : ℕ → ℕ) (v : Contents) (end : ℕ) (standing : List Object) (report : MinorReport) →
-    HoldsHeap p s g b → IsPlain p g → IsContents s → ArePins g b ambiguous pins → IsEnded p s g b ambiguous pins moves fails m (word v) end → IsReportOf report pins moves fails m →
+    (p : Program) (s : Contents) (g : Graph) (b : Book) (ambiguous pins moves fails : List ℕ) (m : ℕ → ℕ) (v : Contents) (standing : List Object) (report : MinorReport) →
+    HoldsHeap p s g b → IsPlain p g → IsContents s → ArePins g b ambiguous pins → IsEnded p s g b ambiguous pins moves fails m v → IsReportOf report pins moves fails m →
     HaveWords standing (word s) (pins ++ fails) → ArePieces s.layout standing report.pieces → IsRefitted s v report.pieces →
     HasPaused p g b ambiguous v report
