@@ -8,6 +8,7 @@ mod Listed
 mod Numbered
 mod Calls
 mod Guided
+mod Calm
 mod Midst
 mod Classed
 mod Next
