@@ -18,7 +18,7 @@ use Rattle.sg_graph.specs.Epoch.{numbers_below, running, is_done, left, parted a
 use Rattle.sg_graph.specs.Stop.{Asked, asked_by, requests_in, wants_pause, want_pause}
 use Rattle.sg_graph.specs.Run.{Phase, Epoch}
 use Rattle.sg_graph.specs.Follows.{IsEpochBy, IsWholeRunBy}
-use Rattle.sg_space.specs.Space.{Contents, words_of}
+use Rattle.sg_space.specs.Space.{Contents, words_of, IsContents}
 use Rattle.sg_minor.specs.Holding.{HoldsHeap}
 use Rattle.sg_rules.specs.Rules.{Constants, Left, Actor, fresh}
 use Rattle.sg_rules.specs.Resting.{IsRequestOf}
@@ -34,7 +34,8 @@ use Rattle.sg_mutate.specs.Epochs.{constants_of, parted, HasLeftAs, IsOver}
 use Rattle.sg_world.specs.Telling.{going_in, HaveEnded, TellsOf, TellsAt}
 use Rattle.sg_world.specs.Worlds.{Worldly, IsWorldOf, IsBetween, HasLeftReady, asked_of, requests_of, IsAtStop, ComesTo}
 use Rattle.sg_world.proofs.Lists.{pairwise_left, joined_pairwise, joined_filter, joined_by_numbers, in_joined, sums_le, pairwise_by, some_at}
-use Rattle.sg_world.proofs.Heaps.{contents_stay, constants_stay, heap_of_held}
+use Rattle.sg_world.proofs.Heaps.{constants_stay, heap_of_held}
+use Rattle.sg_world.proofs.Owed.{same_owed}
 use Rattle.sg_world.proofs.Parts.{IsLeaveOf, not_done, ready_left, ready_empty}
 use Rattle.sg_world.proofs.Epochs as epochs
 
@@ -66,7 +67,7 @@ asking_stage n stage statement e = absurd (cc e)
 module _ (stays : StaysReady) (is_sound : HeldIsSound) (whoever : HeldWhoever) (p : Program) (turns : List ℕ) (phases : List Phase) (old : Worldly)
     (schedule : Schedule)
     (between : IsBetween p turns phases old schedule) (t : Contents) (after : List Mutating) (next : Schedule)
-    (over : IsOver p between.graph between.book old.space old.mutators schedule t after next)
+    (over : IsOver p between.graph between.book old.space old.mutators schedule t after next) (contents : IsContents t)
     (report : EpochReport) (tells : Pairwise (TellsAt after) (going_in old.mutators) report.parts) (last : report.last ≡ true ↔ HaveEnded after)
     (numbered : report.number ≡ old.number) where
   abbrev g : Graph
@@ -224,7 +225,7 @@ module _ (stays : StaysReady) (is_sound : HeldIsSound) (whoever : HeldWhoever) (
     can = between.of.can;
     program = between.of.program;
     are = over.are;
-    contents = contents_stay old.space t over.keeps between.of.contents;
+    contents = contents;
     counted = counted;
     numbered =
         let l = sums_le (λ (m : Mutating). m.first) (λ (n : Mutating). n.first) old.mutators after
@@ -234,7 +235,8 @@ module _ (stays : StaysReady) (is_sound : HeldIsSound) (whoever : HeldWhoever) (
   }
 
   holds : HoldsHeap p t h one.book
-  holds = heap_of_held p old.space t g h between.book one.book over.keeps between.holds
+  holds = heap_of_held p old.space t g h between.book one.book over.keeps over.blocks
+      (same_owed p between.graph between.book one.order one.graph one.book one.explains) between.holds
       (subst (λ l. IsHeld p l (words_of t) h one.book) (sym (constants_stay old.space t over.keeps)) held)
 
   beyond : (k : ℕ) → length after ≤ k → IsReady p h one.book k (fresh []) []

@@ -37,7 +37,7 @@ use Rattle.sg_mutate.specs.Epochs.{constants_of, parted, found_in, found_at, act
 use Rattle.sg_world.specs.Stopping.{held_by, held_in, HaveRegisters, IsOpen, CanGoOn, MayGoOn, GoOn}
 use Rattle.sg_world.specs.Worlds.{Worldly, CanRun, IsWorldOf, IsBetween, HasLeftReady, asked_of, requests_of, IsAtStop}
 use Rattle.sg_world.proofs.Lists.{pairwise_at, pairwise_at_right, pairwise_length, pairwise_by, joined_pairwise, sums_le, sums_less, some_at, asked_somewhere}
-use Rattle.sg_world.proofs.Heaps.{contents_stay, held_of_heap, ends_of_heap, addresses_of_heap, high}
+use Rattle.sg_world.proofs.Heaps.{held_of_heap, ends_of_heap, addresses_of_heap, high}
 use Rattle.sg_world.proofs.Paused.{AreAmong, none_among, own_among, ambiguous_are, ready_paused}
 use Rattle.sg_world.proofs.Onward.{IsReadyNow, IsFurther}
 use Rattle.sg_world.proofs.AllOnward.{HaveGoneOn, all_go}
@@ -275,7 +275,7 @@ module _ (keeps : KeepsPointedInto) (stays : StaysReady) (serves : ServesReady) 
         between : IsBetween p turns (phases ++ Epoch report order swept ∷ Stop (record { number = world.number; minor = Some minor; served = services }) ∷ [])
             (record { program = world.program; space = u; mutators = ns; number = world.number + 1 }) schedule
         between = record {
-          of = record { can = t.of.can; program = t.of.program; are = are; contents = contents_stay v u kept contents; counted = counted; numbered = numbered };
+          of = record { can = t.of.can; program = t.of.program; are = are; contents = all.holding.contents; counted = counted; numbered = numbered };
           graph = all.graph;
           book = all.book;
           follows = subst (λ k. FollowsTo p turns k
@@ -293,7 +293,7 @@ module _ (keeps : KeepsPointedInto) (stays : StaysReady) (serves : ServesReady) 
               going = stopped;
               untold = each_actor (λ k a. a.told ≡ []) (λ k n e. (now k n e).untold) (λ k l. refl);
             };
-            space = record { contents = contents_stay v u kept contents; layout = all.holding.heap.0.layout };
+            space = record { contents = all.holding.contents; layout = all.holding.heap.0.layout };
             are = are;
             stages = λ k n e. (now k n e).stage;
             going = λ ended. t.going (λ k l. sym (all.ended k) ∙ ended k l);

@@ -1,18 +1,36 @@
 -- The space of a world and the heap that it holds.
-use Rattle.std.proofs.Common.{◌≡◌, ℕ, ◌<◌, ◌≤◌, List, length, get_or, true, inl, inr, ap, sym, ◌∙◌, subst, arith}
+use Rattle.std.proofs.Common.{◌≡◌, ℕ, ◌<◌, ◌≤◌, Bool, List, length, get_or, true, inl, inr, refl, ap, sym, ◌∙◌, subst, arith}
 use Rattle.sg_words.specs.Address.{word_at}
-use Rattle.sg_words.specs.Sections.{IsLayout, words_end, nursery_base}
+use Rattle.std.specs.Int.{bit_at}
+use Rattle.sg_words.specs.Sections.{nursery_base}
 use Rattle.sg_words.specs.declared.layout.Layout.{Layout as Sections}
 use Rattle.sg_program.specs.declared.program.Program.{Program}
 use Rattle.sg_graph.specs.Graph.{Mutator, Graph}
 use Rattle.sg_graph.specs.Book.{Book}
 use Rattle.sg_graph.specs.Invariants.{IsPlain}
 use Rattle.sg_minor.specs.Holding.{HoldsHeap}
-use Rattle.sg_space.specs.Space.{Contents, words_of, AreShapes, IsContents}
+use Rattle.sg_space.specs.Space.{Contents, words_of}
 use Rattle.sg_frag.specs.Plain.{KeepsSections}
 use Rattle.sg_order.specs.Rest.{IsHeld}
-use Rattle.sg_mutate.specs.Epochs.{constants_of}
+use Rattle.sg_mutate.specs.Epochs.{constants_of, KeepsBlocks}
 use Rattle.sg_world.specs.Placing.{EndsInside, HasByteAddresses}
+
+pub keeps_same : (s : Contents) → KeepsSections s s
+keeps_same s = record {
+  layout = refl;
+  shapes = refl;
+  ends = refl;
+  next = refl;
+  words = refl;
+  blocks = refl;
+  used = refl;
+  cards = refl;
+  marks = refl;
+  pages = refl;
+  made = refl;
+  registered = refl;
+  pairs = refl;
+}
 
 pub keeps_then : (s t u : Contents) → KeepsSections s t → KeepsSections t u → KeepsSections s u
 keeps_then s t u f g = record {
@@ -21,15 +39,14 @@ keeps_then s t u f g = record {
   ends = g.ends ∙ f.ends;
   next = g.next ∙ f.next;
   words = g.words ∙ f.words;
-}
-
-pub contents_stay : (s t : Contents) → KeepsSections s t → IsContents s → IsContents t
-contents_stay s t keeps c = record {
-  layout = subst IsLayout (sym keeps.layout) c.layout;
-  shapes = subst AreShapes (sym keeps.shapes) c.shapes;
-  words = keeps.words ∙ c.words ∙ ap words_end (sym keeps.layout);
-  fragments = keeps.next ∙ c.fragments ∙ ap length (sym keeps.ends);
-  few = omega (arith, c.few, ap length keeps.ends);
+  blocks = g.blocks ∙ f.blocks;
+  used = g.used ∙ f.used;
+  cards = g.cards ∙ f.cards;
+  marks = g.marks ∙ f.marks;
+  pages = g.pages ∙ f.pages;
+  made = g.made ∙ f.made;
+  registered = g.registered ∙ f.registered;
+  pairs = g.pairs ∙ f.pairs;
 }
 
 pub constants_stay : (s t : Contents) → KeepsSections s t → constants_of t ≡ constants_of s
@@ -40,6 +57,7 @@ pub held_of_heap : (p : Program) (s : Contents) (g : Graph) (b : Book) → IsPla
 held_of_heap p s g b plain holds = record {
   owner = holds.1.0;
   heap = holds.1.1;
+  settled = holds.1.2;
   plain = plain;
   number = holds.0.fragments;
   limits = λ f l. omega (arith, holds.0.limit f l);
@@ -47,9 +65,9 @@ held_of_heap p s g b plain holds = record {
 }
 
 -- and as it ends, the space holds the graph that the words then hold
-pub heap_of_held : (p : Program) (s t : Contents) (g h : Graph) (b c : Book) → KeepsSections s t → HoldsHeap p s g b →
+pub heap_of_held : (p : Program) (s t : Contents) (g h : Graph) (b c : Book) → KeepsSections s t → KeepsBlocks s t → c.owed ≡ b.owed → HoldsHeap p s g b →
     IsHeld p (constants_of t) (words_of t) h c → HoldsHeap p t h c
-heap_of_held p s t g h b c keeps holds held = (
+heap_of_held p s t g h b c keeps blocks owed holds held = (
   record {
     layout = keeps.layout ∙ holds.0.layout;
     shapes = keeps.shapes ∙ holds.0.shapes;
@@ -59,8 +77,16 @@ heap_of_held p s t g h b c keeps holds held = (
     limit = λ f l.
         let there : f < b.fragments = omega (arith, held.number, holds.0.fragments, ap length keeps.ends) in
         omega (arith, held.limits f l, holds.0.limit f there, ap (λ (ends : List ℕ). get_or ends f 0) keeps.ends);
+    fits = λ j z i l e q. holds.0.fits j z i l (sym (blocks.block j) ∙ e) (ap (λ m. bit_at m i) (sym (blocks.used j)) ∙ q);
+    unmarked = λ j. ap (λ (marks : List ℕ). get_or marks j 0) keeps.marks ∙ holds.0.unmarked j;
+    unowed = λ j. ap (λ (f : ℕ → Bool). f j) owed ∙ holds.0.unowed j;
+    pages = λ j. ap (λ (pages : List ℕ). get_or pages j 0) keeps.pages ∙ holds.0.pages j;
+    head = blocks.head ∙ holds.0.head;
+    made = keeps.made ∙ holds.0.made;
+    registered = keeps.registered ∙ holds.0.registered;
+    pairs = keeps.pairs ∙ holds.0.pairs;
   },
-  (held.owner, held.heap),
+  (held.owner, held.heap, held.settled),
 )
 
 -- its fragments end in the nursery, and begin at words of it
@@ -79,7 +105,7 @@ addresses_of_heap p s g b holds f l =
 
 -- the heap doesn't depend on what mutators have
 pub heap_on : (p : Program) (s : Contents) (g : Graph) (b : Book) (mutator : ℕ → Mutator) → HoldsHeap p s g b → HoldsHeap p s (record g { mutator = mutator }) b
-heap_on p s g b mutator holds = let laid = holds.1.1.laid in (
+heap_on p s g b mutator holds = let laid = holds.1.1.laid in let settled = holds.1.2 in (
   holds.0,
   (
     holds.1.0,
@@ -95,14 +121,46 @@ heap_on p s g b mutator holds = let laid = holds.1.1.laid in (
       };
       headed = holds.1.1.headed;
     },
+    record {
+      blocks = settled.blocks;
+      settled = settled.settled;
+      inhabited = settled.inhabited;
+      owes = settled.owes;
+      cards = record { dirty = settled.cards.dirty };
+    },
   ),
 )
 
 -- the stop word is no part of the heap
 pub heap_stays : (p : Program) (s t : Contents) (g : Graph) (b : Book) (word : ℕ) → t ≡ record s { stop = word } → HoldsHeap p s g b → HoldsHeap p t g b
 heap_stays p s t g b word e holds = subst (λ u. HoldsHeap p u g b) (sym e) (
-  record { layout = holds.0.layout; shapes = holds.0.shapes; fragments = holds.0.fragments; same = holds.0.same; next = holds.0.next; limit = holds.0.limit },
-  (holds.1.0, holds.1.1),
+  record {
+    layout = holds.0.layout;
+    shapes = holds.0.shapes;
+    fragments = holds.0.fragments;
+    same = holds.0.same;
+    next = holds.0.next;
+    limit = holds.0.limit;
+    fits = holds.0.fits;
+    unmarked = holds.0.unmarked;
+    unowed = holds.0.unowed;
+    pages = holds.0.pages;
+    head = holds.0.head;
+    made = holds.0.made;
+    registered = holds.0.registered;
+    pairs = holds.0.pairs;
+  },
+  (
+    holds.1.0,
+    holds.1.1,
+    record {
+      blocks = holds.1.2.blocks;
+      settled = holds.1.2.settled;
+      inhabited = holds.1.2.inhabited;
+      owes = holds.1.2.owes;
+      cards = record { dirty = holds.1.2.cards.dirty };
+    },
+  ),
 )
 
 -- a standing object with a name has an address in the heap

@@ -10,8 +10,10 @@ pub mod Held
 pub mod Lists
 pub mod Onward
 pub mod Opened
+pub mod Owed
 pub mod Parts
 pub mod Paused
 pub mod Placed
+pub mod Seeded
 pub mod Turned
 pub mod Yields

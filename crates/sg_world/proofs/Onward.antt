@@ -36,11 +36,19 @@ made_contents s class fields (At a) t is c = subst IsContents (sym is.after) (re
   words = length-set _ _ _ ∙ length-set s.words _ fields ∙ c.words;
   fragments = length-set s.next is.fragment _ ∙ c.fragments;
   few = c.few;
+  blocks = c.blocks;
+  used = c.used;
+  marks = c.marks;
+  cards = c.cards;
+  bits = c.bits;
+  pages = c.pages;
+  made = c.made;
+  registered = c.registered;
 })
 made_contents s class fields Full t is c = subst IsContents (sym is.space) c
 made_contents s class fields answer t is c = absurd is
 
-serving_contents : (p : Program) (s : Contents) (statement : Statement) (answer : Answer) (t : Contents) → IsServing p s statement answer t → IsContents s →
+pub serving_contents : (p : Program) (s : Contents) (statement : Statement) (answer : Answer) (t : Contents) → IsServing p s statement answer t → IsContents s →
     IsContents t
 serving_contents p s (New r class) answer t is c = made_contents s class (fields_of p class) answer t is c
 serving_contents p s (NewV r class count) answer t is c = made_contents s class count answer t is c

@@ -18,7 +18,7 @@ use Rattle.sg_actor.specs.declared.mutator.Stage.TheVariants.{Asking}
 use Rattle.sg_actor.specs.State.{Mutating, asking_of, HasServed}
 use Rattle.sg_world.specs.Placing.{HasByteAddresses, HoldsNew, IsMade, IsServing}
 use Rattle.sg_world.specs.Stopping.{IsOpen, GoesOn}
-use Rattle.sg_world.proofs.Heaps.{contents_stay}
+use Rattle.sg_world.proofs.Onward.{serving_contents}
 
 new_bytes : (s : Contents) (class fields a : ℕ) (t : Contents) → HoldsNew s class fields t a → IsContents s → HasByteAddresses s → HasByteAddresses t
 new_bytes s class fields a t is c bytes f l =
@@ -55,7 +55,7 @@ served_bytes p s statement answer t is c bytes = absurd is
 pub open_stays : (p : Program) (s : Contents) (statement : Statement) (answer : Answer) (t : Contents) → IsServing p s statement answer t → KeepsSections s t →
     IsOpen s → IsOpen t
 open_stays p s statement answer t is keeps o = record {
-  contents = contents_stay s t keeps o.contents;
+  contents = serving_contents p s statement answer t is o.contents;
   ends = λ f l.
       let inside = o.ends f (let e = ap length keeps.ends in omega arith) in
       let same : get_or t.ends f 0 ≡ get_or s.ends f 0 = ap (λ (ends : List ℕ). get_or ends f 0) keeps.ends in

@@ -6,21 +6,21 @@ use Rattle.sg_words.specs.Tags.{plain_word}
 use Rattle.sg_words.specs.Words.{put}
 use Rattle.sg_words.proofs.Puts.{put-at, put-other, within_range, range-in, range-below, range-above, range-keeps}
 use Rattle.sg_program.specs.declared.program.Program.{Program}
-use Rattle.sg_desc.specs.Shapes.{holds_reference}
+use Rattle.sg_words.specs.Blocks.{card_of}
+use Rattle.sg_desc.specs.Shapes.{holds_reference, is_strong}
 use Rattle.sg_program.specs.Scripts.{kind_of, IsSizeOf, words_for}
 use Rattle.sg_graph.specs.Graph.{Entry, Ref, Int, Inner, Mutator, Graph, empty_field, grown}
-use Rattle.sg_graph.specs.Book.{Book, Young, placed, nursery_end, word_of}
+use Rattle.sg_graph.specs.Book.{Book, Young, Old, placed, nursery_end, word_of, slot_at, slot_words}
+use Rattle.sg_graph.specs.Blocks.{IsOldAt, IsTakenAt, AreBlocks, AreCarded, AreSettled}
 use Rattle.sg_words.specs.Sections.{nursery_base, globals_base}
-use Rattle.sg_space.specs.Space.{Contents}
-use Rattle.sg_space.specs.Standing.{word}
+use Rattle.sg_space.specs.Space.{Contents, words_of}
+use Rattle.sg_space.specs.Standing.{word, block_in, used_in, marks_in}
 use Rattle.sg_graph.specs.Heap.{Owner, Of, Frag, Buf, IsHeaded, IsKnown, IsKnownEntry, IsOfSort, Nothing, Objects, Fields, layout_of, Globals, Clear, Fragments, Buffers, IsHeap}
 use Rattle.sg_minor.specs.Holding.{IsSpaceOf, HoldsHeap}
 
 -- an object of this class, with so many fields and n words, has its place at the word x, at the front of fragment f
 pub record HasPlaced (s : Contents) (f x n class fields : ℕ) (t : Contents) : Type 0 where
-  pub layout : t.layout ≡ s.layout
-  pub shapes : t.shapes ≡ s.shapes
-  pub ends : t.ends ≡ s.ends
+  pub still : t ≡ record s { words = t.words; next = t.next }
   pub nexts : length t.next ≡ length s.next
   pub next : slice_index t.next f ≡ byte_at (x + n)
   pub other : (j : ℕ) → j ≢ f → slice_index t.next j ≡ slice_index s.next j
@@ -37,6 +37,7 @@ empty_cond P true r i = r
 empty_cond P false r i = i
 
 module _ (p : Program) (s : Contents) (g : Graph) (b : Book) (owner : ℕ → Owner) (sp : IsSpaceOf p s b) (heap : IsHeap p (word s) g b owner)
+    (settled : AreSettled p (words_of s) g b owner)
     (k class n f : ℕ) (mutator : ℕ → Mutator) (t : Contents) (known : class < length p.classes) (sized : IsSizeOf p class n) (there : f < b.fragments)
     (fits : b.next f + words_for n ≤ b.limit f) (pl : HasPlaced s f (b.next f) (words_for n) class n t) where
   abbrev x : ℕ
@@ -165,7 +166,7 @@ module _ (p : Program) (s : Contents) (g : Graph) (b : Book) (owner : ℕ → Ow
   sized_at : (m : ℕ) → m ≡ new → IsSizeOf p (h.class m) (h.size m)
   sized_at m e = sized_as m class n (class_new m e) (size_new m e) sized
 
-  objects' : Objects p h.count h.class h.size c.stands c.address c.section c.fill owner'
+  objects' : Objects p h.count h.class h.size c.stands c.address c.section owner'
   objects' = record {
     given = λ m q. elim (old_or_new m q) [ inl e ↦ omega arith | inr o ↦ (let l = heap.laid.objects.given m o in omega arith) ];
     shaped = λ m l q. elim (old_or_new m q) [
@@ -190,8 +191,6 @@ module _ (p : Program) (s : Contents) (g : Graph) (b : Book) (owner : ℕ → Ow
         | inr i ↦ inr (section_old m o ∙ i.0, (let w = i.1 in omega arith), (let w = i.2 in omega arith))
       ]
     ];
-    filled = heap.laid.objects.filled;
-    packed = λ y p q. let o = heap.laid.objects.packed y p q in (o.0, owner_old o.0 y o.1);
   }
     where
       new_owned : (m y : ℕ) → m ≡ new → owner' y ≡ Of m → (c.stands m ≡ true) × (c.address m ≤ y) × (y < c.address m + words_for (h.size m))
@@ -236,7 +235,7 @@ module _ (p : Program) (s : Contents) (g : Graph) (b : Book) (owner : ℕ → Ow
     ];
   }
 
-  behind : (y : ℕ) → globals_base (layout_of p) ≤ y → word t y ≡ word s y
+  behind : (y : ℕ) → nursery_end p ≤ y → word t y ≡ word s y
   behind y l = let i = in_nursery in same_word y (λ p q. let u = i.1 in absurd (omega arith))
 
   globals' : Globals p (word t) h c
@@ -249,6 +248,7 @@ module _ (p : Program) (s : Contents) (g : Graph) (b : Book) (owner : ℕ → Ow
 
   clear' : Clear p (word t) owner'
   clear' = record {
+    large = λ y l q. behind y (omega arith) ∙ heap.laid.clear.large y l q;
     clear = λ y l q none.
         let out : x ≤ y → y < x + words_for n → ⊥ = λ i d. none new (range-in owner x (x + words_for n) (Of new) y i d) in
         same_word y out ∙ heap.laid.clear.clear y l q (λ m o. none m (owner_old m y o));
@@ -296,22 +296,91 @@ module _ (p : Program) (s : Contents) (g : Graph) (b : Book) (owner : ℕ → Ow
     | inr o ↦ headed_old m o (heap.headed m l o)
   ]
 
-  space' : IsSpaceOf p t c
+  -- an old object is where it was
+  old_at : (m y z : ℕ) → IsOldAt g.size b.stands b.address b.section m y z → IsOldAt h.size c.stands c.address c.section m y z
+  old_at m y z o = record {
+    some = o.some;
+    standing = stands_old m o.standing;
+    old = section_old m o.standing ∙ o.old;
+    at = at_old m o.standing ∙ o.at;
+    sized = ap slot_words (size_old m o.standing) ∙ o.sized;
+  }
+
+  not_old : (m : ℕ) → m ≡ new → c.section m ≡ Old → ⊥
+  not_old m e old = let q : Young ≡ Old = sym (put-at b.section new Young m e) ∙ old in cc q
+
+  taken_old : (m j : ℕ) → b.stands m ≡ true → IsTakenAt p (marks_in s j) (b.address m) (slot_words (g.size m)) j (block_in s j) (used_in s j) →
+      IsTakenAt p (marks_in s j) (c.address m) (slot_words (h.size m)) j (block_in s j) (used_in s j)
+  taken_old m j o i = subst (λ a. IsTakenAt p (marks_in s j) a (slot_words (h.size m)) j (block_in s j) (used_in s j)) (sym (at_old m o))
+      (subst (λ z. IsTakenAt p (marks_in s j) (b.address m) (slot_words z) j (block_in s j) (used_in s j)) (sym (size_old m o)) i)
+
+  blocks' : AreBlocks p (words_of s).marks (words_of s).block (words_of s).used (word t) h.size c.stands c.address c.section c.owed owner'
+  blocks' = record {
+    placed = λ m l q old. elim (old_or_new m q) [
+      | inl e ↦ absurd (not_old m e old)
+      | inr o ↦ let i = settled.blocks.placed m l o (sym (section_old m o) ∙ old) in (i.0, i.1, taken_old m i.0 o i.2)
+    ];
+    each = λ j l. let e = settled.blocks.each j l in record {
+      filled = λ z i of fits bit. let f = e.filled z i of fits bit in (f.0, old_at f.0 (slot_at p j z i) z f.1);
+      bare = e.bare;
+      owing = e.owing;
+      kept = e.kept;
+    };
+    clear = λ j l y from to none waste. behind y (omega arith) ∙ settled.blocks.clear j l y from to (λ m o. none m (owner_old m y o)) waste;
+    sized = settled.blocks.sized;
+  }
+
+  -- a young object to which an old one refers stood before
+  cards' : AreCarded p (words_of s).card h c
+  cards' = record {
+    dirty = λ m i r l q old below strong refers some young. elim (old_or_new m q) [
+      | inl e ↦ absurd (not_old m e old)
+      | inr o ↦
+          let size = size_old m o in
+          let within : i < g.size m = omega arith in
+          let ref : g.field m i ≡ Ref r = sym (field_old m i o) ∙ refers in
+          let there : IsKnownEntry (word s) g b (Ref r) = subst (IsKnownEntry (word s) g b) ref (heap.laid.fields.known m i o within) in
+          let before : is_strong (kind_of p (g.class m)) i (g.size m) ≡ true =
+          sym (λ j. is_strong (kind_of p (class_old m o j)) i (size_old m o j)) ∙ strong in
+          ap (λ a. (words_of s).card (card_of (layout_of p) (a + 2 + i))) (at_old m o)
+          ∙ settled.cards.dirty m i r l o (sym (section_old m o) ∙ old) within before ref some (sym (section_old r there.0) ∙ young)
+    ];
+  }
+
+  settled' : AreSettled p (words_of (record s { words = t.words; next = t.next })) h c owner'
+  settled' = record {
+    blocks = blocks';
+    settled = settled.settled;
+    inhabited = λ j z l e. let i = settled.inhabited j z l e in
+        let at = at_old i.0 i.2 in let from = i.3 in let to = i.4 in (i.0, i.1, stands_old i.0 i.2, omega arith, omega arith);
+    owes = settled.owes;
+    cards = cards';
+  }
+
+  space' : IsSpaceOf p (record s { words = t.words; next = t.next }) c
   space' = record {
-    layout = pl.layout ∙ sp.layout;
-    shapes = pl.shapes ∙ sp.shapes;
-    fragments = sp.fragments ∙ ap length (sym pl.ends);
-    same = pl.nexts ∙ sp.same ∙ ap length (sym pl.ends);
+    layout = sp.layout;
+    shapes = sp.shapes;
+    fragments = sp.fragments;
+    same = pl.nexts ∙ sp.same;
     next = λ i l. elim (cases_eq i f) [
       | inl e ↦ ap (slice_index t.next) e ∙ pl.next ∙ sym (ap byte_at (next_f i e))
       | inr d ↦ pl.other i d ∙ sp.next i l ∙ sym (ap byte_at (next_other i d))
     ];
-    limit = λ i l. ap (λ ends. slice_index ends i) pl.ends ∙ sp.limit i l;
+    limit = sp.limit;
+    fits = sp.fits;
+    unmarked = sp.unmarked;
+    unowed = sp.unowed;
+    pages = sp.pages;
+    head = sp.head;
+    made = sp.made;
+    registered = sp.registered;
+    pairs = sp.pairs;
   }
 
   -- the space holds the graph with the new object
   pub holds_placed : HoldsHeap p t h c
-  holds_placed = (
+  holds_placed = subst (λ u. HoldsHeap p u h c) (sym pl.still) (
     space',
     (
       owner',
@@ -328,5 +397,6 @@ module _ (p : Program) (s : Contents) (g : Graph) (b : Book) (owner : ℕ → Ow
         };
         headed = headed';
       },
+      settled',
     ),
   )

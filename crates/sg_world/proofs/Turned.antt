@@ -76,9 +76,7 @@ module _ (p : Program) (s : Contents) (g : Graph) (b : Book) (contents : IsConte
 
     has_placed : HasPlaced s fragment x n class fields t
     has_placed = record {
-      layout = ap (λ (s : Contents). s.layout) is.after;
-      shapes = ap (λ (s : Contents). s.shapes) is.after;
-      ends = ap (λ (s : Contents). s.ends) is.after;
+      still = is.after ∙ sym (λ i. record s { words = (is.after i).words; next = (is.after i).next });
       nexts = ap (λ (s : Contents). length s.next) is.after ∙ length-set s.next fragment (a + byte_at n);
       next = ap (λ (s : Contents). get_or s.next fragment 0) is.after
           ∙ get_or-set_same s.next fragment (a + byte_at n) 0 (omega (arith, holds.0.same, is.there)) ∙ omega (arith, at);
@@ -96,7 +94,7 @@ module _ (p : Program) (s : Contents) (g : Graph) (b : Book) (contents : IsConte
         written y = set s.words (y + 1) fields
 
     holds_served : HoldsHeap p t (record (grown p g k class fields) { mutator = mutator }) c
-    holds_served = holds_placed p s g b holds.1.0 holds.0 holds.1.1 k class fields fragment mutator t known sized there takes.room has_placed
+    holds_served = holds_placed p s g b holds.1.0 holds.0 holds.1.1 holds.1.2 k class fields fragment mutator t known sized there takes.room has_placed
 
     served_at : a ≡ byte_at (c.address (suc g.count))
     served_at = at ∙ ap byte_at (sym (put-same b.address (suc g.count) x))

@@ -3,6 +3,7 @@
 
 mod placing;
 mod reports;
+mod seeding;
 mod stop;
 mod world;
 

@@ -15,6 +15,7 @@ ghost use Rattle.sg_world.specs.Telling.{goes};
 ghost use Rattle.sg_world.specs.Stopping.{held_by, held_in, HaveRegisters, IsOpen, MayGoOn, GoesOn, GoOn};
 
 use crate::placing::answer_to;
+use crate::seeding::seeds_in;
 use sg_actor::Mutator;
 use sg_graph::{MinorReport, Program, Service};
 use sg_minor::minor;
@@ -22,8 +23,9 @@ use sg_space::Space;
 use sg_words::List;
 use std::alloc::{AllocError, Global};
 
-/// The pause of a stop: the stop word is cleared, what no mutator that hasn't ended reaches is dropped, and no mutator has a buffer any
-/// more. Takes the time and the memory of a minor pause, and 80 words for each mutator. Where memory runs out the space is lost.
+/// The pause of a stop: the stop word is cleared, the seeds are found by the dirty cards, what no mutator that hasn't ended reaches is
+/// dropped, and no mutator has a buffer any more. Takes the time and the memory of a minor pause and of its seeds, and 80 words for each
+/// mutator. Where memory runs out the space is lost.
 pub(crate) fn pause(
     alloc: Global,
     space: Space,
@@ -41,7 +43,8 @@ pub(crate) fn pause(
     let ambiguous = ambiguous(alloc, mutators)?;
     let mut space = space;
     space.set_stopping(false);
-    let (space, report) = minor(alloc, space, ambiguous.as_slice())?;
+    let found = seeds_in(alloc, &space)?;
+    let (space, report) = minor(alloc, space, ambiguous.as_slice(), found)?;
     drop_buffers(mutators);
     Ok((space, report))
 }
