@@ -75,12 +75,7 @@ impl Numbered for BlockWord {
     ghost IsNumbered = { IsBlockWord };
 
     fn to_word(self) -> u64 {
-        match self {
-            BlockWord::Free => 0,
-            BlockWord::Swept { size } => 4 * place(size) + 1,
-            BlockWord::Need { size } => 4 * place(size) + 2,
-            BlockWord::Sweeping { size } => 4 * place(size) + 3,
-        }
+        number_of(self)
     }
 
     fn of_word(w: u64) -> Option<BlockWord> {
@@ -99,11 +94,22 @@ impl Numbered for BlockWord {
     }
 }
 
-/// The place of this size class among them.
+/// The number of this block's word by the same rule, also where the size in it is no size class: its place is 9 then.
+pub fn number_of(word: BlockWord) -> u64
+    ensures { result ≡ block_number word }
+{
+    match word {
+        BlockWord::Free => 0,
+        BlockWord::Swept { size } => 4 * place(size) + 1,
+        BlockWord::Need { size } => 4 * place(size) + 2,
+        BlockWord::Sweeping { size } => 4 * place(size) + 3,
+    }
+}
+
+/// The place of this size class among them; 9 where it is none.
 fn place(size: u32) -> u64
-    requires { IsSizeClass size }
     ensures place { result ≡ place_of size }
-    ensures few { result < 9 }
+    ensures few { result < 10 }
 {
     match size {
         4 => 0,
@@ -114,7 +120,8 @@ fn place(size: u32) -> u64
         24 => 5,
         32 => 6,
         48 => 7,
-        _ => 8,
+        64 => 8,
+        _ => 9,
     }
 }
 

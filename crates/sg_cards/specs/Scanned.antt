@@ -2,7 +2,7 @@
 use Rattle.std.specs.Prelude.{◌≡◌, ◌≢◌, ℕ, ◌+◌, ◌*◌, ◌/◌, ◌<◌, ◌≤◌, Option, Some, List, map, slice_get, slice_index}
 use Rattle.std.specs.List.Sorted.{IsStrictlyIncreasing}
 use Rattle.sg_words.specs.Address.{byte_at}
-use Rattle.sg_cards.specs.declared.seeds.Seed.{Seed}
+use Rattle.sg_cards.specs.declared.found.Seed.{Seed}
 use Rattle.sg_words.specs.Sections.{old_base, large_base, globals_base}
 use Rattle.sg_words.specs.Blocks.{IsOf, is_taken}
 use Rattle.std.specs.Int.{bit_at}
@@ -25,7 +25,7 @@ pub record IsFoundAt (s : Contents) (owner : ℕ → Option ℕ) (x v : ℕ) : T
 -- of the words of card c those below the word x were looked at
 pub record IsScannedTo (s : Contents) (c : ℕ) (found : List ℕ) (x : ℕ) : Type 0 where
   pub below : (owner : ℕ → Option ℕ) → IsSoundBy s owner → (j : ℕ) → j < 64 → card_base s.layout c + j < x → IsFoundAt s owner (card_base s.layout c + j) (slice_index found j)
-  pub above : (j : ℕ) → x ≤ card_base s.layout c + j → slice_index found j ≡ 0
+  pub above : (j : ℕ) → j < 64 → x ≤ card_base s.layout c + j → slice_index found j ≡ 0
 
 -- the words f are those of a sound space
 pub record AreSoundWords (layout : Layout) (shapes : List Shape) (count : ℕ) (f : ℕ → ℕ) (s : Contents) : Type 0 where

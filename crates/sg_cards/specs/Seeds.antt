@@ -10,7 +10,7 @@ use Rattle.sg_desc.specs.declared.shapes.Shape.{Shape}
 use Rattle.sg_desc.specs.Shapes.{is_strong}
 use Rattle.sg_space.specs.Space.{Contents, cards_in}
 use Rattle.sg_space.specs.Standing.{word, IsSoundBy}
-use Rattle.sg_cards.specs.declared.seeds.Seed.{Seed}
+use Rattle.sg_cards.specs.declared.found.Seed.{Seed}
 
 -- v is the address of a word of the nursery
 abbrev pub IsYoungWord : Layout → ℕ → Type 0

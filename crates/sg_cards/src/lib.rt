@@ -4,12 +4,14 @@
 #![tactic(auto)]
 
 mod cards;
+mod found;
 mod scan;
-mod seeds;
+mod search;
 mod steps;
 mod words;
 
 pub use cards::{card_of, clean};
-pub use seeds::{Seed, Seeds, seeds};
+pub use found::{Seed, Seeds};
+pub use search::seeds;
 pub use steps::Steps;
 pub use words::Words;

@@ -90,7 +90,15 @@ fn scan_slots<W: Words, L: Ledger>(
     for slot in first..end {
         if (mask >> slot) & 1 == 1 {
             let front = base + (size * slot) as u64;
-            scan_object(words, layout, shapes, front, base + from as u64, found, steps);
+            scan_object(
+                words,
+                layout,
+                shapes,
+                front,
+                base + from as u64,
+                found,
+                steps,
+            );
         }
     }
 }
@@ -115,7 +123,15 @@ fn scan_page<W: Words, L: Ledger>(
     if first != 0 {
         let base = layout.large_word();
         let start = base + CARD_WORDS as u64 * place;
-        scan_object(words, layout, shapes, base + PAGE_WORDS * (first - 1), start, found, steps);
+        scan_object(
+            words,
+            layout,
+            shapes,
+            base + PAGE_WORDS * (first - 1),
+            start,
+            found,
+            steps,
+        );
     }
 }
 
@@ -156,5 +172,8 @@ fn is_young(layout: &Layout, value: u64) -> bool
     requires { IsLayout layout.now }
     ensures { (result ≡ true) ↔ IsYoungWord layout.now value }
 {
-    value % 8 == 0 && 8 * FIRST_WORD <= value && value < layout.old_base()
+    if value % 8 != 0 || value < 8 * FIRST_WORD {
+        return false;
+    }
+    value < layout.old_base()
 }

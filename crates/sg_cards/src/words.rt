@@ -1,10 +1,10 @@
-ghost use Rattle.std.specs.Prelude.{◌≡◌, ◌+◌, ◌*◌, ◌<◌, ℕ};
+ghost use Rattle.std.specs.Prelude.{◌≡◌, ◌+◌, ◌<◌, ◌≤◌, ℕ};
 ghost use Rattle.sg_words.specs.Sections.{IsLayout};
 ghost use Rattle.sg_space.specs.Space.{cards_in};
 ghost use Rattle.sg_cards.specs.Numbering.{cards_from, blocks_from, pages_from, numbers_end, of_block, numbered};
 
 use crate::steps::Steps;
-use sg_blocks::Numbered;
+use sg_blocks::number_of;
 use sg_space::Space;
 use sg_words::{Addr, FIRST_WORD, Layout};
 use std::sync::ledger::Ledger;
@@ -104,7 +104,7 @@ fn part_of(space: &Space, block: u32, i: u64) -> u64
 {
     let _ = space.layout();
     match i {
-        0 => space.block(block).to_word(),
+        0 => number_of(space.block(block)),
         1 => space.used(block),
         _ => space.marks(block),
     }

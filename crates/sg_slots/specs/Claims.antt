@@ -1,8 +1,7 @@
 -- How a slot is claimed, and what a port may show meanwhile.
-use Rattle.std.specs.Prelude.{◌≡◌, ℕ, ◌^◌, ◌<◌, ◌⊎◌, Option, Some, None, List, [], ◌∷◌, ◌++◌}
+use Rattle.std.specs.Prelude.{◌≡◌, ℕ, ◌<◌, Option, Some, None, List, [], ◌∷◌, ◌++◌}
 use Rattle.std.specs.Int.{bit_at}
-use Rattle.std.specs.List.{Contains, AllByRecursion}
-use Rattle.sg_words.specs.declared.steps.Place.{Place}
+use Rattle.std.specs.List.{AllByRecursion}
 use Rattle.sg_words.specs.declared.steps.BlockWord.{BlockWord}
 use Rattle.sg_words.specs.declared.steps.BlockWord.TheVariants.{Free, Swept}
 use Rattle.sg_words.specs.declared.steps.BlockStep.{BlockStep}
@@ -14,7 +13,9 @@ use Rattle.sg_words.specs.Calls.{call_of}
 use Rattle.sg_words.specs.Blocks.{slots, IsOwing}
 use Rattle.sg_words.specs.Words.{Words}
 use Rattle.sg_cells.specs.Made.{Makes}
-use Rattle.sg_slots.specs.Looks.{PassesOver}
+use Rattle.sg_slots.specs.declared.search.Found.{Found}
+use Rattle.sg_slots.specs.declared.search.Found.TheVariants.{Free as IsFree, Slot, None as NoSlot}
+use Rattle.sg_slots.specs.Looks.{PassesOver, AreLooks}
 
 -- a claim of a slot of `size` words among so many blocks makes only such steps: loads of words and occupancies, the exchange of a free
 -- block's word, and the fetch-or of a slot's bit
@@ -104,21 +105,31 @@ pub record IsPassedIn (size c : ℕ) (es : List Step) : Type 0 where
   pub parts : es ≡ before ++ passing ++ after
   pub passes : PassesOver size c passing
 
--- the steps of a claim that have passed over each block below c
-pub record AreTries (size blocks c : ℕ) (es : List Step) : Type 0 where
-  pub steps : AllByRecursion (IsOfClaim size blocks) es
-  pub passed : (b : ℕ) → b < c → IsPassedIn size b es
+-- the exchange of block c's word from free to swept of this size, won or lost
+pub data IsExchange (size c : ℕ) : BlockStep → Type 0 where
+  IsWon : IsExchange size c (WonBlock c Free (Swept size))
+  IsLost : (found : BlockWord) → IsExchange size c (LostBlock c Free (Swept size) found)
 
--- the last step of a claim of slot i of block c: its bit was clear
-pub record IsGot (size blocks c i : ℕ) (es : List Step) (found : ℕ) : Type 0 where
-  pub there : c < blocks
-  pub fits : i < slots size
-  pub clear : bit_at found i ≡ 0
-  pub seen : Contains es (OnBlock (LoadBlock c (Swept size)))
+-- These steps of a claim have got no slot yet, and its next search begins at block c: searches one after another, of which each is followed by
+-- the exchange of the free block that it found, or by the claim of the slot that it found, whose bit was set meanwhile.
+pub data IsTried (size blocks : ℕ) : List Step → ℕ → Type 0 where
+  Begins : IsTried size blocks [] 0
+  Opens : (es fs : List Step) (c d : ℕ) (t : BlockStep) → IsTried size blocks es c → AreLooks size blocks c fs (IsFree d) → IsExchange size d t →
+      IsTried size blocks ((es ++ fs) ++ OnBlock t ∷ []) d
+  Misses : (es fs : List Step) (c d i found : ℕ) → IsTried size blocks es c → AreLooks size blocks c fs (Slot d i) → bit_at found i ≡ 1 →
+      IsTried size blocks ((es ++ fs) ++ OnBlock (OrUsed d i found) ∷ []) d
 
--- The steps of a claim lead from p to q with this answer: the slot whose bit the last of them found clear and set, in the first block that wasn't
--- passed over; or none, where each block was passed over.
+-- the last search, from block c on, after the steps `before`; each block below d was passed over
+pub record IsLastSearch (size blocks d : ℕ) (before looks : List Step) (found : Found) : Type 0 where
+  pub from : ℕ
+  pub tried : IsTried size blocks before from
+  pub finds : AreLooks size blocks from looks found
+  pub passed : (b : ℕ) → b < d → IsPassedIn size b (before ++ looks)
+
+-- The steps of a claim lead from p to q with this answer: the slot that the last search found, whose bit the last step found clear and set; or none,
+-- where the last search found none, and each block was passed over.
 abbrev pub Claims : {P : Type 0} → (P → List Step → P → Type 0) → (P → Step → Type 0) → ℕ → ℕ → P → P → Option (ℕ × ℕ) → Type 0
-Claims {P} leads sees size blocks p q None = (es : List Step) × Makes leads sees p es q × AreTries size blocks blocks es
-Claims {P} leads sees size blocks p q (Some place) =
-    (es : List Step) × (found : ℕ) × Makes leads sees p (es ++ OnBlock (OrUsed place.0 place.1 found) ∷ []) q × AreTries size blocks place.0 es × IsGot size blocks place.0 place.1 es found
+Claims {P} leads sees size blocks p q None = (before : List Step) × (looks : List Step) × Makes leads sees p (before ++ looks) q × IsLastSearch size blocks blocks before looks NoSlot
+Claims {P} leads sees size blocks p q (Some place) = (before : List Step) × (looks : List Step) × (found : ℕ) ×
+    Makes leads sees p ((before ++ looks) ++ OnBlock (OrUsed place.0 place.1 found) ∷ []) q ×
+    IsLastSearch size blocks place.0 before looks (Slot place.0 place.1) × (place.0 < blocks) × (place.1 < slots size) × (bit_at found place.1 ≡ 0)

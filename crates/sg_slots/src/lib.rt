@@ -4,6 +4,3 @@
 mod search;
 
 pub use search::{Found, claim_slot, find};
-
-#[cfg(test)]
-mod tests;

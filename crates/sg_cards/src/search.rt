@@ -5,46 +5,14 @@ ghost use Rattle.sg_space.specs.Standing.{IsSoundBy};
 ghost use Rattle.sg_cards.specs.Seeds.{AreSeeds, AreCarded};
 ghost use Rattle.sg_cards.specs.Scanned.{AreSoundWords, AreSeedsTo, card_base};
 
+use crate::found::{Seed, Seeds};
 use crate::scan::{CARD_WORDS, young_in};
 use crate::steps::Steps;
 use crate::words::{Words, cards, cards_number};
 use sg_desc::Shape;
 use sg_words::{Addr, Layout};
 use std::alloc::{AllocError, Global};
-use std::marker::Model;
 use std::sync::ledger::Ledger;
-
-/// A strong field of an old or a large object that holds a young reference: its byte address, and what it holds.
-#[derive(Clone, Copy, Debug, PartialEq, Eq)]
-pub struct Seed {
-    pub slot: Addr,
-    pub target: Addr,
-}
-
-/// The seeds of a heap, as `seeds` found them. Nothing else makes one: its field is private, and it can't be copied, so who asks for one by value
-/// gets what the dirty cards gave.
-#[derive(Debug, Drop)]
-pub struct Seeds {
-    items: Vec<Seed>,
-}
-
-impl Model for Seeds {
-    ghost use Rattle.std.specs.Prelude.{List};
-    ghost use Rattle.sg_cards.specs.declared.seeds.Seed.{Seed};
-
-    ghost Value = { List Seed };
-
-    ghost view = { λ s. s.items.items };
-}
-
-impl Seeds {
-    /// The seeds, by the addresses of their fields.
-    pub fn all(&self) -> &[Seed]
-        ensures { result.now ≡ self.now }
-    {
-        self.items.as_slice()
-    }
-}
 
 /// The strong fields of standing old and large objects that hold young references, by address, each with what it holds. The words are those of a
 /// sound space, and each such field has a dirty card. Reads each card's word once, and of a dirty card's words each at most once, beside at most 5
@@ -69,7 +37,7 @@ pub fn seeds<W: Words, L: Ledger>(
             add_card(words, layout, shapes, card, &mut items, steps)?;
         }
     }
-    Ok(Seeds { items })
+    Ok(Seeds::of(items))
 }
 
 // Adds the seeds of a block, by its four cards.
