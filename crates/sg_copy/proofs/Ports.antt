@@ -114,9 +114,9 @@ module _ {P : Type 0} (o : Ports P) (seat : Seat) where
       pub one_step : (¬ RestsAt a.worker) → Gone a x b y
       one_step inside = gone_started a b x y inside started
 
-  -- the word x is the one at its byte address
-  pub word_there : (P : ℕ → Type 0) (x : ℕ) → P x → P (word_at (byte_at x))
-  word_there P x p = subst P (sym (word_at-byte_at x)) p
+  -- the same for the word at the byte address of w
+  pub may_at : (call : ℕ → Call) (w : ℕ) (x : P) → o.may x (call w) → o.may x (call (word_at (byte_at w)))
+  may_at call w x m = subst (λ k. o.may x (call k)) (sym (word_at-byte_at w)) m
 
-  pub word_here : (P : ℕ → Type 0) (x : ℕ) → P (word_at (byte_at x)) → P x
-  word_here P x p = subst P (word_at-byte_at x) p
+  pub did_at : (step : ℕ → Step) (w : ℕ) (x y : P) → o.sees x (step (word_at (byte_at w))) → o.leads x (step (word_at (byte_at w)) ∷ []) y → Did x (step w) y
+  did_at step w x y saw led = (subst (λ k. o.sees x (step k)) (word_at-byte_at w) saw, subst (λ k. o.leads x (step k ∷ []) y) (word_at-byte_at w) led)

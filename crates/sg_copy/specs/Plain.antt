@@ -24,7 +24,7 @@ pub record LeadsOn (s : Contents) (cells : List ℕ) (es : List Step) (t : Conte
 
 -- the word with this number is one of a section
 abbrev pub IsWordIn : Contents → ℕ → Type 0
-IsWordIn s x = IsInSection s.layout x × (x < 2 ^ 37)
+IsWordIn s x = IsInSection s.layout x × (x < 2 ^ 37) × (x < length s.words)
 
 -- The calls on blocks that it allows: loads of their words and occupancies, exchanges of their words, and claims of slots.
 abbrev pub AllowsOnBlock : Contents → BlockCall → Type 0

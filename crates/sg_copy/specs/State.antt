@@ -1,5 +1,5 @@
 -- What a contract sees of a worker.
-use Rattle.std.specs.Prelude.{◌≡◌, ℕ, ◌+◌, ◌-◌, ◌^◌, ◌<◌, ◌≤◌, nat_le, nat_lt, ◌&&◌, if◌then◌else◌, Bool, List, [], length, replicate, map, slice_index, slice_get}
+use Rattle.std.specs.Prelude.{◌≡◌, ℕ, ◌+◌, ◌-◌, ◌^◌, ◌<◌, ◌≤◌, nat_le, nat_lt, if◌then◌else◌, Bool, List, [], length, replicate, map, slice_index, slice_get}
 use Rattle.sg_words.specs.Address.{byte_at, word_at}
 use Rattle.sg_words.specs.Objects.{strong_slots}
 use Rattle.sg_words.specs.Sections.{IsLayout}
@@ -134,7 +134,7 @@ IsOnSlot Ended = ⊥
 
 -- where a worker stands that has seen that the slot's target stays: the slot's card comes next, where it has one
 abbrev pub staying : Area → ℕ → Mid
-staying area s = if nat_le area.high s && nat_lt s area.rows then On s Dirty else Idle
+staying area s = if nat_le area.high s then (if nat_lt s area.rows then On s Dirty else Idle) else Idle
 
 -- an object that moved, by the numbers of its first words
 abbrev pub move_of : ℕ → ℕ → Move

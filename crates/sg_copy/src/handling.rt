@@ -122,12 +122,11 @@ impl Copier {
             (at (teller_of self.old) (On job.slot (looking (seat_of self.old).area (object_of job) from))) }
         ensures { HasHandled self.old P.leads (at (teller_of self.old) (On job.slot (looking (seat_of self.old).area (object_of job) from))) port.old self.new port.new }
     {
-        let stage = match find(port, size_of(job.fields), from) {
-            Found::Free { block } => Stage::Taking { job, block },
-            Found::Slot { block, slot } => Stage::Claiming { job, block, slot },
-            Found::None => Stage::Pinning { job },
-        };
-        self.set_stage(stage);
+        match find(port, size_of(job.fields), from) {
+            Found::Free { block } => self.set_stage(Stage::Taking { job, block }),
+            Found::Slot { block, slot } => self.set_stage(Stage::Claiming { job, block, slot }),
+            Found::None => self.set_stage(Stage::Pinning { job }),
+        }
     }
 }
 

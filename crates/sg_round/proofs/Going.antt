@@ -1,5 +1,5 @@
 -- What a round under way says of slots, claimed words and first words.
-use Rattle.std.proofs.Common.{◌≡◌, ◌≢◌, ℕ, ◌+◌, ◌*◌, ◌≤◌, ◌<◌, ◌⊎◌, cond, Bool, true, false, List, sym, refl, ap, ◌∙◌, subst, inl, inr, arith}
+use Rattle.std.proofs.Common.{◌≡◌, ◌≢◌, ℕ, ◌+◌, ◌≤◌, ◌<◌, ◌⊎◌, cond, Bool, true, false, List, sym, refl, ap, ◌∙◌, subst, inl, inr, arith}
 use Rattle.std.proofs.lemmas.Bool.{cond-true, cond-false, cases_lt, cases_Bool}
 use Rattle.sg_words.specs.Address.{byte_at}
 use Rattle.sg_words.specs.Tags.{plain_word, forward_word}
@@ -8,9 +8,10 @@ use Rattle.sg_words.specs.Objects.{size_of, sent}
 use Rattle.sg_words.specs.Reach.Reached.{Root, Next}
 use Rattle.sg_words.proofs.Members.{out, not-in}
 use Rattle.sg_words.proofs.Objects.{sent-at, sent-fixed}
-use Rattle.sg_round.specs.Area.{Area, IsYoung, IsFixed, Traces, class_of}
-use Rattle.sg_round.specs.Round.{Owner, Nobody, Claimed, Target, is_claimed, is_target, Round, IsMet, IsOpening, Slot, Given, Copied, Failed, IsSettled, IsGoing}
-use Rattle.sg_round.proofs.Relation.{IsWhole, IsStaying, HasRead, IsKnown}
+use Rattle.sg_round.specs.Area.{Area, IsYoung, IsFixed, Traces}
+use Rattle.sg_round.specs.Round.{Owner, Nobody, Claimed, Target, is_claimed, is_target, Round, IsMet, IsOpening, Slot, Given, Copied, Failed, IsSettled}
+use Rattle.sg_round.specs.Round.{IsGoing}
+use Rattle.sg_round.proofs.Relation.{IsWhole, IsStaying, HasRead}
 
 pub nobody-not-target : (o : Owner) (a : ℕ) → o ≡ Nobody → o ≡ Target a → ⊥
 nobody-not-target o a e f = let z : Nobody ≡ Target a = sym e ∙ f in cc
@@ -77,14 +78,18 @@ module _ {area : Area} {w : ℕ → ℕ} {items wholes : List ℕ} {zone : ℕ �
   -- no slot is the first word or the length of an object
   pub slot-apart : (s a : ℕ) → Slot area w items r.m r.moves r.fails s → IsMet area w items wholes a → (s ≢ a) × (s ≢ a + 1)
   slot-apart s a (Given h) t = op.item_apart s a h t
-  slot-apart s a (Copied b i h l e x) t = let z = target-old b h in let y = (op.inside a t).1 in let u = x in (λ q. absurd (omega arith), λ q. absurd (omega arith))
+  slot-apart s a (Copied b i h l e x) t = let z = target-old b h in let y = (op.inside a t).1 in let u =
+      x in (λ q. absurd (omega arith), λ q. absurd (omega arith))
   slot-apart s a (Failed b i h l e x) t =
       let u = x in
-      let before : b ≤ a → a < b + size_of w b → a ≡ b = λ lo hi. sym (op.apart b a (inl (go.failed b h).0) t lo hi) in
-      (λ q. (let same = before (omega arith) (omega arith) in absurd (omega arith)), λ q. (let same = before (omega arith) (omega arith) in absurd (omega arith)))
+      let before : b ≤ a → a < b + size_of w b → a ≡ b = λ lo hi. sym (op.apart b a (inl (go.failed b h).0) t lo hi) in (
+        λ q. (let same = before (omega arith) (omega arith) in absurd (omega arith)),
+        λ q. (let same = before (omega arith) (omega arith) in absurd (omega arith)),
+      )
 
   -- no slot lies in a whole object
-  pub no-slot : (x j c : ℕ) → Traces area w items x → w x ≡ plain_word c → has x r.fails ≡ false → j < size_of w x → Slot area w items r.m r.moves r.fails (x + j) → ⊥
+  pub no-slot : (x j c : ℕ) → Traces area w items x → w x ≡ plain_word c → has x r.fails ≡ false → j < size_of w x →
+      Slot area w items r.m r.moves r.fails (x + j) → ⊥
   no-slot x j c t p nf l (Given h) = op.item_out (x + j) x c h t p (omega arith) (let z = l in omega arith)
   no-slot x j c t p nf l (Copied a i h q e u) = let z = target-old a h in let v = (op.inside x (inl t)).1 in let y = u in let g = l in absurd (omega arith)
   no-slot x j c t p nf l (Failed a i h q e u) =
@@ -99,11 +104,13 @@ module _ {area : Area} {w : ℕ → ℕ} {items wholes : List ℕ} {zone : ℕ �
   plain-words x j c t p nf some l =
       let i = op.inside x (inl t) in
       let y0 = i.0.0 in let y1 = i.1 in
-      let out-of : (a : ℕ) → Traces area w items a → x + j ≢ a = λ a ta e. (let s = op.apart x a (inl t) (inl ta) (omega arith) (omega arith) in absurd (omega arith)) in
+      let out-of : (a : ℕ) → Traces area w items a → x + j ≢ a = λ a ta e.
+      (let s = op.apart x a (inl t) (inl ta) (omega arith) (omega arith) in absurd (omega arith)) in
       let m0 : has (x + j) r.moves ≡ false = out (x + j) r.moves (λ h. out-of (x + j) (go.moved (x + j) h).0 refl) in
       let f0 : has (x + j) r.fails ≡ false = out (x + j) r.fails (λ h. out-of (x + j) (go.failed (x + j) h).0 refl) in
       let h0 : has (x + j) r.handled ≡ false = out (x + j) r.handled (λ h. none (go.slots (x + j) (inr h))) in
-      go.words (x + j) m0 f0 (free-clear (r.owner (x + j)) (below-free (x + j) (omega arith))) ∙ cond-false _ _ _ h0 ∙ ap w (free-source (x + j) (below-free (x + j) (omega arith)))
+      go.words (x + j) m0 f0 (free-clear (r.owner (x + j)) (below-free (x + j) (omega arith))) ∙ cond-false _ _ _ h0
+      ∙ ap w (free-source (x + j) (below-free (x + j) (omega arith)))
     where
       none : Slot area w items r.m r.moves r.fails (x + j) → ⊥
       none (Given h) = op.item_out (x + j) x c h t p (omega arith) (let z = l in omega arith)
@@ -120,11 +127,13 @@ module _ {area : Area} {w : ℕ → ℕ} {items wholes : List ℕ} {zone : ℕ �
   length-stays x c t p =
       let i = op.inside x (inl t) in
       let y0 = i.0.0 in let y1 = i.1 in
-      let out-of : (a : ℕ) → Traces area w items a → x + 1 ≢ a = λ a ta e. (let s = op.apart x a (inl t) (inl ta) (omega arith) (omega arith) in absurd (omega arith)) in
+      let out-of : (a : ℕ) → Traces area w items a → x + 1 ≢ a = λ a ta e.
+      (let s = op.apart x a (inl t) (inl ta) (omega arith) (omega arith) in absurd (omega arith)) in
       let m0 : has (x + 1) r.moves ≡ false = out (x + 1) r.moves (λ h. out-of (x + 1) (go.moved (x + 1) h).0 refl) in
       let f0 : has (x + 1) r.fails ≡ false = out (x + 1) r.fails (λ h. out-of (x + 1) (go.failed (x + 1) h).0 refl) in
       let h0 : has (x + 1) r.handled ≡ false = out (x + 1) r.handled (λ h. none (go.slots (x + 1) (inr h))) in
-      go.words (x + 1) m0 f0 (free-clear (r.owner (x + 1)) (below-free (x + 1) (omega arith))) ∙ cond-false _ _ _ h0 ∙ ap w (free-source (x + 1) (below-free (x + 1) (omega arith)))
+      go.words (x + 1) m0 f0 (free-clear (r.owner (x + 1)) (below-free (x + 1) (omega arith))) ∙ cond-false _ _ _ h0
+      ∙ ap w (free-source (x + 1) (below-free (x + 1) (omega arith)))
     where
       none : Slot area w items r.m r.moves r.fails (x + 1) → ⊥
       none (Given h) = op.item_out (x + 1) x c h t p (omega arith) (omega arith)
@@ -142,7 +151,8 @@ module _ {area : Area} {w : ℕ → ℕ} {items wholes : List ℕ} {zone : ℕ �
       let e = free-source s (go.rest s (op.item_zone s h)) in
       Root x (y, (s, h, ap w (sym e) ∙ v))
   traced s x (Copied a i h l e u) v y =
-      let q : r.source s ≡ a + (2 + i) = ap r.source (let z = u in let goal : s ≡ r.m a + (2 + i) = omega arith in goal) ∙ go.source_in a (2 + i) h (omega arith) in
+      let q : r.source s ≡ a + (2 + i) = ap r.source (let z = u in let goal : s ≡ r.m a + (2 + i) = omega arith in goal)
+      ∙ go.source_in a (2 + i) h (omega arith) in
       Next a x (go.moved a h).0 (y, (i, l, e, ap w (let z = q in let goal : a + 2 + i ≡ r.source s = omega arith in goal) ∙ v))
   traced s x (Failed a i h l e u) v y =
       let k = op.inside a (inl (go.failed a h).0) in
@@ -181,11 +191,13 @@ module _ {area : Area} {w : ℕ → ℕ} {items wholes : List ℕ} {zone : ℕ �
   pub quiet : (s : ℕ) → Slot area w items r.m r.moves r.fails s → ((x : ℕ) → word s ≡ byte_at x → IsYoung area x → ⊥) → word s ≡ sent r.m (w (r.source s))
   quiet s k n = elim (cases_Bool (has s r.handled)) [
     | inl h ↦ slot-word s k ∙ cond-true _ _ _ h
-    | inr h ↦ (let e = slot-word s k ∙ cond-false _ _ _ h in e ∙ sym (sent-fixed r.m (w (r.source s)) (λ x q. go.others x (out x r.moves (λ i. n x (e ∙ q) (op.inside x (inl (go.moved x i).0)).0)))))
+    | inr h ↦ (let e = slot-word s k ∙ cond-false _ _ _ h in e ∙ sym
+        (sent-fixed r.m (w (r.source s)) (λ x q. go.others x (out x r.moves (λ i. n x (e ∙ q) (op.inside x (inl (go.moved x i).0)).0)))))
   ]
 
   -- and what it held has settled
-  pub quiet-settled : (s : ℕ) → Slot area w items r.m r.moves r.fails s → ((x : ℕ) → word s ≡ byte_at x → IsYoung area x → ⊥) → (x : ℕ) → w (r.source s) ≡ byte_at x → IsYoung area x → IsSettled w r.moves r.fails x
+  pub quiet-settled : (s : ℕ) → Slot area w items r.m r.moves r.fails s → ((x : ℕ) → word s ≡ byte_at x → IsYoung area x → ⊥) → (x : ℕ) →
+      w (r.source s) ≡ byte_at x → IsYoung area x → IsSettled w r.moves r.fails x
   quiet-settled s k n x q y = elim (cases_Bool (has s r.handled)) [
     | inl h ↦ go.settled s x h q y
     | inr h ↦ absurd (n x (slot-word s k ∙ cond-false _ _ _ h ∙ q) y)
@@ -194,7 +206,8 @@ module _ {area : Area} {w : ℕ → ℕ} {items wholes : List ℕ} {zone : ℕ �
   -- one whose object stays holds where its object is now
   pub staying : (s x : ℕ) → HasRead area w items r.m r.source r.moves r.fails s x → has x r.moves ≡ false → word s ≡ sent r.m (w (r.source s))
   staying s x h nm =
-      let e : sent r.m (w (r.source s)) ≡ w (r.source s) = sent-fixed r.m (w (r.source s)) (λ z q. go.others z (let p = h.held in subst (λ (z : ℕ). has z r.moves ≡ false) (let g : x ≡ z = omega arith in g) nm)) in
+      let e : sent r.m (w (r.source s)) ≡ w (r.source s) = sent-fixed r.m (w (r.source s))
+      (λ z q. go.others z (let p = h.held in subst (λ (z : ℕ). has z r.moves ≡ false) (let g : x ≡ z = omega arith in g) nm)) in
       elim (cases_Bool (has s r.handled)) [
         | inl i ↦ slot-word s h.slot ∙ cond-true _ _ _ i
         | inr i ↦ slot-word s h.slot ∙ cond-false _ _ _ i ∙ sym e
@@ -202,7 +215,9 @@ module _ {area : Area} {w : ℕ → ℕ} {items wholes : List ℕ} {zone : ℕ �
 
   -- a first word that isn't in the moves or the fails is the opening's
   pub word-of : (x : ℕ) → Traces area w items x → has x r.moves ≡ false → has x r.fails ≡ false → word x ≡ w x
-  word-of x t hm hf = go.words x hm hf (free-clear (r.owner x) (below-free x (op.inside x (inl t)).0.1)) ∙ cond-false _ _ _ (out x r.handled (λ h. (slot-apart x x (go.slots x (inr h)) (inl t)).0 refl)) ∙ ap w (free-source x (below-free x (op.inside x (inl t)).0.1))
+  word-of x t hm hf = go.words x hm hf (free-clear (r.owner x) (below-free x (op.inside x (inl t)).0.1))
+      ∙ cond-false _ _ _ (out x r.handled (λ h. (slot-apart x x (go.slots x (inr h)) (inl t)).0 refl))
+      ∙ ap w (free-source x (below-free x (op.inside x (inl t)).0.1))
 
   -- by the first word of a traced object
   pub tag-plain : (x c : ℕ) → Traces area w items x → word x ≡ plain_word c → IsWhole r x × (w x ≡ plain_word c)

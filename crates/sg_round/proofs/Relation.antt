@@ -12,8 +12,9 @@ use Rattle.sg_words.specs.declared.steps.BlockWord.{BlockWord}
 use Rattle.sg_words.specs.declared.steps.BlockWord.TheVariants.{Free, Swept}
 use Rattle.sg_round.specs.Area.{Area, IsYoung, IsFixed, HasCard, place, card_at, class_of}
 use Rattle.sg_round.specs.Items.{Item, SlotOf, WholeOf, cell_word, own_cell, slots_in, slots_of}
-use Rattle.sg_round.specs.Worker.{Object, Stage, Look, Size, Room, Take, Slots, Mark, Body, Puts, Swap, Pin, Send, Dirty, Mid, Idle, Took, Count, On, Offer, Seek, Grab, Over, Worker, size_for}
-use Rattle.sg_round.specs.Rules.{Effect, ended, moved, failed}
+use Rattle.sg_round.specs.Worker.{Object, Stage, Look, Size, Room, Take, Slots, Mark, Body, Puts, Swap, Pin, Send, Dirty, Mid, Idle, Took, Count, On, Offer}
+use Rattle.sg_round.specs.Worker.{Seek, Grab, Over, Worker, size_for}
+use Rattle.sg_round.specs.Rules.{Effect, MayOffer, ended, moved, failed}
 use Rattle.sg_round.specs.Round.{Start, InSlot, IsClear, Owner, Nobody, Claimed, Round, Slot, IsGoing, Owns, IsPassed, IsTaken}
 
 -- a slot of the round r
@@ -122,6 +123,7 @@ pub record IsSized (area : Area) (w : ℕ → ℕ) (items : List ℕ) (m source 
   pub seen : HasRead area w items m source moves fails s o.x
   pub plain : w o.x ≡ plain_word o.class
   pub length : w (o.x + 1) ≡ o.n
+  pub short : o.n ≤ 62
   pub none : spare (size_for o) ≡ 0
 
 abbrev pub Sized : Start → Round → (ℕ → ℕ) → ℕ → Object → Type 0
@@ -130,7 +132,8 @@ Sized t r spare s o = IsSized t.area t.words.word t.items r.m r.source r.moves r
 -- The words of its copy from `from` to before j are, as long as the target is whole, the opening's, and behind it zeros.
 abbrev pub IsWritten : Start → Words → Round → Object → ℕ → ℕ → ℕ → Type 0
 IsWritten t v r o at from j =
-    (IsWhole r o.x → (i : ℕ) → from ≤ i → i < j → i < o.n + 2 → v.word (at + i) ≡ t.words.word (o.x + i)) × ((i : ℕ) → o.n + 2 ≤ i → i < j → v.word (at + i) ≡ 0)
+    (IsWhole r o.x → (i : ℕ) → from ≤ i → i < j → i < o.n + 2 → v.word (at + i) ≡ t.words.word (o.x + i)) ×
+    ((i : ℕ) → o.n + 2 ≤ i → i < j → v.word (at + i) ≡ 0)
 
 -- the own cells of worker k before the i-th are empty
 abbrev pub AreEmpty : Words → ℕ → ℕ → Type 0
@@ -158,7 +161,8 @@ AtMid t v r k spare list hand (Took item) = IsKnownItem t r item × (hand ≡ []
 AtMid t v r k spare list hand (Count x class) = IsKnown t.wholes r x × (class ≡ class_of (t.words.word (r.source x))) × (hand ≡ [])
 AtMid t v r k spare list hand (On s stage) = AtStage t v r k spare s stage
 AtMid t v r k spare list hand (Offer i next) =
-    (i < 8) × (v.cell (own_cell k i) ≡ 0) × ((items : List Item) × (item : Item) × (list ≡ items ++ item ∷ [])) × AtMid t v r k spare list hand next
+    (i < 8) × (v.cell (own_cell k i) ≡ 0) × ((items : List Item) × (item : Item) × (list ≡ items ++ item ∷ [])) × AtMid t v r k spare list hand next ×
+    MayOffer next
 AtMid t v r k spare list hand (Seek i) = (list ≡ []) × (hand ≡ []) × (i < 8 * t.team) × AreEmpty v k i
 AtMid t v r k spare list hand (Grab i item) = (list ≡ []) × (hand ≡ []) × (i < 8 * t.team) × AreEmpty v k i × IsKnownItem t r item
 AtMid t v r k spare list hand Over = (list ≡ []) × (hand ≡ []) × AreEmpty v k 8
@@ -173,8 +177,10 @@ IsFilling at z mid = ⊥
 
 -- what is true of worker k
 pub record Stands (t : Start) (v : Words) (r : Round) (k : ℕ) (a : Worker) : Type 0 where
-  pub member : (k < t.team) ⊎ (a.mid ≡ Over)
+  -- it is one of the team, or has never had anything
+  pub member : (k < t.team) ⊎ ((a.mid ≡ Over) × ((z : ℕ) → a.spare z ≡ 0))
   pub spares : (z : ℕ) → a.spare z ≢ 0 → Owns r.owner k (a.spare z) z
+  pub classes : (z : ℕ) → a.spare z ≢ 0 → IsSizeClass z
   -- what it has claimed is in its hand or spare
   pub claims : (at z y : ℕ) → r.owner y ≡ Claimed k at z → ((a.spare z ≡ at) ⊎ IsFilling at z a.mid) × (at ≤ y) × (y < at + z) × (at ≢ 0)
   -- it has passed blocks that can't take its objects
@@ -193,11 +199,8 @@ pub record AreSingle (t : Start) (source cell : ℕ → ℕ) (workers : ℕ → 
   pub once : AreDistinct handled
 
 -- the sections that no worker changes
-pub record IsStill (w v : Words) : Type 0 where
-  pub stop : v.stop ≡ w.stop
-  pub head : v.head ≡ w.head
-  pub next : v.next ≡ w.next
-  pub marks : v.marks ≡ w.marks
+abbrev pub IsStill : Words → Words → Type 0
+IsStill w v = (v.stop ≡ w.stop) × (v.head ≡ w.head) × (v.next ≡ w.next) × (v.marks ≡ w.marks)
 
 pub record World (t : Start) (v : Words) (workers : ℕ → Worker) : Type 0 where
   pub round : Round

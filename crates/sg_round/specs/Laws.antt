@@ -1,5 +1,5 @@
 -- The laws of racing copiers.
-use Rattle.std.specs.Prelude.{◌≡◌, ◌≢◌, ℕ, ◌+◌, ◌<◌, ◌≤◌, ◌⊎◌, Bool, true, List, [], ◌∷◌, ◌++◌}
+use Rattle.std.specs.Prelude.{◌-◌, length, ◌≡◌, ◌≢◌, ℕ, ◌+◌, ◌<◌, ◌≤◌, ◌⊎◌, Bool, true, List, [], ◌∷◌, ◌++◌}
 use Rattle.std.specs.Int.{bit_at}
 use Rattle.sg_words.specs.Address.{byte_at}
 use Rattle.sg_words.specs.Lists.{In}
@@ -110,13 +110,13 @@ abbrev pub OneWorkerLaw : Type 0
 OneWorkerLaw = (t : Start) (v : Words) (workers : ℕ → Worker) → (so : IsSoFar t v workers) → t.team ≡ 1 →
     (workers 0).mid ≡ Over → IsDoneAlone t so.events v workers
 
--- Two rounds of one worker over the same slots of the same words find the same objects, move and fail the same ones, to the same
--- places, and leave the same block words and occupancies.
+-- A round of one worker over the same slots of the same words is one: two such find the same objects, move and fail the same ones, to
+-- the same places, and leave the same block words and occupancies.
 abbrev pub OneOrderLaw : Type 0
 OneOrderLaw = (area : Area) (w : ℕ → ℕ) (items : List ℕ) (m m' : ℕ → ℕ) (block : ℕ → BlockWord) (used : ℕ → ℕ) (moves moves' fails fails' : List ℕ)
     (block1 block2 : ℕ → BlockWord) (used1 used2 : ℕ → ℕ) →
-    IsInOrder area w items m block used moves fails block1 used1 → IsInOrder area w items m' block used moves' fails' block2 used2 →
-    (moves ≡ moves') × (fails ≡ fails') × ((a : ℕ) → In a moves → m a ≡ m' a) × ((b : ℕ) → block1 b ≡ block2 b) × ((b : ℕ) → used1 b ≡ used2 b)
+    (x : IsInOrder area w items m block used moves fails block1 used1) → (y : IsInOrder area w items m' block used moves' fails' block2 used2) →
+    (x.found ≡ y.found) × (moves ≡ moves') × (fails ≡ fails') × ((a : ℕ) → In a moves → m a ≡ m' a) × (block1 ≡ block2) × (used1 ≡ used2)
 
 -- In the midst of a round each worker is sane; whatever a call for a next step of it sees, a step comes next; and a worker that hasn't
 -- ended can take one.
@@ -129,6 +129,14 @@ pub record AreGoing (t : Start) (v : Words) (workers : ℕ → Worker) : Type 0 
 abbrev pub GoesAlways : Type 0
 GoesAlways = (t : Start) (v : Words) (workers : ℕ → Worker) → IsSoFar t v workers → AreGoing t v workers
 
+-- No more slots have ended than there are words, and no more objects have moved or failed than the nursery has words.
+pub record IsBounded (t : Start) (es : List WorkEvent) : Type 0 where
+  pub ended : length (ended_by [] es) ≤ t.area.end - t.area.low
+  pub settled : length (moved_by [] es) + length (failed_by [] es) ≤ t.area.high - t.area.low
+
+abbrev pub BoundedLaw : Type 0
+BoundedLaw = (t : Start) (v : Words) (workers : ℕ → Worker) → (so : IsSoFar t v workers) → IsBounded t so.events
+
 -- From one round to the next over the same opening: a claimed place whose words are zero again is given back ..
 abbrev pub Released : Type 0
 Released = (area : Area) (w : ℕ → ℕ) (items wholes : List ℕ) (zone : ℕ → Bool) → IsOpening area w items wholes zone →
@@ -139,6 +147,6 @@ Released = (area : Area) (w : ℕ → ℕ) (items wholes : List ℕ) (zone : ℕ
 
 -- .. and more slots come
 abbrev pub MoreItems : Type 0
-MoreItems = (area : Area) (w : ℕ → ℕ) (items new wholes : List ℕ) (zone : ℕ → Bool) → IsOpening area w (items ++ new) wholes zone →
-    (word : ℕ → ℕ) (todo : List ℕ) (r : Round) → IsGoing area w items zone word (λ s. In s todo) r →
+MoreItems = (area : Area) (w : ℕ → ℕ) (items new : List ℕ) (zone : ℕ → Bool) (word : ℕ → ℕ) (todo : List ℕ) (r : Round) →
+    IsGoing area w items zone word (λ s. In s todo) r →
     IsGoing area w (items ++ new) zone word (λ s. In s (todo ++ new)) r

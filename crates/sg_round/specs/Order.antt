@@ -47,7 +47,7 @@ pub record IsLowest (area : Area) (block : ℕ → BlockWord) (used : ℕ → �
 -- With these block words and occupancies, each of the found objects in turn moves to the lowest clear slot of the lowest block that
 -- can take it, and fails where there is none; these move and those fail, and the block words and occupancies are so at the end.
 abbrev pub Fits : Area → (ℕ → ℕ) → (ℕ → ℕ) → (ℕ → BlockWord) → (ℕ → ℕ) → List ℕ → List ℕ → List ℕ → (ℕ → BlockWord) → (ℕ → ℕ) → Type 0
-Fits area w m block used moves fails [] block' used' = (moves ≡ []) × (fails ≡ []) × ((c : ℕ) → block' c ≡ block c) × ((c : ℕ) → used' c ≡ used c)
+Fits area w m block used moves fails [] block' used' = (moves ≡ []) × (fails ≡ []) × (block' ≡ block) × (used' ≡ used)
 Fits area w m block used moves fails (x ∷ found) block' used' =
     ((b : ℕ) × (i : ℕ) × (rest : List ℕ) × IsLowest area block used (slot_size (size_of w x)) b i × (m x ≡ place area b (slot_size (size_of w x)) i) ×
     (moves ≡ x ∷ rest) × Fits area w m (put block b (Swept (slot_size (size_of w x)))) (put used b (bit_or (used b) (2 ^ i))) rest fails found block' used')

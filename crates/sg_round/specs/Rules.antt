@@ -13,7 +13,8 @@ use Rattle.sg_words.specs.declared.steps.Step.{Step}
 use Rattle.sg_words.specs.declared.steps.Step.TheVariants.{Load, Store, Won, Lost, OnBlock}
 use Rattle.sg_round.specs.Area.{Area, IsYoung, IsFixed, HasCard, place, card_at, class_of}
 use Rattle.sg_round.specs.Items.{Item, SlotOf, WholeOf, cell_word, own_cell, looked_cell, slots_by}
-use Rattle.sg_round.specs.Worker.{Object, Look, Size, Room, Take, Slots, Mark, Body, Puts, Swap, Pin, Send, Dirty, Mid, Idle, Took, Count, On, Offer, Seek, Grab, Over, Worker, size_for, idle, on, looking}
+use Rattle.sg_round.specs.Worker.{Object, Look, Size, Room, Take, Slots, Mark, Body, Puts, Swap, Pin, Send, Dirty, Mid, Idle, Took, Count, On, Offer, Seek}
+use Rattle.sg_round.specs.Worker.{Grab, Over, Worker, size_for, idle, on, looking}
 
 -- What a step is for the round: it ends the handling of the slot s; it moves the object x; x fails; x fails and with it the handling
 -- of s ends; or none of these.

@@ -4,7 +4,8 @@ use Rattle.sg_words.specs.Blocks.{IsSizeClass, slots}
 use Rattle.sg_words.specs.Lists.{In}
 use Rattle.sg_round.specs.Area.{Area, IsArea, IsYoung, HasCard}
 use Rattle.sg_round.specs.Items.{Item, SlotOf, WholeOf}
-use Rattle.sg_round.specs.Worker.{Object, Stage, Look, Size, Room, Take, Slots, Mark, Body, Puts, Swap, Pin, Send, Dirty, Mid, Idle, Took, Count, On, Offer, Seek, Grab, Over, Worker, size_for}
+use Rattle.sg_round.specs.Worker.{Object, Stage, Look, Size, Room, Take, Slots, Mark, Body, Puts, Swap, Pin, Send, Dirty, Mid, Idle, Took, Count, On, Offer}
+use Rattle.sg_round.specs.Worker.{Seek, Grab, Over, Worker, size_for}
 
 -- a word of some section
 abbrev pub IsWord : Area → ℕ → Type 0

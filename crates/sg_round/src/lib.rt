@@ -4,4 +4,7 @@
 
 mod laws;
 
-pub use laws::opens_so_far;
+pub use laws::{
+    bounded, goes_always, goes_so_far, more_items, one_order_of_copies, one_worker, opens_so_far,
+    racing_law, released,
+};

@@ -9,3 +9,4 @@ pub mod Fragments
 pub mod Sorted
 pub mod Programs
 pub mod Blocks
+pub mod Found
