@@ -114,7 +114,7 @@ module _ (c : Ended) where
   }
 
   -- in which order they are copied, and what the blocks are like in the end
-  abbrev IsCopiedBy : Book → List ℕ → (ℕ → BlockWord) → (ℕ → ℕ) → Type 0
+  abbrev pub IsCopiedBy : Book → List ℕ → (ℕ → BlockWord) → (ℕ → ℕ) → Type 0
   IsCopiedBy d names block' used' = AreCopied c.p c.g c.b (booked c) d names × AreBlocksBy c.p c.g (booked c) block' used'
 
   module _ (block' : ℕ → BlockWord) (used' : ℕ → ℕ) where
@@ -122,7 +122,7 @@ module _ (c : Ended) where
         Fits (area_for c.p) c.w c.m block used moves fails (map c.b.address names) block' used' → AreBlocksBy c.p c.g d block used → IsAgreed d names → AreDistinct names →
         ((a : ℕ) → In a moves → In a c.moves) → ((a : ℕ) → In a fails → In a c.stays) → ((n : ℕ) → In n names → (n ≢ 0) × (c.b.stands n ≡ true) × (c.b.section n ≡ Young)) →
         IsCopiedBy d names block' used'
-    copied-all d block used moves fails [] f by a once moved failed each = (tt, blocks_as c.p c.g d (booked c) block block' used used' by (is-old-as d a) f.2 f.3)
+    copied-all d block used moves fails [] f by a once moved failed each = (tt, blocks_as c.p c.g d (booked c) block block' used used' by (is-old-as d a) (λ j. ap (λ (h : ℕ → BlockWord). h j) f.2) (λ j. ap (λ (h : ℕ → ℕ). h j) f.3))
     copied-all d block used moves fails (n ∷ names) f by a once moved failed each =
         let x = c.b.address n in
         let o = each n (in-here n n names refl) in

@@ -1,19 +1,30 @@
 -- A space before its first object holds the graph without objects.
-use Rattle.std.proofs.Common.{◌≡◌, ℕ, zero, suc, ◌+◌, ◌<◌, ◌≤◌, ◌⊎◌, inl, inr, eqb, ltb, cond, map, true, false, refl, sym, ap, ◌∙◌, subst, arith, slice_index}
-use Rattle.std.proofs.lemmas.Bool.{cond-true, cond-false, cases_Bool, eqb-true, ltb-true, lt-ltb, le-ltb}
-use Rattle.std.proofs.lemmas.List.{get_or-replicate}
+use Rattle.std.proofs.Common.{◌≡◌, ℕ, zero, suc, ◌+◌, ◌<◌, ◌≤◌, ◌⊎◌, inl, inr, eqb, ltb, cond, map, true, false, refl, sym, ap, ◌∙◌, subst, arith, slice_index, replicate}
+use Rattle.std.proofs.lemmas.Bool.{cond-true, cond-false, cases_Bool, cases_lt, eqb-true, ltb-true, lt-ltb, le-ltb}
+use Rattle.std.proofs.lemmas.List.{get_or-replicate, get_or_past, length-replicate}
 use Rattle.sg_words.specs.Address.{byte_at}
+use Rattle.sg_words.specs.Blocks.{IsOf, IsOwing}
+use Rattle.sg_words.specs.declared.steps.BlockWord.{BlockWord}
+use Rattle.sg_words.specs.declared.steps.BlockWord.TheVariants.{Free, Swept, Need, Sweeping}
 use Rattle.sg_program.specs.declared.program.Class.{Class}
 use Rattle.sg_program.specs.declared.program.Program.{Program}
 use Rattle.sg_graph.specs.Graph.{no_objects}
 use Rattle.sg_graph.specs.Book.{empty_book, nursery_end}
 use Rattle.sg_words.specs.Sections.{nursery_base, globals_base, words_end}
-use Rattle.sg_space.specs.Space.{Contents, clear_space}
-use Rattle.sg_space.specs.Standing.{word}
+use Rattle.sg_graph.specs.Blocks.{AreSettled}
+use Rattle.sg_graph.specs.Invariants.{IsPlain}
+use Rattle.sg_space.specs.Space.{Contents, clear_space, words_of}
+use Rattle.sg_space.specs.Standing.{word, block_in}
 use Rattle.sg_graph.specs.Heap.{Owner, Of, Frag, Nobody, IsLaid, layout_of}
 use Rattle.sg_minor.specs.Holding.{HoldsHeap}
 use Rattle.sg_minor.specs.Parts.{HoldsSome}
 use Rattle.sg_minor.proofs.Names.{of-same}
+
+zeros : (n i : ℕ) → slice_index (replicate n 0) i ≡ 0
+zeros n i = elim (cases_lt i n) [
+  | inl l ↦ get_or-replicate n i 0 0 l
+  | inr past ↦ get_or_past (replicate n 0) i 0 (let size = length-replicate {A = ℕ} n 0 in omega arith)
+]
 
 module _ (p : Program) where
   abbrev empty_space : Contents
@@ -71,8 +82,6 @@ module _ (p : Program) where
       owns = λ n x stands from to. at_nothing x (omega arith) ∙ ap Of (sym (nothing_stands n stands));
       owned = λ n x e. let q = of_nothing n x e in let l = q.1 in (ap (λ z. eqb z 0) q.0, omega arith, omega arith);
       inside = λ n some stands. let e = nothing_stands n stands in absurd (omega arith);
-      filled = (omega arith, omega arith);
-      packed = λ x from to. absurd (omega arith);
     };
     fields = record {
       holds = λ n i stands l. absurd (omega arith);
@@ -84,7 +93,7 @@ module _ (p : Program) where
       known = λ x l. (refl, inl refl);
       empty = λ x from to. all_zero x to;
     };
-    clear = record { clear = λ x from to none. all_zero x (omega arith) };
+    clear = record { large = λ x from to. all_zero x (omega arith); clear = λ x from to none. all_zero x (omega arith) };
     fragments = record {
       owns = λ f x l from to. in_nursery x from to ∙ ap Frag (let e : 0 ≡ f = omega arith in e);
       inside = λ f l. (omega arith, omega arith, omega arith);
@@ -96,6 +105,37 @@ module _ (p : Program) where
     };
   }
 
+  free_there : (c : ℕ) → c < p.config.blocks → block_in empty_space c ≡ Free
+  free_there c l = get_or-replicate p.config.blocks c Free Free l
+
+  none_of : (c z : ℕ) → c < p.config.blocks → IsOf (block_in empty_space c) z → ⊥
+  none_of c z l h = subst (λ (w : BlockWord). IsOf w z) (free_there c l) h
+
+  none_owing : (c z : ℕ) → c < p.config.blocks → IsOwing (block_in empty_space c) z → ⊥
+  none_owing c z l h = subst (λ (w : BlockWord). IsOwing w z) (free_there c l) h
+
+  not_free : (c : ℕ) (w : BlockWord) → c < p.config.blocks → block_in empty_space c ≡ w → Free ≡ w
+  not_free c w l e = sym (free_there c l) ∙ e
+
+  empty_settled : AreSettled p (words_of empty_space) (no_objects p) (empty_book p) owner_in
+  empty_settled = record {
+    blocks = record {
+      placed = λ n some stands old. let e = nothing_stands n stands in absurd (omega arith);
+      each = λ c l. record {
+        filled = λ z i of fits taken. absurd (none_of c z l of);
+        bare = λ e. zeros p.config.blocks c;
+        owing = λ z owing. absurd (none_owing c z l owing);
+        kept = λ z i owing set. absurd (none_owing c z l owing);
+      };
+      clear = λ c l x from to none dirty. all_zero x (omega arith);
+      sized = λ c z l of. absurd (none_of c z l of);
+    };
+    settled = λ c z l e. let k = not_free c (Sweeping z) l e in cc;
+    inhabited = λ c z l e. absurd (let k = not_free c (Swept z) l e in cc);
+    owes = λ c l e. absurd (let k = e in cc);
+    cards = record { dirty = λ n i m some stands. let e = nothing_stands n stands in absurd (omega arith) };
+  }
+
   pub empty_holds : HoldsHeap p empty_space (no_objects p) (empty_book p)
   empty_holds = (
     record {
@@ -105,6 +145,14 @@ module _ (p : Program) where
       same = refl;
       next = first_next;
       limit = first_end;
+      fits = λ c z i l e set. absurd (let k = not_free c (Swept z) l e in cc);
+      unmarked = λ c. zeros p.config.blocks c;
+      unowed = λ c. refl;
+      pages = λ j. zeros p.config.pages j;
+      head = refl;
+      made = refl;
+      registered = refl;
+      pairs = refl;
     },
     (
       owner_in,
@@ -112,8 +160,17 @@ module _ (p : Program) where
         laid = empty_laid;
         headed = λ n some stands. let e = nothing_stands n stands in absurd (omega arith);
       },
+      empty_settled,
     ),
   )
 
+  plain : IsPlain p (no_objects p)
+  plain = record {
+    links = λ w. refl;
+    registered = refl;
+    ready = refl;
+    pairs = λ n some there. absurd (omega arith);
+  }
+
   pub empty_some : (s : Contents) → s ≡ empty_space → HoldsSome s
-  empty_some s e = subst HoldsSome (sym e) (p, no_objects p, empty_book p, empty_holds)
+  empty_some s e = subst HoldsSome (sym e) (p, no_objects p, empty_book p, empty_holds, plain)

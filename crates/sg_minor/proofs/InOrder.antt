@@ -1,5 +1,5 @@
 -- The objects that a round finds, by their names: each is the first new one to which the items and those before it lead.
-use Rattle.std.proofs.Common.{◌≡◌, ◌≢◌, ℕ, zero, suc, ◌+◌, ◌≤◌, ◌<◌, eqb, cond, Bool, true, false, List, [], ◌∷◌, ◌++◌, map, filter, sym, refl, ap, ◌∙◌, subst, inl, inr, arith, le_refl}
+use Rattle.std.proofs.Common.{◌≡◌, ◌≢◌, ℕ, zero, suc, ◌+◌, ◌^◌, ◌≤◌, ◌<◌, eqb, cond, Bool, true, false, List, [], ◌∷◌, ◌++◌, map, filter, sym, refl, ap, ◌∙◌, subst, inl, inr, arith, le_refl}
 use Rattle.std.specs.List.{flat_map}
 use Rattle.std.proofs.Math.Path.{fun_ext}
 use Rattle.std.proofs.lemmas.Bool.{cond-true, cond-false, cases_Bool, eq-eqb, le-leb, lt-ltb, false≢true}
@@ -10,6 +10,11 @@ use Rattle.sg_words.specs.Tags.{plain_word}
 use Rattle.sg_words.specs.Lists.{In, Pairwise}
 use Rattle.sg_words.specs.Found.{IsFoundBy, IsSearched}
 use Rattle.sg_words.specs.Found.IsFoundBy.{Begins, Finds}
+use Rattle.std.specs.Int.Bits.{bit_or}
+use Rattle.sg_words.specs.Blocks.{slot_size}
+use Rattle.sg_words.specs.Words.{put}
+use Rattle.sg_words.specs.declared.steps.BlockWord.{BlockWord}
+use Rattle.sg_words.specs.declared.steps.BlockWord.TheVariants.{Swept}
 use Rattle.sg_words.specs.Objects.{strong_slots, size_of}
 use Rattle.sg_words.specs.Sections.{nursery_base, globals_base}
 use Rattle.sg_words.proofs.Members.{has-cases, in-here, in-there, last-cases, in_map, map_in, filter-in, out}
@@ -23,14 +28,15 @@ use Rattle.sg_graph.specs.Epoch.{numbers_below}
 use Rattle.sg_graph.specs.Pause.{IsPinned}
 use Rattle.sg_graph.specs.Copies.{IsMovable, name_in, names_in, targets_of, items_of, leads_of}
 use Rattle.sg_graph.specs.Heap.{Owner, IsKnownEntry, IsOfSort, layout_of, IsHeap}
-use Rattle.sg_round.specs.Area.{Area, IsYoung, class_of}
-use Rattle.sg_round.specs.Order.{is_plain, target, targets, slots_of, leads, Fits}
-use Rattle.sg_minor.specs.Joined.{ArePins, global_slots, slots_of_name, slots_outside, is_young_word, holds_young}
+use Rattle.sg_round.specs.Area.{Area, IsYoung, class_of, place}
+use Rattle.sg_round.specs.Order.{is_plain, target, targets, strong_of, leads, IsLowest, Fits}
+use Rattle.sg_round.specs.Round.{IsPassed}
+use Rattle.sg_minor.specs.Joined.{ArePins, global_slots, is_young_word, holds_young}
 use Rattle.sg_nursery.specs.Parts.{HasTagged}
 use Rattle.sg_minor.proofs.Areas.{area_for}
 use Rattle.sg_minor.proofs.Names.{ref-of}
 use Rattle.sg_minor.proofs.Named.{field_refers, common, young-named, in-nursery, young-section, inner-field, outer, tag-of, strong, len, first}
-use Rattle.sg_minor.proofs.Added.{young-word}
+use Rattle.sg_minor.proofs.Added.{slots_of_name, slots_outside, young-word}
 
 -- a list that is mapped from what passes a test, split at one of its numbers
 pub record IsSplit (f : ℕ → ℕ) (q : ℕ → Bool) (xs passed : List ℕ) (x : ℕ) : Type 0 where
@@ -230,12 +236,12 @@ module _ (p : Program) (w : ℕ → ℕ) (g : Graph) (b : Book) (owner : ℕ →
       (hold-fields n (each n (in-here n n names refl)) 0 (g.size n) (omega arith)) (hold-all names (λ m i. each m (in-there m n names i)))
 
   -- the slots of objects that are found, by their names
-  pub slots-named : (names : List ℕ) → ((n : ℕ) → In n names → (n ≢ 0) × (b.stands n ≡ true)) → slots_of (area_for p) w1 (map b.address names) ≡ flat_map (slots_of_name p g b) names
+  pub slots-named : (names : List ℕ) → ((n : ℕ) → In n names → (n ≢ 0) × (b.stands n ≡ true)) → strong_of (area_for p) w1 (map b.address names) ≡ flat_map (slots_of_name p g b) names
   slots-named [] each = refl
   slots-named (n ∷ names) each =
       let o = each n (in-here n n names refl) in
-      ap (λ (f : ℕ → Bool). strong_slots f (b.address n) 0 (w1 (b.address n + 1)) ++ slots_of (area_for p) w1 (map b.address names)) (fun_ext (λ i. strong p w g b owner t ambiguous pins ps w1 tg n i o.1 o.0))
-      ∙ ap (λ (z : ℕ). strong_slots (field_refers p g n) (b.address n) 0 z ++ slots_of (area_for p) w1 (map b.address names)) (len p w g b owner t ambiguous pins ps w1 tg n o.1 o.0)
+      ap (λ (f : ℕ → Bool). strong_slots f (b.address n) 0 (w1 (b.address n + 1)) ++ strong_of (area_for p) w1 (map b.address names)) (fun_ext (λ i. strong p w g b owner t ambiguous pins ps w1 tg n i o.1 o.0))
+      ∙ ap (λ (z : ℕ). strong_slots (field_refers p g n) (b.address n) 0 z ++ strong_of (area_for p) w1 (map b.address names)) (len p w g b owner t ambiguous pins ps w1 tg n o.1 o.0)
       ∙ ap (λ (l : List ℕ). slots_of_name p g b n ++ l) (slots-named names (λ m i. each m (in-there m n names i)))
 
   same-object : (m n : ℕ) → b.stands m ≡ true → b.stands n ≡ true → b.address m ≡ b.address n → m ≡ n
@@ -361,13 +367,28 @@ names-of b sort (a ∷ xs) each =
       ],
     )
 
+-- what goes, for n slot words, and then the rest
+abbrev FirstFits : Area → (ℕ → ℕ) → (ℕ → ℕ) → (ℕ → BlockWord) → (ℕ → ℕ) → ℕ → List ℕ → List ℕ → List ℕ → (ℕ → BlockWord) → (ℕ → ℕ) → ℕ → Type 0
+FirstFits area w m block used x moves fails found block' used' z = (b : ℕ) × (i : ℕ) × (rest : List ℕ) × IsLowest area block used z b i × (m x ≡ place area b z i) ×
+    (moves ≡ x ∷ rest) × Fits area w m (put block b (Swept z)) (put used b (bit_or (used b) (2 ^ i))) rest fails found block' used'
+
 -- what fits, by words that give these objects the same sizes
-pub fits-same : (w v : ℕ → ℕ) (limit end at : ℕ) (moves fails found : List ℕ) → ((a : ℕ) → In a found → w (a + 1) ≡ v (a + 1)) → Fits w limit at moves fails found end → Fits v limit at moves fails found end
-fits-same w v limit end at moves fails [] same f = f
-fits-same w v limit end at moves fails (x ∷ found) same f =
-    let e = same x (in-here x x found refl) in
+pub fits-same : (area : Area) (w v m : ℕ → ℕ) (block block' : ℕ → BlockWord) (used used' : ℕ → ℕ) (moves fails found : List ℕ) → ((a : ℕ) → In a found → w (a + 1) ≡ v (a + 1)) →
+    Fits area w m block used moves fails found block' used' → Fits area v m block used moves fails found block' used'
+fits-same area w v m block block' used used' moves fails [] same f = f
+fits-same area w v m block block' used used' moves fails (x ∷ found) same f =
+    let size : slot_size (size_of w x) ≡ slot_size (size_of v x) = ap (λ (z : ℕ). slot_size (z + 2)) (same x (in-here x x found refl)) in
     let more = λ (a : ℕ) (i : In a found). same a (in-there a x found i) in
     elim f [
-      | inl q ↦ inl (q.0, q.1, (let l = q.2 in omega arith), subst (λ (z : ℕ). Fits v limit (at + z) q.0 fails found end) (ap (λ (z : ℕ). z + 2) e) (fits-same w v limit end (at + size_of w x) q.0 fails found more q.3))
-      | inr q ↦ inr (q.0, q.1, (let l = q.2 in omega arith), fits-same w v limit end at moves q.0 found more q.3)
+      | inl first ↦
+          let q = first in
+          inl (subst (FirstFits area v m block used x moves fails found block' used') size
+          (q.0, q.1, q.2, q.3, q.4, q.5,
+          fits-same area w v m (put block q.0 (Swept (slot_size (size_of w x)))) block' (put used q.0 (bit_or (used q.0) (2 ^ q.1))) used' q.2 fails found more q.6))
+      | inr q ↦ inr (
+        q.0,
+        λ c there. subst (λ (z : ℕ). IsPassed block used z c) size (q.1 c there),
+        q.2,
+        fits-same area w v m block block' used used' moves q.0 found more q.3,
+      )
     ]

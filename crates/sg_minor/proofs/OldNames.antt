@@ -23,7 +23,7 @@ use Rattle.sg_graph.specs.Copies.{StandsOld, AreByAddress}
 use Rattle.sg_graph.specs.Heap.{Owner, Of, Frag, Buf, Nobody, IsHeap, layout_of}
 use Rattle.sg_space.specs.Space.{Contents, IsContents, words_of}
 use Rattle.sg_space.specs.Standing.{word}
-use Rattle.sg_cards.specs.declared.seeds.Seed.{Seed}
+use Rattle.sg_cards.specs.declared.found.Seed.{Seed}
 use Rattle.sg_cards.specs.Seeds.{AreSeeds}
 use Rattle.sg_copy.specs.Copying.{area_of}
 use Rattle.sg_minor.specs.Holding.{IsSpaceOf}
@@ -109,31 +109,7 @@ module _ (address : ℕ → ℕ) (owner : ℕ → Owner) where
       (λ a i. let q = map_in address a (named_at address (owner x) x) i in let at = (at_name address (owner x) x q.0 q.1).1 in let same = q.2 in omega arith)
       (names_rise (suc x) k))
 
-module _ (p : Program) (s : Contents) (g : Graph) (b : Book) (is : IsSpaceOf p s b) (owner : ℕ → Owner) (heap : IsHeap p (word s) g b owner) (contents : IsContents s)
-    (settled : AreSettled p (words_of s) g b owner) where
-  abbrev pub old_names : List ℕ
-  old_names = names b.address owner (nursery_end p) (256 * p.config.blocks)
-
-  pub old_named : (n : ℕ) → In n old_names → StandsOld b n
-  old_named n i =
-      let q = in_names b.address owner (nursery_end p) (256 * p.config.blocks) n i in
-      let from = q.1 in
-      let stands = (owned p s g b is owner heap contents n (b.address n) q.0).0 in
-      let some : n ≢ 0 = λ z. (let nil = ap b.address z ∙ heap.laid.nothing.at_nil in absurd (omega arith)) in
-      (some, stands, old_there p s g b is owner heap contents n some stands from)
-
-  named_old : (n : ℕ) → StandsOld b n → In n old_names
-  named_old n o =
-      let place = old_inside p s g b is owner heap contents n o.0 o.1 o.2 in
-      let to = place.1 in
-      names_in b.address owner (nursery_end p) (256 * p.config.blocks) n (owns_first p s g b is owner heap contents n o.1) place.0 (omega arith)
-
-  pub old_by_address : AreByAddress b (StandsOld b) old_names
-  old_by_address = record {
-    in_order = rises-strict (nursery_end p) (map b.address old_names) (names_rise b.address owner (nursery_end p) (256 * p.config.blocks));
-    exact = λ n. (old_named n, named_old n);
-  }
-
+module _ (p : Program) (s : Contents) (g : Graph) (b : Book) (is : IsSpaceOf p s b) (owner : ℕ → Owner) (heap : IsHeap p (word s) g b owner) (contents : IsContents s) where
   -- an object that begins below another one ends there or below
   pub apart : (m n : ℕ) → b.stands m ≡ true → b.stands n ≡ true → b.address m < b.address n → b.address m + (g.size m + 2) ≤ b.address n
   apart m n standing stands below = elim (cases_lt (b.address n) (b.address m + (g.size m + 2))) [
@@ -149,6 +125,31 @@ module _ (p : Program) (s : Contents) (g : Graph) (b : Book) (is : IsSpaceOf p s
   same_object m n standing stands e = one_owner p s g b is owner heap contents m n (b.address n)
       (subst (λ z. owner z ≡ Of m) e (owns_first p s g b is owner heap contents m standing)) (owns_first p s g b is owner heap contents n stands)
 
+module _ (p : Program) (s : Contents) (g : Graph) (b : Book) (is : IsSpaceOf p s b) (owner : ℕ → Owner) (heap : IsHeap p (word s) g b owner) (contents : IsContents s)
+    (settled : AreSettled p (words_of s) g b owner) where
+  abbrev pub old_names : List ℕ
+  old_names = names b.address owner (nursery_end p) (256 * p.config.blocks)
+
+  pub old_named : (n : ℕ) → In n old_names → StandsOld b n
+  old_named n i =
+      let q = in_names b.address owner (nursery_end p) (256 * p.config.blocks) n i in
+      let from = q.1 in
+      let stands = (owned p s g b is owner heap contents n (b.address n) q.0).0 in
+      let some : n ≢ 0 = λ z. (let nil = ap b.address z ∙ heap.laid.nothing.at_nil in absurd (omega arith)) in
+      (some, stands, old_there p s g b is owner heap contents n some stands from)
+
+  pub named_old : (n : ℕ) → StandsOld b n → In n old_names
+  named_old n o =
+      let place = old_inside p s g b is owner heap contents n o.0 o.1 o.2 in
+      let to = place.1 in
+      names_in b.address owner (nursery_end p) (256 * p.config.blocks) n (owns_first p s g b is owner heap contents n o.1) place.0 (omega arith)
+
+  pub old_by_address : AreByAddress b (StandsOld b) old_names
+  old_by_address = record {
+    in_order = rises-strict (nursery_end p) (map b.address old_names) (names_rise b.address owner (nursery_end p) (256 * p.config.blocks));
+    exact = λ n. (old_named n, named_old n);
+  }
+
   -- the strong fields of a list of standing objects by address rise
   pub fields_rise : (lo at : ℕ) (ns : List ℕ) → Rises lo (map b.address ns) → ((n : ℕ) → In n ns → b.stands n ≡ true) → ((n : ℕ) → In n ns → at ≤ b.address n) →
       Rises at (flat_map (slots_of_name p g b) ns)
@@ -158,7 +159,7 @@ module _ (p : Program) (s : Contents) (g : Graph) (b : Book) (is : IsSpaceOf p s
       (rises-slots (λ j. is_strong_by (kind_of p (g.class n)) j (g.size n)) (b.address n) 0 (g.size n)))
       (λ n i a h. let q = slots-are (λ j. is_strong_by (kind_of p (g.class n)) j (g.size n)) (b.address n) 0 (g.size n) a h in let l = q.1 in let e = q.3 in omega arith)
       (λ n i. omega arith)
-      (λ m n i j less. apart m n (each m i) (each n j) less)
+      (λ m n i j less. apart p s g b is owner heap contents m n (each m i) (each n j) less)
       at from
 
   module _ (found : List Seed) (seeds : AreSeeds s (owner_of p s g b is owner heap contents) found) where
@@ -220,7 +221,7 @@ module _ (p : Program) (s : Contents) (g : Graph) (b : Book) (is : IsSpaceOf p s
         subst (λ (z : ℕ). In z found_slots) (ap word_at k.3 ∙ word_at-byte_at a)
         (slot_in found k.1 (k.0, slice_get_within found k.0 k.1 k.2, get_or_from_slice_get found k.0 k.1 k.1 k.2))
 
-    found_rise : Rises 0 found_slots
+    pub found_rise : Rises 0 found_slots
     found_rise = strict-rises 0 found_slots
         (subst (λ (l : List ℕ). IsStrictlyIncreasing l) slot_bytes (words_in_order (map (λ (seed : Seed). seed.slot) found) seeds.in_order (λ a h. whole a (in_contains a (map (λ (seed : Seed). seed.slot) found) h))))
         (λ a i. omega arith)

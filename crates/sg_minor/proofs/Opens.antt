@@ -18,7 +18,7 @@ use Rattle.sg_nursery.specs.Parts.{HasTagged}
 use Rattle.sg_minor.proofs.Areas.{area_for}
 use Rattle.sg_minor.proofs.Named.{field_refers, byte-same, common, first, young-named, in-nursery, in-old, nursery, field-name, outer, inner-field, tag-of, strong, field-of, size-at}
 use Rattle.sg_minor.proofs.Zoned.{IsZone}
-use Rattle.sg_minor.proofs.Slots.{IsStart, AtGlobal, AtField, AreStarts}
+use Rattle.sg_minor.proofs.Starts.{IsStart, AtGlobal, AtField, AreStarts}
 
 module _ (p : Program) (w : ℕ → ℕ) (g : Graph) (b : Book) (owner : ℕ → Owner) (t : IsHeap p w g b owner) (ambiguous pins : List ℕ) (ps : ArePins g b ambiguous pins)
     (w1 : ℕ → ℕ) (tg : HasTagged w pins w1) (items : List ℕ) (sd : AreStarts p w g b pins items) where
@@ -109,7 +109,7 @@ module _ (p : Program) (w : ℕ → ℕ) (g : Graph) (b : Book) (owner : ℕ →
   ]
 
   -- a slot of the beginning is a field of an object, or lies behind the blocks
-  start-owned : (s : ℕ) → IsStart p g b pins s → ((n : ℕ) × (owner s ≡ Of n)) ⊎ (old_end p ≤ s)
+  pub start-owned : (s : ℕ) → IsStart p g b pins s → ((n : ℕ) × (owner s ≡ Of n)) ⊎ (old_end p ≤ s)
   start-owned s (AtGlobal x l e) = inr (let z = e in omega arith)
   start-owned s (AtField n i d st o l e q) = inl (n, t.laid.objects.owns n s st (let z = q in omega arith) (let z = q in omega arith))
 

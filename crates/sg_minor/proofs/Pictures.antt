@@ -16,7 +16,7 @@ use Rattle.sg_minor.specs.Joined.{ArePins, IsHome, IsUncopied, IsPictured, IsPic
 use Rattle.sg_nursery.specs.Parts.{HasTagged}
 use Rattle.sg_minor.proofs.Areas.{area_for}
 use Rattle.sg_minor.proofs.Named.{field_refers, length, strong-of, pin-named, in-nursery, in-old, nursery, inner, outer, inner-field, strong, size-at}
-use Rattle.sg_minor.proofs.Slots.{IsStart, AtGlobal, AtField, AreStarts}
+use Rattle.sg_minor.proofs.Starts.{IsStart, AtGlobal, AtField, AreStarts}
 use Rattle.sg_minor.proofs.Opens.{named, traced-young}
 use Rattle.sg_minor.proofs.Keeps.{pin-tag, pin-stays, fail-loose}
 use Rattle.sg_minor.proofs.Quiet.{quiet-behind, start-sent, same-word, length-word, first-word, field-word}

@@ -15,7 +15,7 @@ use Rattle.sg_minor.specs.Joined.{ArePins, IsUncopied}
 use Rattle.sg_nursery.specs.Parts.{HasTagged}
 use Rattle.sg_minor.proofs.Areas.{area_for}
 use Rattle.sg_minor.proofs.Named.{field_refers, common, inner-field, size-at}
-use Rattle.sg_minor.proofs.Slots.{IsStart, AtGlobal, AtField, AreStarts}
+use Rattle.sg_minor.proofs.Starts.{IsStart, AtGlobal, AtField, AreStarts}
 use Rattle.sg_minor.proofs.Opens.{start-word, named, traced-young}
 
 module _ (p : Program) (w : ℕ → ℕ) (g : Graph) (b : Book) (owner : ℕ → Owner) (t : IsHeap p w g b owner) (ambiguous pins : List ℕ) (ps : ArePins g b ambiguous pins)

@@ -215,7 +215,7 @@ module _ (p : Program) (s : Contents) (g : Graph) (b : Book) (is : IsSpaceOf p s
         let blocks = blocks_is in
         let nursery = nursery_is in
         let block = settled.blocks.each c (omega arith) in
-        let fits = taken_fits (block_in s c) c z i (is.fits c z i) block.owing of e in
+        let fits = taken_fits (block_in s c) c z i (is.fits c z i (omega arith)) block.owing of e in
         let n = block.filled z i of fits e in
         let some = n.1.some in
         let at = n.1.at in

@@ -105,7 +105,7 @@ module _ (p : Program) (s : Contents) (g : Graph) (b : Book) (is : IsSpaceOf p s
           bit = sym (bit_of q.0 (slot_words (g.size n)) q.2.slot state) ∙ q.2.taken;
         };
     filled = λ c z i there state set.
-        let fits = is.fits c z i state set in
+        let fits = is.fits c z i there state set in
         let n = (settled.blocks.each c there).filled z i (subst (λ (w : BlockWord). IsOf w z) (sym state) refl) fits (bit_of c z i state ∙ set) in
         (n.0, record { some = n.1.some; stands = n.1.standing; old = n.1.old; sized = n.1.sized; there = there; fits = fits; at = n.1.at });
     states = λ c there. states_of (block_in s c) (λ y. not_need c y there) (λ y. not_sweeping c y there) (λ z of. settled.blocks.sized c z there of);
@@ -121,14 +121,19 @@ module _ (p : Program) (s : Contents) (g : Graph) (b : Book) (is : IsSpaceOf p s
     ];
   }
 
+  -- a word of the blocks that is no object's is zero
+  pub clear_heap : (y : ℕ) → nursery_end p ≤ y → y < old_end p → ((n : ℕ) → owner y ≢ Of n) → word s y ≡ 0
+  clear_heap y from to none =
+      let c = block_of p s g b is owner heap contents settled y from to in
+      settled.blocks.clear c.0 c.1 y c.2 c.3 none (no_dirty p s g b is owner heap contents settled c.0 y c.1)
+
   pub zone_zero : IsZone p (word s) owner (zone_in p owner)
   zone_zero = record {
     above = λ y e. (zone_is p owner y e).0;
     below = λ y e. (zone_is p owner y e).1;
     zero = λ y e.
         let q = zone_is p owner y e in
-        let c = block_of p s g b is owner heap contents settled y q.0 q.1 in
-        settled.blocks.clear c.0 c.1 y c.2 c.3 (λ n. free-not (owner y) n q.2) (no_dirty p s g b is owner heap contents settled c.0 y c.1);
+        clear_heap y q.0 q.1 (λ n. free-not (owner y) n q.2);
     free = λ y n e. free-not (owner y) n (zone_is p owner y e).2;
   }
 

@@ -22,7 +22,7 @@ pub record IsSpaceOf (p : Program) (s : Contents) (b : Book) : Type 0 where
   pub same : length s.next ≡ length s.ends
   pub next : (f : ℕ) → f < b.fragments → slice_index s.next f ≡ byte_at (b.next f)
   pub limit : (f : ℕ) → f < b.fragments → slice_index s.ends f ≡ byte_at (b.limit f)
-  pub fits : (c z i : ℕ) → block_in s c ≡ Swept z → bit_at (used_in s c) i ≡ 1 → i < slots z
+  pub fits : (c z i : ℕ) → c < p.config.blocks → block_in s c ≡ Swept z → bit_at (used_in s c) i ≡ 1 → i < slots z
   pub unmarked : (c : ℕ) → marks_in s c ≡ 0
   pub unowed : (c : ℕ) → b.owed c ≡ false
   pub pages : (j : ℕ) → slice_index s.pages j ≡ 0

@@ -22,7 +22,7 @@ use Rattle.sg_graph.specs.Heap.{layout_of}
 use Rattle.sg_space.specs.Space.{Contents, IsContents}
 use Rattle.sg_space.specs.Standing.{word, block_in, used_in, IsSoundBy}
 use Rattle.sg_space.specs.Changes.{IsStill}
-use Rattle.sg_cards.specs.declared.seeds.Seed.{Seed}
+use Rattle.sg_cards.specs.declared.found.Seed.{Seed}
 use Rattle.sg_cards.specs.Seeds.{AreSeeds}
 use Rattle.sg_round.specs.Area.{Area, IsYoung, is_strong, Points}
 use Rattle.sg_round.specs.Order.{Fits}

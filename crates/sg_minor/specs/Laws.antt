@@ -7,7 +7,7 @@ use Rattle.sg_graph.specs.Book.{Book}
 use Rattle.sg_space.specs.Space.{Contents, IsContents}
 use Rattle.sg_space.specs.Standing.{word, IsSoundBy, RefersSoundly, AreRows}
 use Rattle.sg_space.specs.Changes.{IsStill}
-use Rattle.sg_cards.specs.declared.seeds.Seed.{Seed}
+use Rattle.sg_cards.specs.declared.found.Seed.{Seed}
 use Rattle.sg_cards.specs.Seeds.{AreCarded}
 use Rattle.sg_pins.specs.Pins.{ArePinned}
 use Rattle.sg_nursery.specs.Parts.{HasTagged, ArePlain}

@@ -12,7 +12,7 @@ use Rattle.sg_space.specs.declared.objects.Object.{Object}
 use Rattle.sg_space.specs.Space.{Contents}
 use Rattle.sg_space.specs.Standing.{word, IsSoundBy, TellsYoung}
 use Rattle.sg_space.specs.Changes.{IsStill}
-use Rattle.sg_cards.specs.declared.seeds.Seed.{Seed}
+use Rattle.sg_cards.specs.declared.found.Seed.{Seed}
 use Rattle.sg_copy.specs.Copying.{area_of, HasCopiedTo}
 use Rattle.sg_nursery.specs.Parts.{HasTagged, AreKept, AreCleaned}
 use Rattle.sg_nursery.specs.Pieces.{ArePieces}

@@ -1,5 +1,7 @@
 ghost use Rattle.sg_minor.specs.Law.{PauseLaw};
+ghost use Rattle.sg_minor.specs.Laws.{HeapLaw};
 
+use crate::join::join_law;
 use sg_graph::quiet_pause;
 
 /// The law of a minor pause: the words after it hold the graph by a new book, of which the report tells. It does nothing;
@@ -8,4 +10,12 @@ pub fn pause_law()
     ensures { PauseLaw }
 {
     quiet_pause();
+}
+
+/// What a caller may do with a space that holds a graph by a book: it is sound, and the first parts of a pause may be made one by
+/// one. It does nothing; its contract is the law.
+pub fn heap_law()
+    ensures { HeapLaw }
+{
+    join_law();
 }

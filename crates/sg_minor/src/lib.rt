@@ -4,10 +4,10 @@
 mod join;
 mod law;
 mod pause;
-mod seeds;
+mod slots;
 
 pub use join::join_law;
-pub use law::pause_law;
+pub use law::{heap_law, pause_law};
 pub use pause::minor;
 pub use sg_nursery::build;
 

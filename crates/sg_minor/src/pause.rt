@@ -4,16 +4,18 @@ ghost use Rattle.sg_graph.specs.Graph.{Graph};
 ghost use Rattle.sg_graph.specs.Book.{Book};
 ghost use Rattle.sg_graph.specs.Invariants.{IsPlain};
 ghost use Rattle.sg_space.specs.Space.{IsContents};
-ghost use Rattle.sg_minor.specs.Holding.{HoldsHeap};
-ghost use Rattle.sg_minor.specs.Law.{HasPaused};
 ghost use Rattle.sg_space.specs.Standing.{word};
-ghost use Rattle.sg_minor.specs.Parts.{HoldsSome, HasTraced, HasFinished};
 ghost use Rattle.sg_nursery.specs.Parts.{AreRounded, AreStaying};
+ghost use Rattle.sg_minor.specs.Holding.{HoldsHeap};
+ghost use Rattle.sg_minor.specs.Joined.{AreFound};
+ghost use Rattle.sg_minor.specs.Law.{HasPaused};
+ghost use Rattle.sg_minor.specs.Parts.{HoldsSome, HasTraced, HasFinished};
 
 use crate::join::join_law;
 use crate::law::pause_law;
-use crate::seeds::seeds;
-use sg_copy::copy_from;
+use crate::slots::first_slots;
+use sg_cards::{Seed, Seeds, clean};
+use sg_copy::copy_one;
 use sg_graph::MinorReport;
 use sg_nursery::build;
 use sg_nursery::sweep::sweep;
@@ -24,18 +26,22 @@ use sg_words::{Addr, List};
 use std::alloc::{AllocError, Global};
 
 /// A minor pause with these ambiguous words. Of the young objects it keeps those that a word points into, those to which
-/// a global or an old object refers, and all to which these lead. What a word points into stays; all others move to the
-/// major heap, unless that has no room for them. The nursery is zero but for what stays, and its gaps of 32 words or more
-/// are the fragments from now on.
+/// a global or an old object refers, and all to which these lead. What a word points into stays; each other one moves to the
+/// lowest free slot of its size class, or fails and stays where no block has one. The nursery is zero but for what stays, and its gaps of
+/// 32 words or more are the fragments from now on. Cards that aren't needed any more become clean.
 ///
-/// Takes time linear in the words of the nursery that aren't the rest of a fragment, the fragments, the objects of the major heap
-/// with their strong fields and the words of what is kept, and the time of a sort of the ambiguous words. Where memory runs out the space is lost.
+/// `found` is what `seeds` gives for this space.
+///
+/// Takes time linear in the words of the nursery that aren't the rest of a fragment, the fragments, the seeds, the words of what is kept, the
+/// blocks and the dirty cards, and the time of a sort of the ambiguous words. Where memory runs out the space is lost.
 pub fn minor(
     alloc: Global,
     space: Space,
     ambiguous: &[u64],
+    found: Seeds,
 ) -> Result<(Space, MinorReport), AllocError>
-    requires { HoldsSome space }
+    requires some { HoldsSome space }
+    requires found { AreFound space found }
     ensures paused { IfOk result (λ r. (p : Program) (g : Graph) (b : Book) → HoldsHeap p space g b → IsPlain p g → HasPaused p g b ambiguous.now r.0 r.1) }
     ensures contents { IfOk result (λ r. IsContents r.0) }
     ensures stop { IfOk result (λ r. r.0.stop ≡ space.stop) }
@@ -45,8 +51,12 @@ pub fn minor(
     // The two laws: these calls do nothing.
     pause_law();
     join_law();
-    let traced = trace(alloc, space, ambiguous)?;
-    finish(alloc, traced)
+    let traced = trace(alloc, space, ambiguous, found.all())?;
+    let (space, report) = finish(alloc, traced)?;
+    let mut space = space;
+    clean(&mut space);
+    let _layout = space.layout();
+    Ok((space, report))
 }
 
 /// A pause between its round of copying and its sweep.
@@ -61,9 +71,15 @@ struct Traced {
 }
 
 // Finds what the pause begins from, and copies what it leads to.
-fn trace(alloc: Global, space: Space, ambiguous: &[u64]) -> Result<Traced, AllocError>
-    requires { HoldsSome space }
-    ensures traced { IfOk result (λ traced. (p : Program) (g : Graph) (b : Book) → HoldsHeap p space g b → HasTraced p g b space ambiguous.now traced.told traced.pins traced.space) }
+fn trace(
+    alloc: Global,
+    space: Space,
+    ambiguous: &[u64],
+    seeds: &[Seed],
+) -> Result<Traced, AllocError>
+    requires some { HoldsSome space }
+    requires found { AreFound space seeds.now }
+    ensures traced { IfOk result (λ traced. HasTraced space ambiguous.now seeds.now traced.told traced.pins traced.space) }
     ensures before { IfOk result (λ _. IsContents space) }
 {
     // The law: this call does nothing.
@@ -71,10 +87,10 @@ fn trace(alloc: Global, space: Space, ambiguous: &[u64]) -> Result<Traced, Alloc
     let layout = space.layout();
     let told = space.walk_nursery(alloc)?;
     let pins = pinned_among(alloc, ambiguous, told.as_slice())?;
-    let seeds = seeds(alloc, &space, layout)?;
+    let slots = first_slots(alloc, &space, layout, seeds)?;
     let mut space = space;
     tag(&mut space, pins.as_slice());
-    let round = copy_from(alloc, space, seeds.front, &seeds.slots, pins.as_slice())?;
+    let round = copy_one(alloc, space, &slots, pins.as_slice())?;
     Ok(Traced {
         space: round.space,
         told,
