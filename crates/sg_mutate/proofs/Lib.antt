@@ -8,7 +8,6 @@ mod Listed
 mod Numbered
 mod Calls
 mod Guided
-mod Calm
 mod Midst
 mod Classed
 mod Next

@@ -27,8 +27,6 @@ use Rattle.sg_actor.specs.Turning.{IsResting, IsBehindTurn, EndsNow, TakesTurn}
 use Rattle.sg_rules.specs.Acting.{HasTurned}
 use Rattle.sg_mutate.specs.Boards.{IsAt, IsBoarded, HasTaken, HasEnded, TurnsAreTaken, EndsAreTaken}
 use Rattle.sg_mutate.proofs.Midst.{IsPlacedAt}
-use Rattle.sg_mutate.specs.Epochs.{KeepsBlocks}
-use Rattle.sg_mutate.proofs.Calm.{turn_keeps, none_keeps}
 
 -- a turn moves nobody else on the board
 takes_others : (p : Program) (x : Board) (k : ℕ) (said : List Said) (y : Board) → TakesBoardTurn p x k said y → (j : ℕ) → j ≢ k → y.position j ≡ x.position j
@@ -122,7 +120,6 @@ pub record Next (p : Program) (lay : Constants) (g : Graph) (b : Book) (order : 
   pub placed : IsPlacedAt p n.stage (board.position k)
   pub same : IsSameMutator m n
   pub keeps : KeepsSections s t
-  pub blocks : KeepsBlocks s t
 
 module _ (turns : TurnsAreTaken) (ends : EndsAreTaken) (p : Program) (lay : Constants) (g : Graph) (b : Book) (order : List Said) (x : Board)
     (s : Contents) (actors : ℕ → Actor)
@@ -142,7 +139,6 @@ module _ (turns : TurnsAreTaken) (ends : EndsAreTaken) (p : Program) (lay : Cons
     placed = subst (λ (stage : Stage). IsPlacedAt p stage (put x.position k (HasLeft HasNone) k)) (sym e.ended) (put-same x.position k (HasLeft HasNone));
     same = e.same;
     keeps = e.led.keeps;
-    blocks = none_keeps s t e.led;
   }
     where
       idle : (actors k).mid ≡ Idle
@@ -168,7 +164,6 @@ module _ (turns : TurnsAreTaken) (ends : EndsAreTaken) (p : Program) (lay : Cons
         (λ e. taken.stays (ap (λ (a : Actor). a.mid) (put-same actors k (actor_of n)) ∙ e));
     same = behind.same;
     keeps = h.led.keeps;
-    blocks = turn_keeps p lay s t (actors k) h.steps (actor_of n) h.led turn;
   }
     where
       turn : IsTurn p lay (actors k) h.steps (actor_of n)

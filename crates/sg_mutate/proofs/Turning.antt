@@ -19,7 +19,6 @@ use Rattle.sg_actor.specs.Turning.{TakesTurn}
 use Rattle.sg_mutate.specs.Boards.{TurnsAreTaken, EndsAreTaken}
 use Rattle.sg_mutate.specs.Epochs.{constants_of, AreMutatorsOf, IsOpened}
 use Rattle.sg_mutate.proofs.Listed.{those_distinct, marked, marked_fits, marked_same, marked_other, none_above, gives_as}
-use Rattle.sg_mutate.proofs.Calm.{keeps_then}
 use Rattle.sg_mutate.proofs.Midst.{IsPlacedAt, TakesPart, Midst, one_some, some_at, is_running}
 use Rattle.sg_mutate.proofs.Next.{Next, next, placed_stays, placed_gone}
 
@@ -145,7 +144,6 @@ module _ (p : Program) (g : Graph) (b : Book) (s0 : Contents) (m0 : List Mutatin
           boarded = x.boarded;
           plays = plays;
           keeps = keeps;
-          blocks = keeps_then s0 s t mid.blocks x.blocks;
           are = are;
           parts = parts;
           stayed = λ j y z e f gone. elim (set_at ms k j n z below f) [

@@ -10,7 +10,6 @@ use Rattle.sg_graph.specs.Book.{Book}
 use Rattle.sg_graph.specs.Epoch.{Said, running, AllEnded}
 use Rattle.sg_graph.specs.Turns.{Board, HasLeft, opening, Plays}
 use Rattle.sg_space.specs.Space.{Contents, words_of, IsContents}
-use Rattle.sg_space.specs.Standing.{block_in, used_in}
 use Rattle.sg_frag.specs.Plain.{KeepsSections}
 use Rattle.sg_rules.specs.Rules.{Constants, Actor, fresh, sections_of}
 use Rattle.sg_order.specs.Rest.{IsEpochOpening}
@@ -76,12 +75,6 @@ pub record HasLeftAs (p : Program) (x : Board) (k : ℕ) (m n : Mutating) (a : A
   pub position : x.position k ≡ HasLeft leave
   pub fits : (n.stage ≡ Ended) ⊎ IsResting p n.stage
 
--- what no turn of a mutator changes beside: the blocks' words and occupancies, and how many entries of the ready row were taken
-pub record KeepsBlocks (s t : Contents) : Type 0 where
-  pub block : (c : ℕ) → block_in t c ≡ block_in s c
-  pub used : (c : ℕ) → used_in t c ≡ used_in s c
-  pub head : t.head ≡ s.head
-
 -- The epoch that opened with g and b over the space s, with these mutators, is over: by the turns that the schedule gave, it led to this
 -- space and these mutators, each of which has left, and to another schedule.
 pub record IsOver (p : Program) (g : Graph) (b : Book) (s : Contents) (mutators : List Mutating) (schedule : Schedule) (t : Contents)
@@ -92,7 +85,6 @@ pub record IsOver (p : Program) (g : Graph) (b : Book) (s : Contents) (mutators 
   pub boarded : IsBoarded p (constants_of s) g b order board (words_of t) actors
   pub plays : Plays p (running p g) (begun schedule) (opening g b) order next board
   pub keeps : KeepsSections s t
-  pub blocks : KeepsBlocks s t
   pub are : AreMutatorsOf p after
   pub left : (k : ℕ) (m n : Mutating) → slice_get mutators k ≡ Some m → slice_get after k ≡ Some n → (g.mutator k).ended ≡ false →
       HasLeftAs p board k m n (actors k)
