@@ -52,6 +52,7 @@ is_over p g b s ms schedule opened t after next ended mid all = record {
   plays = subst (λ ss. Plays p (running p g) (begun schedule) (opening g b) ss next mid.board) (append-nil mid.order)
       (mid.plays [] next mid.board (Over next mid.board (λ k c. let i = contains_at (running p g) k c in gone i.0 k i.1)));
   keeps = mid.keeps;
+  leaves = mid.leaves;
   are = mid.are;
   left = λ k m n e f going.
       let i = runs p g b s ms opened k (slice_get_within ms k m e) going in

@@ -15,3 +15,4 @@ mod Turning
 mod Owing
 mod Ending
 mod Rounds
+mod Leaving

@@ -20,7 +20,7 @@ use Rattle.sg_actor.specs.declared.mutator.Stage.{Stage}
 use Rattle.sg_actor.specs.declared.mutator.Stage.TheVariants.{Between, Within, Claiming, Ended, Asking, Yielded}
 use Rattle.sg_actor.specs.State.{Mutating, actor_of, IsSameMutator}
 use Rattle.sg_mutate.specs.Boards.{IsBoarded, OpensBoarded}
-use Rattle.sg_mutate.specs.Epochs.{constants_of, parted, found_at, found_in, actors_in, AreMutatorsOf, IsReadyStage, IsOpened}
+use Rattle.sg_mutate.specs.Epochs.{constants_of, parted, found_at, found_in, actors_in, AreMutatorsOf, IsReadyStage, IsOpened, LeavesBlocks}
 use Rattle.sg_mutate.specs.Going.{goes_on, is_going, going_below}
 use Rattle.sg_mutate.proofs.Listed.{those_agree, those_have, those_below, no_bit}
 use Rattle.sg_mutate.proofs.Calls.{IsSpaceBy}
@@ -51,6 +51,7 @@ pub record Midst (p : Program) (g : Graph) (b : Book) (s0 : Contents) (m0 : List
   pub plays : (more : List Said) (u : Schedule) (z : Board) → Plays p (running p g) schedule board more u z →
       Plays p (running p g) (begun schedule0) (opening g b) (order ++ more) u z
   pub keeps : KeepsSections s0 s
+  pub leaves : LeavesBlocks s0 s
   pub are : AreMutatorsOf p ms
   pub parts : (k : ℕ) (m n : Mutating) → slice_get m0 k ≡ Some m → slice_get ms k ≡ Some n → (g.mutator k).ended ≡ false →
       TakesPart p (board.position k) m n (actors k)
@@ -148,6 +149,7 @@ module _ (p : Program) (g : Graph) (b : Book) (s : Contents) (ms : List Mutating
       registered = refl;
       pairs = refl;
     };
+    leaves = record { block = refl; used = refl; head = refl };
     are = opened.are;
     parts = λ k m n e f going.
         let same = one_some (slice_get ms k) m n e f in

@@ -75,6 +75,12 @@ pub record HasLeftAs (p : Program) (x : Board) (k : ℕ) (m n : Mutating) (a : A
   pub position : x.position k ≡ HasLeft leave
   pub fits : (n.stage ≡ Ended) ⊎ IsResting p n.stage
 
+-- no slot was claimed, no block's word changed, and no ready entry was taken
+pub record LeavesBlocks (s t : Contents) : Type 0 where
+  pub block : (words_of t).block ≡ (words_of s).block
+  pub used : (words_of t).used ≡ (words_of s).used
+  pub head : t.head ≡ s.head
+
 -- The epoch that opened with g and b over the space s, with these mutators, is over: by the turns that the schedule gave, it led to this
 -- space and these mutators, each of which has left, and to another schedule.
 pub record IsOver (p : Program) (g : Graph) (b : Book) (s : Contents) (mutators : List Mutating) (schedule : Schedule) (t : Contents)
@@ -85,6 +91,7 @@ pub record IsOver (p : Program) (g : Graph) (b : Book) (s : Contents) (mutators 
   pub boarded : IsBoarded p (constants_of s) g b order board (words_of t) actors
   pub plays : Plays p (running p g) (begun schedule) (opening g b) order next board
   pub keeps : KeepsSections s t
+  pub leaves : LeavesBlocks s t
   pub are : AreMutatorsOf p after
   pub left : (k : ℕ) (m n : Mutating) → slice_get mutators k ≡ Some m → slice_get after k ≡ Some n → (g.mutator k).ended ≡ false →
       HasLeftAs p board k m n (actors k)
