@@ -235,7 +235,7 @@ module _ (stays : StaysReady) (is_sound : HeldIsSound) (whoever : HeldWhoever) (
   }
 
   holds : HoldsHeap p t h one.book
-  holds = heap_of_held p old.space t g h between.book one.book over.keeps over.blocks
+  holds = heap_of_held p old.space t g h between.book one.book over.keeps over.leaves
       (same_owed p between.graph between.book one.order one.graph one.book one.explains) between.holds
       (subst (λ l. IsHeld p l (words_of t) h one.book) (sym (constants_stay old.space t over.keeps)) held)
 

@@ -3,6 +3,7 @@ use Rattle.std.proofs.Common.{◌≡◌, ℕ, ◌<◌, ◌≤◌, Bool, List, le
 use Rattle.sg_words.specs.Address.{word_at}
 use Rattle.std.specs.Int.{bit_at}
 use Rattle.sg_words.specs.Sections.{nursery_base}
+use Rattle.sg_words.specs.declared.steps.BlockWord.{BlockWord}
 use Rattle.sg_words.specs.declared.layout.Layout.{Layout as Sections}
 use Rattle.sg_program.specs.declared.program.Program.{Program}
 use Rattle.sg_graph.specs.Graph.{Mutator, Graph}
@@ -12,7 +13,7 @@ use Rattle.sg_minor.specs.Holding.{HoldsHeap}
 use Rattle.sg_space.specs.Space.{Contents, words_of}
 use Rattle.sg_frag.specs.Plain.{KeepsSections}
 use Rattle.sg_order.specs.Rest.{IsHeld}
-use Rattle.sg_mutate.specs.Epochs.{constants_of, KeepsBlocks}
+use Rattle.sg_mutate.specs.Epochs.{constants_of, LeavesBlocks}
 use Rattle.sg_world.specs.Placing.{EndsInside, HasByteAddresses}
 
 pub keeps_same : (s : Contents) → KeepsSections s s
@@ -65,9 +66,9 @@ held_of_heap p s g b plain holds = record {
 }
 
 -- and as it ends, the space holds the graph that the words then hold
-pub heap_of_held : (p : Program) (s t : Contents) (g h : Graph) (b c : Book) → KeepsSections s t → KeepsBlocks s t → c.owed ≡ b.owed → HoldsHeap p s g b →
+pub heap_of_held : (p : Program) (s t : Contents) (g h : Graph) (b c : Book) → KeepsSections s t → LeavesBlocks s t → c.owed ≡ b.owed → HoldsHeap p s g b →
     IsHeld p (constants_of t) (words_of t) h c → HoldsHeap p t h c
-heap_of_held p s t g h b c keeps blocks owed holds held = (
+heap_of_held p s t g h b c keeps leaves owed holds held = (
   record {
     layout = keeps.layout ∙ holds.0.layout;
     shapes = keeps.shapes ∙ holds.0.shapes;
@@ -77,11 +78,11 @@ heap_of_held p s t g h b c keeps blocks owed holds held = (
     limit = λ f l.
         let there : f < b.fragments = omega (arith, held.number, holds.0.fragments, ap length keeps.ends) in
         omega (arith, held.limits f l, holds.0.limit f there, ap (λ (ends : List ℕ). get_or ends f 0) keeps.ends);
-    fits = λ j z i l e q. holds.0.fits j z i l (sym (blocks.block j) ∙ e) (ap (λ m. bit_at m i) (sym (blocks.used j)) ∙ q);
+    fits = λ j z i l e q. holds.0.fits j z i l (ap (λ (f : ℕ → BlockWord). f j) (sym leaves.block) ∙ e) (ap (λ (f : ℕ → ℕ). bit_at (f j) i) (sym leaves.used) ∙ q);
     unmarked = λ j. ap (λ (marks : List ℕ). get_or marks j 0) keeps.marks ∙ holds.0.unmarked j;
     unowed = λ j. ap (λ (f : ℕ → Bool). f j) owed ∙ holds.0.unowed j;
     pages = λ j. ap (λ (pages : List ℕ). get_or pages j 0) keeps.pages ∙ holds.0.pages j;
-    head = blocks.head ∙ holds.0.head;
+    head = leaves.head ∙ holds.0.head;
     made = keeps.made ∙ holds.0.made;
     registered = keeps.registered ∙ holds.0.registered;
     pairs = keeps.pairs ∙ holds.0.pairs;

@@ -7,6 +7,7 @@ mod seeding;
 mod stop;
 mod world;
 
+pub use seeding::seeds_in;
 pub use world::World;
 
 #[cfg(test)]

@@ -12,7 +12,7 @@ use std::sync::ledger::{Blank, Ledger};
 
 /// The seeds of a space that holds a heap, as its words are now. Linear in the cards and in the words of the dirty ones; takes memory for
 /// the seeds.
-pub(crate) fn seeds_in(alloc: Global, space: &Space) -> Result<Seeds, AllocError>
+pub fn seeds_in(alloc: Global, space: &Space) -> Result<Seeds, AllocError>
     requires { HoldsSome space.now }
     ensures { IfOk result (AreFound space.now) }
 {
