@@ -147,7 +147,7 @@ module _ (p : Program) where
       limit = first_end;
       fits = λ c z i l e set. absurd (let k = not_free c (Swept z) l e in cc);
       unmarked = λ c. zeros p.config.blocks c;
-      unowed = λ c. refl;
+      unowed = λ c l. refl;
       pages = λ j. zeros p.config.pages j;
       head = refl;
       made = refl;

@@ -111,7 +111,7 @@ module _ (c : Ended) (w : Words) (is : (x : ℕ) → w.word x ≡ c.v x) (by : A
   young-at n y (Older old q e) = absurd (let z : Young ≡ Old = sym y ∙ q in cc)
 
   module _ (carded : (x y : ℕ) → IsOldField c.p c.area c.w c.g c.b c.moves c.m x → c.v x ≡ byte_at y → IsYoung c.area y → w.card (card_of (layout_of c.p) x) ≡ 1)
-      (unowed : (j : ℕ) → c.b.owed j ≡ false) where
+      (unowed : (j : ℕ) → j < c.p.config.blocks → c.b.owed j ≡ false) where
     pub is-settled : AreSettled c.p w c.g (booked c) (owner3 c)
     is-settled = record {
       blocks = are-blocks;
@@ -119,7 +119,7 @@ module _ (c : Ended) (w : Words) (is : (x : ℕ) → w.word x ≡ c.v x) (by : A
       inhabited = λ j z there e.
           let n = by.inhabited j z there e in
           (n.0, n.1.some, n.1.stands, n.1.above, n.1.below);
-      owes = λ j there e. absurd (false≢true (sym (unowed j) ∙ e));
+      owes = λ j there e. absurd (false≢true (sym (unowed j there) ∙ e));
       cards = record {
         dirty = λ n i m l s o within strong ref some young.
             let stands = target-stands c n i m s within ref in

@@ -165,18 +165,18 @@ module _ (p : Program) (s : Contents) (g : Graph) (b : Book) (is : IsSpaceOf p s
   abbrev pub owned_block : BlockWord → ℕ → Type 0
   owned_block state c = (z : ℕ) → IsOwing state z → b.owed c ≡ true
 
-  pub not_owing : (state : BlockWord) (c z : ℕ) → owned_block state c → IsOwing state z → ⊥
-  not_owing state c z owing h = false≢true (sym (is.unowed c) ∙ owing z h)
+  pub not_owing : (state : BlockWord) (c z : ℕ) → c < p.config.blocks → owned_block state c → IsOwing state z → ⊥
+  not_owing state c z there owing h = false≢true (sym (is.unowed c there) ∙ owing z h)
 
   no_mark : (c i : ℕ) → bit_at (marks_in s c) i ≡ 1 → ⊥
   no_mark c i e = let k = ap (λ m. bit_at m i) (is.unmarked c) ∙ bit_at-zero i in omega arith
 
-  taken_fits : (state : BlockWord) (c z i : ℕ) → (state ≡ Swept z → bit_at (used_in s c) i ≡ 1 → i < slots z) → owned_block state c → IsOf state z →
+  taken_fits : (state : BlockWord) (c z i : ℕ) → c < p.config.blocks → (state ≡ Swept z → bit_at (used_in s c) i ≡ 1 → i < slots z) → owned_block state c → IsOf state z →
       is_taken state (used_in s c) (marks_in s c) i ≡ 1 → i < slots z
-  taken_fits Free c z i fits owing h e = absurd h
-  taken_fits (Swept y) c z i fits owing h e = fits (ap Swept h) e
-  taken_fits (Need y) c z i fits owing h e = absurd (not_owing (Need y) c z owing h)
-  taken_fits (Sweeping y) c z i fits owing h e = absurd (not_owing (Sweeping y) c z owing h)
+  taken_fits Free c z i there fits owing h e = absurd h
+  taken_fits (Swept y) c z i there fits owing h e = fits (ap Swept h) e
+  taken_fits (Need y) c z i there fits owing h e = absurd (not_owing (Need y) c z there owing h)
+  taken_fits (Sweeping y) c z i there fits owing h e = absurd (not_owing (Sweeping y) c z there owing h)
 
   module _ (settled : AreSettled p (words_of s) g b owner) where
     pub in_slot : (n : ℕ) → n ≢ 0 → b.stands n ≡ true → b.section n ≡ Old → IsInSlot s (b.address n)
@@ -215,7 +215,7 @@ module _ (p : Program) (s : Contents) (g : Graph) (b : Book) (is : IsSpaceOf p s
         let blocks = blocks_is in
         let nursery = nursery_is in
         let block = settled.blocks.each c (omega arith) in
-        let fits = taken_fits (block_in s c) c z i (is.fits c z i (omega arith)) block.owing of e in
+        let fits = taken_fits (block_in s c) c z i (omega arith) (is.fits c z i (omega arith)) block.owing of e in
         let n = block.filled z i of fits e in
         let some = n.1.some in
         let at = n.1.at in
@@ -239,7 +239,7 @@ module _ (p : Program) (s : Contents) (g : Graph) (b : Book) (is : IsSpaceOf p s
 
     -- no word is to be zeroed
     pub no_dirty : (c x : ℕ) → c < p.config.blocks → IsDirty p (marks_in s c) (block_in s c) c x → ⊥
-    no_dirty c x there d = not_owing (block_in s c) c d.size (settled.blocks.each c there).owing d.owing
+    no_dirty c x there d = not_owing (block_in s c) c d.size there (settled.blocks.each c there).owing d.owing
 
     -- the block of a word of the major heap
     pub block_of : (x : ℕ) → nursery_end p ≤ x → x < old_end p → (c : ℕ) × (c < p.config.blocks) × (nursery_end p + 256 * c ≤ x) × (x < nursery_end p + 256 * c + 256)

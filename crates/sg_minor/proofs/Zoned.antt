@@ -81,7 +81,7 @@ states_of (Sweeping y) need sweeping sized = absurd (sweeping y refl)
 module _ (p : Program) (s : Contents) (g : Graph) (b : Book) (is : IsSpaceOf p s b) (owner : ℕ → Owner) (heap : IsHeap p (word s) g b owner) (contents : IsContents s)
     (settled : AreSettled p (words_of s) g b owner) where
   not_need : (c y : ℕ) → c < p.config.blocks → block_in s c ≢ Need y
-  not_need c y there e = not_owing p s g b is owner heap contents (Need y) c y (subst (λ (w : BlockWord). owned_block p s g b is owner heap contents w c) e (settled.blocks.each c there).owing) refl
+  not_need c y there e = not_owing p s g b is owner heap contents (Need y) c y there (subst (λ (w : BlockWord). owned_block p s g b is owner heap contents w c) e (settled.blocks.each c there).owing) refl
 
   not_sweeping : (c y : ℕ) → c < p.config.blocks → block_in s c ≢ Sweeping y
   not_sweeping c y there e = settled.settled c y there e

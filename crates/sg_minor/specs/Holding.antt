@@ -24,7 +24,7 @@ pub record IsSpaceOf (p : Program) (s : Contents) (b : Book) : Type 0 where
   pub limit : (f : ℕ) → f < b.fragments → slice_index s.ends f ≡ byte_at (b.limit f)
   pub fits : (c z i : ℕ) → c < p.config.blocks → block_in s c ≡ Swept z → bit_at (used_in s c) i ≡ 1 → i < slots z
   pub unmarked : (c : ℕ) → marks_in s c ≡ 0
-  pub unowed : (c : ℕ) → b.owed c ≡ false
+  pub unowed : (c : ℕ) → c < p.config.blocks → b.owed c ≡ false
   pub pages : (j : ℕ) → slice_index s.pages j ≡ 0
   pub head : s.head ≡ 0
   pub made : s.made ≡ 0

@@ -145,7 +145,7 @@ module _ (law : FirstOpening) (p : Program) (can : CanRun p) (shapes : List Shap
             ∙ ap (λ i. get_or (byte_at (old_base (sections_in p)) ∷ []) i 0) z;
         fits = λ j z i l e q. absurd (let f : Free ≡ Swept z = sym (ap (λ (s : Contents). block_in s j) space ∙ free_block p.config.blocks j) ∙ e in cc f);
         unmarked = λ j. ap (λ (s : Contents). marks_in s j) space ∙ clear_word p.config.blocks j;
-        unowed = λ j. refl;
+        unowed = λ j l. refl;
         pages = λ j. ap (λ (s : Contents). page_in s j) space ∙ clear_word p.config.pages j;
         head = ap (λ (s : Contents). s.head) space;
         made = ap (λ (s : Contents). s.made) space;

@@ -35,7 +35,6 @@ use Rattle.sg_world.specs.Telling.{going_in, HaveEnded, TellsOf, TellsAt}
 use Rattle.sg_world.specs.Worlds.{Worldly, IsWorldOf, IsBetween, HasLeftReady, asked_of, requests_of, IsAtStop, ComesTo}
 use Rattle.sg_world.proofs.Lists.{pairwise_left, joined_pairwise, joined_filter, joined_by_numbers, in_joined, sums_le, pairwise_by, some_at}
 use Rattle.sg_world.proofs.Heaps.{constants_stay, heap_of_held}
-use Rattle.sg_world.proofs.Owed.{same_owed}
 use Rattle.sg_world.proofs.Parts.{IsLeaveOf, not_done, ready_left, ready_empty}
 use Rattle.sg_world.proofs.Epochs as epochs
 
@@ -235,8 +234,7 @@ module _ (stays : StaysReady) (is_sound : HeldIsSound) (whoever : HeldWhoever) (
   }
 
   holds : HoldsHeap p t h one.book
-  holds = heap_of_held p old.space t g h between.book one.book over.keeps over.leaves
-      (same_owed p between.graph between.book one.order one.graph one.book one.explains) between.holds
+  holds = heap_of_held p old.space t g h between.book one.book over.keeps over.leaves between.holds
       (subst (λ l. IsHeld p l (words_of t) h one.book) (sym (constants_stay old.space t over.keeps)) held)
 
   beyond : (k : ℕ) → length after ≤ k → IsReady p h one.book k (fresh []) []

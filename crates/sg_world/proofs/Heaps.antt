@@ -1,9 +1,12 @@
 -- The space of a world and the heap that it holds.
-use Rattle.std.proofs.Common.{◌≡◌, ℕ, ◌<◌, ◌≤◌, Bool, List, length, get_or, true, inl, inr, refl, ap, sym, ◌∙◌, subst, arith}
+use Rattle.std.proofs.Common.{◌≡◌, ℕ, ◌<◌, ◌≤◌, Bool, List, length, get_or, true, false, inl, inr, refl, ap, sym, ◌∙◌, subst, arith}
 use Rattle.sg_words.specs.Address.{word_at}
 use Rattle.std.specs.Int.{bit_at}
+use Rattle.std.proofs.lemmas.Bool.{cases_Bool}
+use Rattle.sg_words.specs.Blocks.{IsOwing}
 use Rattle.sg_words.specs.Sections.{nursery_base}
 use Rattle.sg_words.specs.declared.steps.BlockWord.{BlockWord}
+use Rattle.sg_words.specs.declared.steps.BlockWord.TheVariants.{Need}
 use Rattle.sg_words.specs.declared.layout.Layout.{Layout as Sections}
 use Rattle.sg_program.specs.declared.program.Program.{Program}
 use Rattle.sg_graph.specs.Graph.{Mutator, Graph}
@@ -11,6 +14,7 @@ use Rattle.sg_graph.specs.Book.{Book}
 use Rattle.sg_graph.specs.Invariants.{IsPlain}
 use Rattle.sg_minor.specs.Holding.{HoldsHeap}
 use Rattle.sg_space.specs.Space.{Contents, words_of}
+use Rattle.sg_space.specs.Standing.{block_in}
 use Rattle.sg_frag.specs.Plain.{KeepsSections}
 use Rattle.sg_order.specs.Rest.{IsHeld}
 use Rattle.sg_mutate.specs.Epochs.{constants_of, LeavesBlocks}
@@ -65,10 +69,14 @@ held_of_heap p s g b plain holds = record {
   nexts = holds.0.next;
 }
 
+-- an owed block is still to be swept, and such a one was owed before
+not_owed : (state : BlockWord) (z : ℕ) (owed : Bool) → state ≡ Need z → ((y : ℕ) → IsOwing state y → owed ≡ true) → owed ≡ false → ⊥
+not_owed state z owed e owing not = let q : false ≡ true = sym not ∙ owing z (subst (λ (w : BlockWord). IsOwing w z) (sym e) refl) in cc q
+
 -- and as it ends, the space holds the graph that the words then hold
-pub heap_of_held : (p : Program) (s t : Contents) (g h : Graph) (b c : Book) → KeepsSections s t → LeavesBlocks s t → c.owed ≡ b.owed → HoldsHeap p s g b →
+pub heap_of_held : (p : Program) (s t : Contents) (g h : Graph) (b c : Book) → KeepsSections s t → LeavesBlocks s t → HoldsHeap p s g b →
     IsHeld p (constants_of t) (words_of t) h c → HoldsHeap p t h c
-heap_of_held p s t g h b c keeps leaves owed holds held = (
+heap_of_held p s t g h b c keeps leaves holds held = (
   record {
     layout = keeps.layout ∙ holds.0.layout;
     shapes = keeps.shapes ∙ holds.0.shapes;
@@ -78,9 +86,13 @@ heap_of_held p s t g h b c keeps leaves owed holds held = (
     limit = λ f l.
         let there : f < b.fragments = omega (arith, held.number, holds.0.fragments, ap length keeps.ends) in
         omega (arith, held.limits f l, holds.0.limit f there, ap (λ (ends : List ℕ). get_or ends f 0) keeps.ends);
-    fits = λ j z i l e q. holds.0.fits j z i l (ap (λ (f : ℕ → BlockWord). f j) (sym leaves.block) ∙ e) (ap (λ (f : ℕ → ℕ). bit_at (f j) i) (sym leaves.used) ∙ q);
+    fits = λ j z i l e q. holds.0.fits j z i l (was_block j ∙ e) (ap (λ (f : ℕ → ℕ). bit_at (f j) i) (sym leaves.used) ∙ q);
     unmarked = λ j. ap (λ (marks : List ℕ). get_or marks j 0) keeps.marks ∙ holds.0.unmarked j;
-    unowed = λ j. ap (λ (f : ℕ → Bool). f j) owed ∙ holds.0.unowed j;
+    unowed = λ j l. elim (cases_Bool (c.owed j)) [
+      | inl e ↦ let need = held.settled.owes j l e in
+          absurd (not_owed (block_in s j) need.0 (b.owed j) (was_block j ∙ need.1) (holds.1.2.blocks.each j l).owing (holds.0.unowed j l))
+      | inr e ↦ e
+    ];
     pages = λ j. ap (λ (pages : List ℕ). get_or pages j 0) keeps.pages ∙ holds.0.pages j;
     head = leaves.head ∙ holds.0.head;
     made = keeps.made ∙ holds.0.made;
@@ -89,6 +101,9 @@ heap_of_held p s t g h b c keeps leaves owed holds held = (
   },
   (held.owner, held.heap, held.settled),
 )
+  where
+    was_block : (j : ℕ) → block_in s j ≡ block_in t j
+    was_block j = ap (λ (f : ℕ → BlockWord). f j) (sym leaves.block)
 
 -- its fragments end in the nursery, and begin at words of it
 pub ends_of_heap : (p : Program) (s : Contents) (g : Graph) (b : Book) → HoldsHeap p s g b → EndsInside s

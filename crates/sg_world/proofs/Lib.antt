@@ -10,7 +10,6 @@ pub mod Held
 pub mod Lists
 pub mod Onward
 pub mod Opened
-pub mod Owed
 pub mod Parts
 pub mod Paused
 pub mod Placed
