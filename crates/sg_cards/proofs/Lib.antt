@@ -2,3 +2,4 @@ pub mod Numbers
 pub mod Scanning
 pub mod Objects
 pub mod Scans
+pub mod Carded
