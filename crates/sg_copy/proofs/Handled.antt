@@ -1,17 +1,26 @@
 -- Where a copier stands behind the handling of a slot.
-use Rattle.std.proofs.Common.{◌≡◌, ℕ, ◌<◌, List, length, slice_set, refl, sym, ap, ◌∙◌, subst}
+use Rattle.std.proofs.Common.{◌≡◌, ℕ, ◌+◌, ◌-◌, ◌<◌, ◌≤◌, List, [], ◌∷◌, ◌++◌, map, length, slice_set, refl, sym, ap, ◌∙◌, subst, arith, length-append}
+use Rattle.std.proofs.lemmas.List.{map_push, length-map}
+use Rattle.sg_words.specs.Address.{byte_at, word_at}
+use Rattle.sg_words.specs.Sections.{nursery_base, old_base}
+use Rattle.sg_words.proofs.Numbers.{word_at-byte_at}
+use Rattle.sg_words.specs.declared.pieces.Move.{Move}
 use Rattle.sg_words.specs.declared.steps.Step.{Step}
 use Rattle.sg_words.specs.declared.steps.Call.{Call}
 use Rattle.sg_words.specs.declared.layout.Layout.{Layout}
 use Rattle.sg_desc.specs.declared.shapes.Shape.{Shape}
 use Rattle.sg_words.specs.Words.{put}
+use Rattle.sg_round.specs.Items.{Item, WholeOf}
 use Rattle.sg_round.specs.Worker.{Mid, Idle}
+use Rattle.sg_copy.specs.declared.gray.Gray.{Gray}
+use Rattle.sg_copy.specs.declared.gray.Gray.TheVariants.{Whole}
+use Rattle.sg_copy.specs.Grays.{item_of}
 use Rattle.sg_copy.specs.declared.copier.Stage.{Stage}
 use Rattle.sg_copy.specs.declared.copier.Stage.TheVariants.{Between}
 use Rattle.sg_copy.specs.Copying.{area_by}
 use Rattle.sg_copy.specs.Telling.{Seat, Teller, IsOn, HasGoneOn, HasStarted, at}
-use Rattle.sg_copy.specs.State.{Copying, mid_of, worker_of, teller_of, seat_of, IsSameCopier, IsSameHanded, IsOnSlot}
-use Rattle.sg_copy.specs.Turning.{HasHandled, HasBegun}
+use Rattle.sg_copy.specs.State.{Copying, mid_of, worker_of, teller_of, seat_of, IsSameCopier, IsSameHanded, IsOnSlot, move_of}
+use Rattle.sg_copy.specs.Turning.{HasHandled, HasBegun, HasSetOut}
 use Rattle.sg_copy.proofs.Ports.{Ports, On, Gone, Started, gone_then, started_then}
 use Rattle.sg_copy.proofs.Changes.{put_set}
 
@@ -63,6 +72,51 @@ at_passed c d size z v mid e is l =
     ∙ ap (λ (f : ℕ → ℕ). record (teller_of c) { worker = record (worker_of c) { passed = f; mid = mid } }) (put_set c.passed size v 0 l)
     ∙ ap (λ n. record (teller_of c) { worker = record (worker_of c) { passed = put (worker_of c).passed n v; mid = mid } }) is
 
+-- an object has moved
+pub at_moved : (c d : Copying) (from to : ℕ) (mid : Mid) →
+    d ≡ record c { moves = c.moves ++ move_of from to ∷ []; queue = c.queue ++ Whole (byte_at to) ∷ [] } →
+    at (teller_of d) mid ≡ record (teller_of c) { worker = record (worker_of c) { list = (worker_of c).list ++ WholeOf to ∷ []; mid = mid }; moves = (teller_of c).moves ++ from ∷ [] }
+at_moved c d from to mid e =
+    ap (λ (k : Copying). at (teller_of k) mid) e
+    ∙ ap (λ (list : List Item). record (teller_of c) { worker = record (worker_of c) { list = list; mid = mid }; moves = map (λ (m : Move). word_at m.from) (c.moves ++ move_of from to ∷ []) })
+        (map_push item_of c.queue (Whole (byte_at to)) ∙ ap (λ n. (worker_of c).list ++ WholeOf n ∷ []) (word_at-byte_at to))
+    ∙ ap (λ ms. record (teller_of c) { worker = record (worker_of c) { list = (worker_of c).list ++ WholeOf to ∷ []; mid = mid }; moves = ms })
+        (map_push (λ (m : Move). word_at m.from) c.moves (move_of from to) ∙ ap (λ n. (teller_of c).moves ++ n ∷ []) (word_at-byte_at from))
+
+pub same_moved : (c d : Copying) (moves : List Move) (queue : List Gray) → d ≡ record c { moves = moves; queue = queue } → IsSameHanded c d
+same_moved c d moves queue e = subst (IsSameHanded c) (sym e) (record { copier = record { layout = refl; shapes = refl; number = refl; team = refl; most = refl }; hand = refl })
+
+-- an object has failed, and no block can take its size
+pub at_failed : (c d k : Copying) (x size z v : ℕ) (mid : Mid) →
+    d ≡ record c { fails = c.fails ++ byte_at x ∷ []; queue = c.queue ++ Whole (byte_at x) ∷ [] } → k ≡ record d { passed = slice_set d.passed size v } → size ≡ z → size < length d.passed →
+    at (teller_of k) mid ≡ record (teller_of c) {
+      worker = record (worker_of c) { list = (worker_of c).list ++ WholeOf x ∷ []; passed = put (worker_of c).passed z v; mid = mid };
+      fails = (teller_of c).fails ++ x ∷ [];
+    }
+at_failed c d k x size z v mid e f is l =
+    at_passed d k size z v mid f is l
+    ∙ ap (λ (b : Copying). record (teller_of b) { worker = record (worker_of b) { passed = put (worker_of b).passed z v; mid = mid } }) e
+    ∙ ap (λ (list : List Item). record (teller_of c) { worker = record (worker_of c) { list = list; passed = put (worker_of c).passed z v; mid = mid }; fails = map word_at (c.fails ++ byte_at x ∷ []) })
+        (map_push item_of c.queue (Whole (byte_at x)) ∙ ap (λ n. (worker_of c).list ++ WholeOf n ∷ []) (word_at-byte_at x))
+    ∙ ap (λ ms. record (teller_of c) { worker = record (worker_of c) { list = (worker_of c).list ++ WholeOf x ∷ []; passed = put (worker_of c).passed z v; mid = mid }; fails = ms })
+        (map_push word_at c.fails (byte_at x) ∙ ap (λ n. (teller_of c).fails ++ n ∷ []) (word_at-byte_at x))
+
+pub same_failed : (c d : Copying) (fails : List ℕ) (queue : List Gray) → d ≡ record c { fails = fails; queue = queue } → IsSameHanded c d
+same_failed c d fails queue e = subst (IsSameHanded c) (sym e) (record { copier = record { layout = refl; shapes = refl; number = refl; team = refl; most = refl }; hand = refl })
+
+-- there is room to tell of one more object
+pub moves_room : (layout : Layout) (moves : List Move) (fails : List ℕ) (x : ℕ) →
+    length (map (λ (m : Move). word_at m.from) moves ++ x ∷ []) + length (map word_at fails) ≤ old_base layout - nursery_base → length moves + length fails < layout.nursery
+moves_room layout moves fails x few =
+    let n = length-map moves (λ (m : Move). word_at m.from) in let k = length-map fails word_at in
+    omega (arith, few, length-append (map (λ (m : Move). word_at m.from) moves) (x ∷ []), n, k)
+
+pub fails_room : (layout : Layout) (moves : List Move) (fails : List ℕ) (x : ℕ) →
+    length (map (λ (m : Move). word_at m.from) moves) + length (map word_at fails ++ x ∷ []) ≤ old_base layout - nursery_base → length moves + length fails < layout.nursery
+fails_room layout moves fails x few =
+    let n = length-map moves (λ (m : Move). word_at m.from) in let k = length-map fails word_at in
+    omega (arith, few, length-append (map word_at fails) (x ∷ []), n, k)
+
 module _ {P : Type 0} (o : Ports P) where
   -- the same worker, written otherwise
   pub on_as : (seat seat' : Seat) (a b : Teller) (x : P) → seat' ≡ seat → b ≡ a → On o seat x a → On o seat' x b
@@ -104,3 +158,27 @@ module _ {P : Type 0} (o : Ports P) where
 
   pub begun_then : (c d : Copying) (a b : Teller) (x y z : P) → Started o (seat_of c) a x b y → HasHandled c o.leads b y d z → HasBegun c o.leads a x d z
   begun_then c d a b x y z s h = record { started = started_then o (seat_of c) a b (teller_of d) x y z s h.gone; same = h.same; where_is = h.where_is }
+
+  -- a turn set out where a copier was changed
+  pub set_out_as : (c k d : Copying) (a : Teller) (x y : P) → IsSameCopier c k → HasSetOut k o.leads a x d y → HasSetOut c o.leads a x d y
+  set_out_as c k d a x y same h = record {
+    started = subst (λ (s : Seat). Started o s a x (teller_of d) y) (seat_same c k same) h.started;
+    same = same_then c k d same h.same;
+  }
+
+  -- a turn set out with the prepared exchange
+  module _ (m k : Copying) (stage : Stage) (set : k ≡ record m { stage = Between }) (was : m.stage ≡ stage) where
+    same_set : IsSameCopier m k
+    same_set = (same_stage m k Between set).copier
+
+    as_set : at (teller_of k) (mid_of stage) ≡ teller_of m
+    as_set = ap (λ (c : Copying). at (teller_of c) (mid_of stage)) set ∙ ap (λ (st : Stage). at (teller_of m) (mid_of st)) (sym was)
+
+    pub set_on : (x : P) → On o (seat_of m) x (teller_of m) → On o (seat_of k) x (at (teller_of k) (mid_of stage))
+    set_on x on = on_as (seat_of m) (seat_of k) (teller_of m) (at (teller_of k) (mid_of stage)) x (seat_same m k same_set) as_set on
+
+    pub set_out : (d : Copying) (x y : P) → HasSetOut k o.leads (at (teller_of k) (mid_of stage)) x d y → HasSetOut m o.leads (teller_of m) x d y
+    set_out d x y h = set_out_as m k d (teller_of m) x y same_set (subst (λ (a : Teller). HasSetOut k o.leads a x d y) as_set h)
+
+    pub set_out_begun : (d : Copying) (x y : P) → HasBegun k o.leads (at (teller_of k) (mid_of stage)) x d y → HasSetOut m o.leads (teller_of m) x d y
+    set_out_begun d x y h = set_out d x y (record { started = h.started; same = h.same.copier })

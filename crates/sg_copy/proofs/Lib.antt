@@ -3,5 +3,8 @@ pub mod Seen
 pub mod Bodies
 pub mod Places
 pub mod Looks
+pub mod Swaps
+pub mod Handing
+pub mod Seeking
 pub mod Handled
 pub mod Changes

@@ -119,10 +119,10 @@ module _ {P : Type 0} (o : Ports P) (seat : Seat) (t : Teller) (s : ℕ) where
     abbrev object : ℕ → Object
     object n = record { x = x; class = class; n = n }
 
-    abbrev spared : ℕ → Teller
+    abbrev pub spared : ℕ → Teller
     spared n = record t { worker = record (t.worker) { spare = put t.worker.spare (size_for (object n)) 0; mid = OnSlot s (Body (object n) (t.worker.spare (size_for (object n))) 1) } }
 
-    abbrev searching : ℕ → Teller
+    abbrev pub searching : ℕ → Teller
     searching n = at t (OnSlot s (looking seat.area (object n) (t.worker.passed (size_for (object n)))))
 
     spare_next : (n : ℕ) → t.worker.spare (size_for (object n)) ≢ 0 → Tells seat sizing (Load (Word (x + 1)) n) (spared n)

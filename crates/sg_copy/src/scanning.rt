@@ -1,12 +1,12 @@
 // The turns of a worker, and how it goes from item to item.
-ghost use Rattle.std.specs.Prelude.{◌≡◌, ◌≢◌, ◌<◌, ℕ};
+ghost use Rattle.std.specs.Prelude.{◌≡◌, ◌≢◌, []};
 ghost use Rattle.sg_round.specs.Items.{WholeOf};
 ghost use Rattle.sg_round.specs.Worker.{Idle, Grab};
 ghost use Rattle.sg_round.specs.Acting.{RestsAt};
 ghost use Rattle.sg_copy.specs.declared.copier.Stage.TheVariants.{Between, Ended};
 ghost use Rattle.sg_copy.specs.Grays.{item_of};
 ghost use Rattle.sg_copy.specs.Telling.{Teller, IsOn, HasGoneOn, HasTurned, at};
-ghost use Rattle.sg_copy.specs.State.{teller_of, seat_of, mid_of, IsSameCopier, worker_of};
+ghost use Rattle.sg_copy.specs.State.{slots_in_hand, teller_of, seat_of, IsSameCopier, worker_of};
 ghost use Rattle.sg_copy.specs.Turning.{IsNextOf, LooksAt, HasSetOut};
 
 use crate::copier::{Copier, Stage};
@@ -18,6 +18,7 @@ impl Copier {
     /// exchange. It takes no memory.
     pub fn turn_on<P: CopyPort>(&mut self, port: &mut P)
         requires going { self.old.stage ≢ Ended }
+        requires rests { RestsAt (worker_of self.old) }
         requires on { IsOn (seat_of self.old) P.leads P.may P.sees P.blocks port.old (teller_of self.old) }
         ensures turned { HasTurned (seat_of self.old) P.leads (teller_of self.old) port.old (teller_of self.new) port.new }
         ensures same { IsSameCopier self.old self.new }
@@ -31,6 +32,7 @@ impl Copier {
     /// Makes the prepared exchange and handles its slot, or begins the next item.
     fn begin<P: CopyPort>(&mut self, port: &mut P)
         requires going { self.old.stage ≢ Ended }
+        requires rests { RestsAt (worker_of self.old) }
         requires on { IsOn (seat_of self.old) P.leads P.may P.sees P.blocks port.old (teller_of self.old) }
         ensures { HasSetOut self.old P.leads (teller_of self.old) port.old self.new port.new }
     {
@@ -50,6 +52,7 @@ impl Copier {
     /// Begins the oldest item, or looks for one in the cells.
     fn begin_item<P: CopyPort>(&mut self, port: &mut P)
         requires between { self.old.stage ≡ Between }
+        requires empty { slots_in_hand self.old.hand ≡ [] }
         requires on { IsOn (seat_of self.old) P.leads P.may P.sees P.blocks port.old (at (teller_of self.old) Idle) }
         ensures { HasSetOut self.old P.leads (at (teller_of self.old) Idle) port.old self.new port.new }
     {

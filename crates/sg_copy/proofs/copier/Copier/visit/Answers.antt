@@ -4,6 +4,8 @@ use Rattle.sg_copy.specs.declared.copier.Stage.TheVariants.{Between}
 use Rattle.sg_copy.specs.Telling.{at}
 use Rattle.sg_copy.specs.State.{teller_of, seat_of, IsOnSlot}
 use Rattle.sg_copy.proofs.Ports.{Ports, On, Started}
+use Rattle.sg_round.specs.Items.{SlotOf}
+use Rattle.sg_copy.proofs.Handing.{next_sane}
 use Rattle.sg_copy.proofs.Looks.{slot_may, slot_empty, slot_full}
 use Rattle.sg_copy.proofs.Handled.{idle_is, same_handed, started_to, begun_then}
 use Rattle.sg_copy.proofs.copier.Copier.visit.Given.{Over}
@@ -21,7 +23,14 @@ ports g = record {
 }
 
 pub overflow_mul-slot : goal.overflow_mul-slot
-overflow_mul-slot g c = ?
+overflow_mul-slot g c =
+    let m = c.args.self.now in
+    let a = c.requires.on.0 in
+    let sane = c.requires.on.2.guided.is_sane.worker in
+    let is = next_sane (seat_of m).area (seat_of m).team (seat_of m).most (seat_of m).number a.worker (at (teller_of m) Idle).worker (SlotOf c.args.slot) c.requires.on.1.next sane in
+    let end = is.1 in
+    let small = sane.limits.small in
+    omega (arith, end, small)
 
 pub load-value-requires-clause-may : goal.load-value-requires-clause-may
 load-value-requires-clause-may g c =
