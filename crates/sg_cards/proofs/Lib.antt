@@ -4,3 +4,4 @@ pub mod Objects
 pub mod Scans
 pub mod Carded
 pub mod Seeding
+pub mod Cleaned
