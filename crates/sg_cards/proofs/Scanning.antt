@@ -12,8 +12,8 @@ pub record AreNoSeeds (s : Contents) (c x y : ℕ) : Type 0 where
 
 module _ (s : Contents) (c : ℕ) (found : List ℕ) where
   -- nothing was looked at below the card
-  pub scanned_start : ((j : ℕ) → slice_index found j ≡ 0) → IsScannedTo s c found (card_base s.layout c)
-  scanned_start zero = record { below = λ owner sound j l m. absurd (omega arith); above = λ j l m. zero j }
+  pub scanned_start : ((j : ℕ) → j < 64 → slice_index found j ≡ 0) → IsScannedTo s c found (card_base s.layout c)
+  scanned_start zero = record { below = λ owner sound j l m. absurd (omega arith); above = λ j l m. zero j l }
 
   pub scanned_before : (x : ℕ) → x ≤ card_base s.layout c → IsScannedTo s c found (card_base s.layout c) → IsScannedTo s c found x
   scanned_before x l h = record { below = λ owner sound j m n. absurd (omega arith); above = λ j m n. h.above j m (omega arith) }

@@ -11,6 +11,7 @@ use crate::steps::Steps;
 use crate::words::{Words, blocks_number, pages_number};
 use sg_blocks::{Numbered, slots};
 use sg_desc::Shape;
+use sg_space::placing_law;
 use sg_words::{BLOCK_WORDS, BlockWord, FIRST_WORD, Layout, PAGE_WORDS};
 use std::sync::ledger::Ledger;
 
@@ -53,6 +54,8 @@ fn scan_block<W: Words, L: Ledger>(
     requires room { length found.old ≡ 64 }
     ensures { (s : Contents) → AreSoundWords layout.now shapes.now (W.count words.now) (W.word_of words.now) s → IsScannedTo s card found.old (card_base layout.now card) → IsScannedTo s card found.new (card_base layout.now (card + 1)) }
 {
+    // The law that it rests on: it does nothing.
+    placing_law();
     let number = blocks_number(layout) + 3 * (card / 4) as u64;
     match BlockWord::of_word(words.word(number, steps)) {
         Some(BlockWord::Swept { size }) => {
@@ -63,7 +66,9 @@ fn scan_block<W: Words, L: Ledger>(
             let mask = words.word(number + 2, steps);
             scan_slots(words, layout, shapes, card, size, mask, found, steps);
         }
-        _ => {}
+        Some(BlockWord::Sweeping { .. }) => {}
+        Some(BlockWord::Free) => {}
+        None => {}
     }
 }
 
@@ -83,6 +88,8 @@ fn scan_slots<W: Words, L: Ledger>(
     ensures { (s : Contents) → AreSoundWords layout.now shapes.now (W.count words.now) (W.word_of words.now) s → IsMaskOf s card size mask → IsScannedTo s card found.old (card_base layout.now card) →
         IsScannedTo s card found.new (card_base layout.now (card + 1)) }
 {
+    // The law that it rests on: it does nothing.
+    placing_law();
     let base = layout.old_word() + BLOCK_WORDS * (card / 4) as u64;
     let from = CARD_WORDS as u32 * (card % 4);
     let first = from / size;
@@ -118,6 +125,8 @@ fn scan_page<W: Words, L: Ledger>(
     requires room { length found.old ≡ 64 }
     ensures { (s : Contents) → AreSoundWords layout.now shapes.now (W.count words.now) (W.word_of words.now) s → IsScannedTo s card found.old (card_base layout.now card) → IsScannedTo s card found.new (card_base layout.now (card + 1)) }
 {
+    // The law that it rests on: it does nothing.
+    placing_law();
     let place = (card - 4 * layout.blocks) as u64;
     let first = words.word(pages_number(layout) + place / 2, steps);
     if first != 0 {

@@ -7,6 +7,7 @@ use Rattle.sg_words.specs.Objects.{size_of}
 use Rattle.sg_words.specs.Reach.{AreDistinct}
 use Rattle.sg_words.specs.Blocks.{IsSizeClass, slot_size, slots}
 use Rattle.sg_words.specs.Sections.{nursery_base, old_base, globals_base, words_end}
+use Rattle.sg_words.specs.declared.layout.Layout.{Layout}
 use Rattle.sg_words.specs.declared.pieces.Move.{Move}
 use Rattle.sg_words.specs.declared.steps.BlockWord.TheVariants.{Free, Swept}
 use Rattle.sg_desc.specs.declared.shapes.Shape.{Shape}
@@ -24,15 +25,18 @@ is_strong_in (Some shape) i = is_strong shape.kind i shape.fields
 is_strong_in None i = false
 
 -- the area of a round is the nursery, the blocks, the pages and the rows of the space
-abbrev pub area_of : Contents → Area
-area_of s = record {
+abbrev pub area_by : Layout → List Shape → Area
+area_by layout shapes = record {
   low = nursery_base;
-  high = old_base s.layout;
-  blocks = s.layout.blocks;
-  rows = globals_base s.layout;
-  end = words_end s.layout;
-  strong = λ c i. is_strong_in (slice_get s.shapes c) i;
+  high = old_base layout;
+  blocks = layout.blocks;
+  rows = globals_base layout;
+  end = words_end layout;
+  strong = λ c i. is_strong_in (slice_get shapes c) i;
 }
+
+abbrev pub area_of : Contents → Area
+area_of s = area_by s.layout s.shapes
 
 -- the slots of all items: these, and the strong fields of the objects that are items as wholes
 abbrev pub items_of : Contents → List ℕ → List ℕ → List ℕ
@@ -80,7 +84,8 @@ pub record AreMarked (old : Contents) (slots wholes : List ℕ) (m : ℕ → ℕ
 -- A block's word changes from Free to Swept alone, and no bit falls. Each moved object is at a slot of its size that was clear, and each
 -- slot that was clear and isn't is the place of one.
 pub record AreFilled (old : Contents) (m : ℕ → ℕ) (went : List ℕ) (new : Contents) : Type 0 where
-  pub opened : (b : ℕ) → (block_in new b ≡ block_in old b) ⊎ ((b < old.layout.blocks) × (block_in old b ≡ Free) × ((z : ℕ) × IsSizeClass z × (block_in new b ≡ Swept z)))
+  pub opened : (b : ℕ) →
+      (block_in new b ≡ block_in old b) ⊎ ((b < old.layout.blocks) × (block_in old b ≡ Free) × ((z : ℕ) × IsSizeClass z × (block_in new b ≡ Swept z)))
   pub risen : (b i : ℕ) → bit_at (used_in new b) i ≡ 0 → bit_at (used_in old b) i ≡ 0
   pub homes : (a : ℕ) → In a went → IsTaken (area_of old) (block_in new) (used_in old) (used_in new) (m a) (slot_size (size_of (word old) a))
   pub bits : (b i : ℕ) → bit_at (used_in new b) i ≡ 1 → bit_at (used_in old b) i ≡ 0 →

@@ -1,5 +1,5 @@
 -- A world before the first epoch.
-use Rattle.std.proofs.Common.{◌≡◌, ℕ, zero, suc, ◌+◌, ◌≤◌, true, false, Some, List, [], ◌∷◌, ◌++◌, length, map, replicate, get_or, slice_get, inl, inr, sym, refl, ap, ◌∙◌, subst, arith, length-append}
+use Rattle.std.proofs.Common.{◌≡◌, ℕ, zero, suc, ◌+◌, ◌≤◌, true, false, Some, List, [], ◌∷◌, ◌++◌, length, map, replicate, get_or, slice_index_or, slice_get, inl, inr, sym, refl, ap, ◌∙◌, subst, arith, length-append}
 use Rattle.std.specs.List.{All, AllByRecursion}
 use Rattle.std.proofs.lemmas.Bool.{cases_lt}
 use Rattle.std.proofs.lemmas.List.{length-map}
@@ -8,6 +8,7 @@ use Rattle.std.proofs.lemmas.Option.{slice_get_past}
 use Rattle.sg_words.specs.Address.{byte_at}
 use Rattle.sg_words.specs.Sections.{nursery_base, old_base, words_end}
 use Rattle.sg_words.specs.declared.layout.Layout.{Layout}
+use Rattle.sg_words.specs.declared.steps.BlockWord.TheVariants.{Free, Swept}
 use Rattle.sg_desc.specs.declared.shapes.Descriptor.{Descriptor}
 use Rattle.sg_desc.specs.declared.shapes.Descriptor.TheVariants.{PtrFree, Run, Bitmap, VectorRefs, VectorPlain, Ephemeron}
 use Rattle.sg_desc.specs.declared.shapes.Shape.{Shape}
@@ -22,8 +23,7 @@ use Rattle.sg_graph.specs.Heap.{layout_of as sections_in}
 use Rattle.sg_graph.specs.Follows.{whole_schedule}
 use Rattle.sg_graph.specs.Follows.FollowsTo.{Begins}
 use Rattle.sg_space.specs.Space.{Contents, words_of, AreShapes, IsContents, clear_space}
-use Rattle.sg_words.specs.declared.steps.BlockWord.TheVariants.{Free, Swept}
-use Rattle.sg_space.specs.Standing.{block_in}
+use Rattle.sg_space.specs.Standing.{block_in, marks_in, page_in}
 use Rattle.sg_rules.specs.Rules.{Actor, fresh}
 use Rattle.sg_order.specs.Rest.{IsEpochOpening}
 use Rattle.sg_order.specs.Opening.{FirstOpening, AreFirstConstants, AreFirstWords}
@@ -64,22 +64,22 @@ shapes_fit p limits = record {
   fields = small_shapes p.classes limits.fields;
 }
 
+free_block : (n x : ℕ) → slice_index_or (replicate n Free) x Free ≡ Free
+free_block zero x = refl
+free_block (suc n) zero = refl
+free_block (suc n) (suc x) = free_block n x
+
 clear_word : (n x : ℕ) → let none : ℕ = 0 in get_or (replicate n none) x none ≡ none
 clear_word zero x = refl
 clear_word (suc n) zero = refl
 clear_word (suc n) (suc x) = clear_word n x
-
-clear_block : (n c : ℕ) → get_or (replicate n Free) c Free ≡ Free
-clear_block zero c = refl
-clear_block (suc n) zero = refl
-clear_block (suc n) (suc c) = clear_block n c
 
 first_words : (s : Contents) (shapes : List Shape) (sections : Layout) → s ≡ clear_space sections shapes → AreFirstWords (words_of s)
 first_words s shapes sections e = subst (λ t. AreFirstWords (words_of t)) (sym e) (record {
   stop = refl;
   next = refl;
   word = clear_word (words_end sections);
-  block = clear_block sections.blocks;
+  block = free_block sections.blocks;
   used = clear_word sections.blocks;
 })
 
@@ -143,12 +143,10 @@ module _ (law : FirstOpening) (p : Program) (can : CanRun p) (shapes : List Shap
         next = λ f l. let z : f ≡ 0 = omega arith in ap (λ (s : Contents). get_or s.next f 0) space ∙ ap (λ i. get_or (byte_at nursery_base ∷ []) i 0) z;
         limit = λ f l. let z : f ≡ 0 = omega arith in ap (λ (s : Contents). get_or s.ends f 0) space
             ∙ ap (λ i. get_or (byte_at (old_base (sections_in p)) ∷ []) i 0) z;
-        fits = λ c z i there e set.
-            let free : block_in s c ≡ Free = ap (λ (s : Contents). block_in s c) space ∙ clear_block p.config.blocks c in
-            absurd (let k : Free ≡ Swept z = sym free ∙ e in cc k);
-        unmarked = λ c. ap (λ (s : Contents). get_or s.marks c 0) space ∙ clear_word p.config.blocks c;
-        unowed = λ c there. refl;
-        pages = λ j. ap (λ (s : Contents). get_or s.pages j 0) space ∙ clear_word p.config.pages j;
+        fits = λ j z i l e q. absurd (let f : Free ≡ Swept z = sym (ap (λ (s : Contents). block_in s j) space ∙ free_block p.config.blocks j) ∙ e in cc f);
+        unmarked = λ j. ap (λ (s : Contents). marks_in s j) space ∙ clear_word p.config.blocks j;
+        unowed = λ j l. refl;
+        pages = λ j. ap (λ (s : Contents). page_in s j) space ∙ clear_word p.config.pages j;
         head = ap (λ (s : Contents). s.head) space;
         made = ap (λ (s : Contents). s.made) space;
         registered = ap (λ (s : Contents). s.registered) space;

@@ -66,9 +66,9 @@ asking_stage n stage statement e = absurd (cc e)
 module _ (stays : StaysReady) (is_sound : HeldIsSound) (whoever : HeldWhoever) (p : Program) (turns : List ℕ) (phases : List Phase) (old : Worldly)
     (schedule : Schedule)
     (between : IsBetween p turns phases old schedule) (t : Contents) (after : List Mutating) (next : Schedule)
-    (over : IsOver p between.graph between.book old.space old.mutators schedule t after next)
+    (over : IsOver p between.graph between.book old.space old.mutators schedule t after next) (contents : IsContents t)
     (report : EpochReport) (tells : Pairwise (TellsAt after) (going_in old.mutators) report.parts) (last : report.last ≡ true ↔ HaveEnded after)
-    (numbered : report.number ≡ old.number) (contents : IsContents t) where
+    (numbered : report.number ≡ old.number) where
   abbrev g : Graph
   g = between.graph
 

@@ -37,7 +37,7 @@ use Rattle.sg_mutate.specs.Epochs.{constants_of, parted, found_in, found_at, act
 use Rattle.sg_world.specs.Stopping.{held_by, held_in, HaveRegisters, IsOpen, CanGoOn, MayGoOn, GoOn}
 use Rattle.sg_world.specs.Worlds.{Worldly, CanRun, IsWorldOf, IsBetween, HasLeftReady, asked_of, requests_of, IsAtStop}
 use Rattle.sg_world.proofs.Lists.{pairwise_at, pairwise_at_right, pairwise_length, pairwise_by, joined_pairwise, sums_le, sums_less, some_at, asked_somewhere}
-use Rattle.sg_world.proofs.Heaps.{contents_stay, held_of_heap, ends_of_heap, addresses_of_heap, high}
+use Rattle.sg_world.proofs.Heaps.{held_of_heap, ends_of_heap, addresses_of_heap, high}
 use Rattle.sg_world.proofs.Paused.{AreAmong, none_among, own_among, ambiguous_are, ready_paused}
 use Rattle.sg_world.proofs.Onward.{IsReadyNow, IsFurther}
 use Rattle.sg_world.proofs.AllOnward.{HaveGoneOn, all_go}
@@ -168,7 +168,7 @@ module _ (keeps : KeepsPointedInto) (stays : StaysReady) (serves : ServesReady) 
       (λ m o d. sym (ap (asked_of o) d.stage ∙ asked_by_stage m o d.same.number d.same.first (ap (λ (a : Actor). a.told) d.actor) m.stage)) world.mutators os
       dropped)
 
-  module _ (services : List Service) (u : Contents) (ns : List Mutating) (go : GoOn p v os services u ns) (kept : KeepsSections v u) (fresh_contents : IsContents u)
+  module _ (services : List Service) (u : Contents) (ns : List Mutating) (go : GoOn p v os services u ns) (kept : KeepsSections v u)
       (stopped : u.stop ≡ 0) where
     all : HaveGoneOn p t.graph paused.book 0 os services u ns
     all = all_go serves makes p t.graph paused.book 0 v u os ns services go (record { contents = contents; plain = t.plain; heap = paused.heap })
@@ -275,7 +275,7 @@ module _ (keeps : KeepsPointedInto) (stays : StaysReady) (serves : ServesReady) 
         between : IsBetween p turns (phases ++ Epoch report order swept ∷ Stop (record { number = world.number; minor = Some minor; served = services }) ∷ [])
             (record { program = world.program; space = u; mutators = ns; number = world.number + 1 }) schedule
         between = record {
-          of = record { can = t.of.can; program = t.of.program; are = are; contents = fresh_contents; counted = counted; numbered = numbered };
+          of = record { can = t.of.can; program = t.of.program; are = are; contents = all.holding.contents; counted = counted; numbered = numbered };
           graph = all.graph;
           book = all.book;
           follows = subst (λ k. FollowsTo p turns k
@@ -293,7 +293,7 @@ module _ (keeps : KeepsPointedInto) (stays : StaysReady) (serves : ServesReady) 
               going = stopped;
               untold = each_actor (λ k a. a.told ≡ []) (λ k n e. (now k n e).untold) (λ k l. refl);
             };
-            space = record { contents = fresh_contents; layout = all.holding.heap.0.layout };
+            space = record { contents = all.holding.contents; layout = all.holding.heap.0.layout };
             are = are;
             stages = λ k n e. (now k n e).stage;
             going = λ ended. t.going (λ k l. sym (all.ended k) ∙ ended k l);

@@ -1,25 +1,41 @@
 -- The space of a world and the heap that it holds.
-use Rattle.std.proofs.Common.{◌≡◌, ℕ, ◌+◌, ◌<◌, ◌≤◌, List, length, get_or, Bool, true, false, inl, inr, refl, ap, sym, ◌∙◌, subst, arith}
+use Rattle.std.proofs.Common.{◌≡◌, ℕ, ◌<◌, ◌≤◌, Bool, List, length, get_or, true, false, inl, inr, refl, ap, sym, ◌∙◌, subst, arith}
 use Rattle.sg_words.specs.Address.{word_at}
-use Rattle.sg_words.specs.Sections.{IsLayout, words_end, nursery_base}
+use Rattle.std.specs.Int.{bit_at}
+use Rattle.std.proofs.lemmas.Bool.{cases_Bool}
+use Rattle.sg_words.specs.Blocks.{IsOwing}
+use Rattle.sg_words.specs.Sections.{nursery_base}
+use Rattle.sg_words.specs.declared.steps.BlockWord.{BlockWord}
+use Rattle.sg_words.specs.declared.steps.BlockWord.TheVariants.{Need}
 use Rattle.sg_words.specs.declared.layout.Layout.{Layout as Sections}
 use Rattle.sg_program.specs.declared.program.Program.{Program}
 use Rattle.sg_graph.specs.Graph.{Mutator, Graph}
 use Rattle.sg_graph.specs.Book.{Book}
 use Rattle.sg_graph.specs.Invariants.{IsPlain}
-use Rattle.std.specs.Int.{bit_at}
-use Rattle.std.proofs.lemmas.Bool.{cases_Bool, false≢true}
-use Rattle.sg_words.specs.Blocks.{IsOwing}
-use Rattle.sg_words.specs.declared.steps.BlockWord.{BlockWord}
-use Rattle.sg_words.specs.declared.steps.BlockWord.TheVariants.{Need}
 use Rattle.sg_minor.specs.Holding.{HoldsHeap}
-use Rattle.sg_minor.specs.Parts.{HoldsSome}
-use Rattle.sg_space.specs.Space.{Contents, words_of, AreShapes, IsContents, cards_in}
-use Rattle.sg_space.specs.Standing.{block_in, used_in}
+use Rattle.sg_space.specs.Space.{Contents, words_of}
+use Rattle.sg_space.specs.Standing.{block_in}
 use Rattle.sg_frag.specs.Plain.{KeepsSections}
 use Rattle.sg_order.specs.Rest.{IsHeld}
 use Rattle.sg_mutate.specs.Epochs.{constants_of, LeavesBlocks}
 use Rattle.sg_world.specs.Placing.{EndsInside, HasByteAddresses}
+
+pub keeps_same : (s : Contents) → KeepsSections s s
+keeps_same s = record {
+  layout = refl;
+  shapes = refl;
+  ends = refl;
+  next = refl;
+  words = refl;
+  blocks = refl;
+  used = refl;
+  cards = refl;
+  marks = refl;
+  pages = refl;
+  made = refl;
+  registered = refl;
+  pairs = refl;
+}
 
 pub keeps_then : (s t u : Contents) → KeepsSections s t → KeepsSections t u → KeepsSections s u
 keeps_then s t u f g = record {
@@ -38,23 +54,6 @@ keeps_then s t u f g = record {
   pairs = g.pairs ∙ f.pairs;
 }
 
-pub contents_stay : (s t : Contents) → KeepsSections s t → t.cards ≡ s.cards → IsContents s → IsContents t
-contents_stay s t keeps cards c = record {
-  layout = subst IsLayout (sym keeps.layout) c.layout;
-  shapes = subst AreShapes (sym keeps.shapes) c.shapes;
-  words = keeps.words ∙ c.words ∙ ap words_end (sym keeps.layout);
-  fragments = keeps.next ∙ c.fragments ∙ ap length (sym keeps.ends);
-  few = omega (arith, c.few, ap length keeps.ends);
-  blocks = keeps.blocks ∙ c.blocks ∙ ap (λ (l : Sections). l.blocks) (sym keeps.layout);
-  used = keeps.used ∙ c.used ∙ ap (λ (l : Sections). l.blocks) (sym keeps.layout);
-  marks = ap length keeps.marks ∙ c.marks ∙ ap (λ (l : Sections). l.blocks) (sym keeps.layout);
-  cards = keeps.cards ∙ c.cards ∙ ap cards_in (sym keeps.layout);
-  bits = λ j. let same = ap (λ (cards : List ℕ). get_or cards j 0) cards in let bit = c.bits j in omega arith;
-  pages = ap length keeps.pages ∙ c.pages ∙ ap (λ (l : Sections). l.pages) (sym keeps.layout);
-  made = let same = keeps.made in let most = c.made in omega arith;
-  registered = let same = ap length keeps.registered in let most = c.registered in omega arith;
-}
-
 pub constants_stay : (s t : Contents) → KeepsSections s t → constants_of t ≡ constants_of s
 constants_stay s t keeps = ap (λ (e : List ℕ). record { fragments = length e; limit = λ f. word_at (get_or e f 0) }) keeps.ends
 
@@ -70,8 +69,9 @@ held_of_heap p s g b plain holds = record {
   nexts = holds.0.next;
 }
 
-need_owed : (state : BlockWord) (z : ℕ) (owed : Bool) → state ≡ Need z → ((y : ℕ) → IsOwing state y → owed ≡ true) → owed ≡ false → ⊥
-need_owed state z owed e owing not = false≢true (sym not ∙ owing z (subst (λ (w : BlockWord). IsOwing w z) (sym e) refl))
+-- an owed block is still to be swept, and such a one was owed before
+not_owed : (state : BlockWord) (z : ℕ) (owed : Bool) → state ≡ Need z → ((y : ℕ) → IsOwing state y → owed ≡ true) → owed ≡ false → ⊥
+not_owed state z owed e owing not = let q : false ≡ true = sym not ∙ owing z (subst (λ (w : BlockWord). IsOwing w z) (sym e) refl) in cc q
 
 -- and as it ends, the space holds the graph that the words then hold
 pub heap_of_held : (p : Program) (s t : Contents) (g h : Graph) (b c : Book) → KeepsSections s t → LeavesBlocks s t → HoldsHeap p s g b →
@@ -86,12 +86,12 @@ heap_of_held p s t g h b c keeps leaves holds held = (
     limit = λ f l.
         let there : f < b.fragments = omega (arith, held.number, holds.0.fragments, ap length keeps.ends) in
         omega (arith, held.limits f l, holds.0.limit f there, ap (λ (ends : List ℕ). get_or ends f 0) keeps.ends);
-    fits = λ j z i there state set. holds.0.fits j z i there (sym (block_same j) ∙ state) (ap (λ (u : ℕ). bit_at u i) (sym (used_same j)) ∙ set);
+    fits = λ j z i l e q. holds.0.fits j z i l (was_block j ∙ e) (ap (λ (f : ℕ → ℕ). bit_at (f j) i) (sym leaves.used) ∙ q);
     unmarked = λ j. ap (λ (marks : List ℕ). get_or marks j 0) keeps.marks ∙ holds.0.unmarked j;
-    unowed = λ j there. elim (cases_Bool (c.owed j)) [
-      | inr no_debt ↦ no_debt
-      | inl debt ↦ let need = held.settled.owes j there debt in
-          absurd (need_owed (block_in s j) need.0 (b.owed j) (sym (block_same j) ∙ need.1) (holds.1.2.blocks.each j there).owing (holds.0.unowed j there))
+    unowed = λ j l. elim (cases_Bool (c.owed j)) [
+      | inl e ↦ let need = held.settled.owes j l e in
+          absurd (not_owed (block_in s j) need.0 (b.owed j) (was_block j ∙ need.1) (holds.1.2.blocks.each j l).owing (holds.0.unowed j l))
+      | inr e ↦ e
     ];
     pages = λ j. ap (λ (pages : List ℕ). get_or pages j 0) keeps.pages ∙ holds.0.pages j;
     head = leaves.head ∙ holds.0.head;
@@ -102,11 +102,8 @@ heap_of_held p s t g h b c keeps leaves holds held = (
   (held.owner, held.heap, held.settled),
 )
   where
-    block_same : (j : ℕ) → block_in t j ≡ block_in s j
-    block_same j = ap (λ (f : ℕ → BlockWord). f j) leaves.block
-
-    used_same : (j : ℕ) → used_in t j ≡ used_in s j
-    used_same j = ap (λ (f : ℕ → ℕ). f j) leaves.used
+    was_block : (j : ℕ) → block_in s j ≡ block_in t j
+    was_block j = ap (λ (f : ℕ → BlockWord). f j) (sym leaves.block)
 
 -- its fragments end in the nursery, and begin at words of it
 pub ends_of_heap : (p : Program) (s : Contents) (g : Graph) (b : Book) → HoldsHeap p s g b → EndsInside s
@@ -124,7 +121,7 @@ addresses_of_heap p s g b holds f l =
 
 -- the heap doesn't depend on what mutators have
 pub heap_on : (p : Program) (s : Contents) (g : Graph) (b : Book) (mutator : ℕ → Mutator) → HoldsHeap p s g b → HoldsHeap p s (record g { mutator = mutator }) b
-heap_on p s g b mutator holds = let laid = holds.1.1.laid in (
+heap_on p s g b mutator holds = let laid = holds.1.1.laid in let settled = holds.1.2 in (
   holds.0,
   (
     holds.1.0,
@@ -141,11 +138,11 @@ heap_on p s g b mutator holds = let laid = holds.1.1.laid in (
       headed = holds.1.1.headed;
     },
     record {
-      blocks = holds.1.2.blocks;
-      settled = holds.1.2.settled;
-      inhabited = holds.1.2.inhabited;
-      owes = holds.1.2.owes;
-      cards = record { dirty = holds.1.2.cards.dirty };
+      blocks = settled.blocks;
+      settled = settled.settled;
+      inhabited = settled.inhabited;
+      owes = settled.owes;
+      cards = record { dirty = settled.cards.dirty };
     },
   ),
 )
@@ -172,12 +169,15 @@ heap_stays p s t g b word e holds = subst (λ u. HoldsHeap p u g b) (sym e) (
   (
     holds.1.0,
     holds.1.1,
-    record { blocks = holds.1.2.blocks; settled = holds.1.2.settled; inhabited = holds.1.2.inhabited; owes = holds.1.2.owes; cards = holds.1.2.cards },
+    record {
+      blocks = holds.1.2.blocks;
+      settled = holds.1.2.settled;
+      inhabited = holds.1.2.inhabited;
+      owes = holds.1.2.owes;
+      cards = record { dirty = holds.1.2.cards.dirty };
+    },
   ),
 )
-
-pub some_stays : (s t : Contents) (word : ℕ) → t ≡ record s { stop = word } → HoldsSome s → HoldsSome t
-some_stays s t word e some = (some.0, some.1, some.2, heap_stays some.0 s t some.1 some.2 word e some.3, some.4)
 
 -- a standing object with a name has an address in the heap
 pub high : (p : Program) (s : Contents) (g : Graph) (b : Book) → HoldsHeap p s g b → (n : ℕ) → 1 ≤ n → b.stands n ≡ true → nursery_base ≤ b.address n

@@ -48,7 +48,7 @@ made_contents s class fields (At a) t is c = subst IsContents (sym is.after) (re
 made_contents s class fields Full t is c = subst IsContents (sym is.space) c
 made_contents s class fields answer t is c = absurd is
 
-serving_contents : (p : Program) (s : Contents) (statement : Statement) (answer : Answer) (t : Contents) → IsServing p s statement answer t → IsContents s →
+pub serving_contents : (p : Program) (s : Contents) (statement : Statement) (answer : Answer) (t : Contents) → IsServing p s statement answer t → IsContents s →
     IsContents t
 serving_contents p s (New r class) answer t is c = made_contents s class (fields_of p class) answer t is c
 serving_contents p s (NewV r class count) answer t is c = made_contents s class count answer t is c

@@ -18,7 +18,7 @@ use Rattle.sg_actor.specs.declared.mutator.Stage.TheVariants.{Asking}
 use Rattle.sg_actor.specs.State.{Mutating, asking_of, HasServed}
 use Rattle.sg_world.specs.Placing.{HasByteAddresses, HoldsNew, IsMade, IsServing}
 use Rattle.sg_world.specs.Stopping.{IsOpen, GoesOn}
-use Rattle.sg_world.proofs.Heaps.{contents_stay}
+use Rattle.sg_world.proofs.Onward.{serving_contents}
 
 new_bytes : (s : Contents) (class fields a : ℕ) (t : Contents) → HoldsNew s class fields t a → IsContents s → HasByteAddresses s → HasByteAddresses t
 new_bytes s class fields a t is c bytes f l =
@@ -52,21 +52,10 @@ served_bytes p s (NewV r class count) answer t is c bytes = made_bytes s class c
 served_bytes p s (Collect false) Fine t is c bytes = subst HasByteAddresses (sym is) bytes
 served_bytes p s statement answer t is c bytes = absurd is
 
-made_cards : (s : Contents) (class fields : ℕ) (answer : Answer) (t : Contents) → IsMade s class fields answer t → t.cards ≡ s.cards
-made_cards s class fields (At a) t is = ap (λ (x : Contents). x.cards) is.after
-made_cards s class fields Full t is = ap (λ (x : Contents). x.cards) is.space
-made_cards s class fields answer t is = absurd is
-
-served_cards : (p : Program) (s : Contents) (statement : Statement) (answer : Answer) (t : Contents) → IsServing p s statement answer t → t.cards ≡ s.cards
-served_cards p s (New r class) answer t is = made_cards s class (fields_of p class) answer t is
-served_cards p s (NewV r class count) answer t is = made_cards s class count answer t is
-served_cards p s (Collect false) Fine t is = ap (λ (x : Contents). x.cards) is
-served_cards p s statement answer t is = absurd is
-
 pub open_stays : (p : Program) (s : Contents) (statement : Statement) (answer : Answer) (t : Contents) → IsServing p s statement answer t → KeepsSections s t →
     IsOpen s → IsOpen t
 open_stays p s statement answer t is keeps o = record {
-  contents = contents_stay s t keeps (served_cards p s statement answer t is) o.contents;
+  contents = serving_contents p s statement answer t is o.contents;
   ends = λ f l.
       let inside = o.ends f (let e = ap length keeps.ends in omega arith) in
       let same : get_or t.ends f 0 ≡ get_or s.ends f 0 = ap (λ (ends : List ℕ). get_or ends f 0) keeps.ends in

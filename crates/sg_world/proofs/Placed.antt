@@ -6,16 +6,15 @@ use Rattle.sg_words.specs.Tags.{plain_word}
 use Rattle.sg_words.specs.Words.{put}
 use Rattle.sg_words.proofs.Puts.{put-at, put-other, within_range, range-in, range-below, range-above, range-keeps}
 use Rattle.sg_program.specs.declared.program.Program.{Program}
-use Rattle.std.specs.Int.{bit_at}
 use Rattle.sg_words.specs.Blocks.{card_of}
 use Rattle.sg_desc.specs.Shapes.{holds_reference, is_strong}
-use Rattle.sg_graph.specs.Blocks.{IsOldAt, IsTakenAt, AreSettled}
 use Rattle.sg_program.specs.Scripts.{kind_of, IsSizeOf, words_for}
 use Rattle.sg_graph.specs.Graph.{Entry, Ref, Int, Inner, Mutator, Graph, empty_field, grown}
-use Rattle.sg_graph.specs.Book.{Book, Young, Old, placed, nursery_end, slot_at, slot_words, word_of}
+use Rattle.sg_graph.specs.Book.{Book, Young, Old, placed, nursery_end, word_of, slot_at, slot_words}
+use Rattle.sg_graph.specs.Blocks.{IsOldAt, IsTakenAt, AreBlocks, AreCarded, AreSettled}
 use Rattle.sg_words.specs.Sections.{nursery_base, globals_base}
 use Rattle.sg_space.specs.Space.{Contents, words_of}
-use Rattle.sg_space.specs.Standing.{word, block_in, used_in}
+use Rattle.sg_space.specs.Standing.{word, block_in, used_in, marks_in}
 use Rattle.sg_graph.specs.Heap.{Owner, Of, Frag, Buf, IsHeaded, IsKnown, IsKnownEntry, IsOfSort, Nothing, Objects, Fields, layout_of, Globals, Clear, Fragments, Buffers, IsHeap}
 use Rattle.sg_minor.specs.Holding.{IsSpaceOf, HoldsHeap}
 
@@ -38,7 +37,8 @@ empty_cond P true r i = r
 empty_cond P false r i = i
 
 module _ (p : Program) (s : Contents) (g : Graph) (b : Book) (owner : ℕ → Owner) (sp : IsSpaceOf p s b) (heap : IsHeap p (word s) g b owner)
-    (settled : AreSettled p (words_of s) g b owner) (k class n f : ℕ) (mutator : ℕ → Mutator) (t : Contents) (known : class < length p.classes) (sized : IsSizeOf p class n) (there : f < b.fragments)
+    (settled : AreSettled p (words_of s) g b owner)
+    (k class n f : ℕ) (mutator : ℕ → Mutator) (t : Contents) (known : class < length p.classes) (sized : IsSizeOf p class n) (there : f < b.fragments)
     (fits : b.next f + words_for n ≤ b.limit f) (pl : HasPlaced s f (b.next f) (words_for n) class n t) where
   abbrev x : ℕ
   x = b.next f
@@ -88,12 +88,6 @@ module _ (p : Program) (s : Contents) (g : Graph) (b : Book) (owner : ℕ → Ow
 
   in_nursery : (nursery_base ≤ x) × (x + words_for n ≤ nursery_end p)
   in_nursery = let i = heap.laid.fragments.inside f there in (i.0, let u = i.2 in omega arith)
-
-  block_same : (j : ℕ) → block_in t j ≡ block_in s j
-  block_same j = ap (λ (z : Contents). block_in z j) pl.still
-
-  used_same : (j : ℕ) → used_in t j ≡ used_in s j
-  used_same j = ap (λ (z : Contents). used_in z j) pl.still
 
   -- a word that isn't free is as it was
   same_word : (y : ℕ) → (x ≤ y → y < x + words_for n → ⊥) → word t y ≡ word s y
@@ -241,7 +235,7 @@ module _ (p : Program) (s : Contents) (g : Graph) (b : Book) (owner : ℕ → Ow
     ];
   }
 
-  behind : (y : ℕ) → globals_base (layout_of p) ≤ y → word t y ≡ word s y
+  behind : (y : ℕ) → nursery_end p ≤ y → word t y ≡ word s y
   behind y l = let i = in_nursery in same_word y (λ p q. let u = i.1 in absurd (omega arith))
 
   globals' : Globals p (word t) h c
@@ -254,7 +248,7 @@ module _ (p : Program) (s : Contents) (g : Graph) (b : Book) (owner : ℕ → Ow
 
   clear' : Clear p (word t) owner'
   clear' = record {
-    large = λ y l q. let i = in_nursery in same_word y (λ u v. let w = i.1 in absurd (omega arith)) ∙ heap.laid.clear.large y l q;
+    large = λ y l q. behind y (omega arith) ∙ heap.laid.clear.large y l q;
     clear = λ y l q none.
         let out : x ≤ y → y < x + words_for n → ⊥ = λ i d. none new (range-in owner x (x + words_for n) (Of new) y i d) in
         same_word y out ∙ heap.laid.clear.clear y l q (λ m o. none m (owner_old m y o));
@@ -302,108 +296,91 @@ module _ (p : Program) (s : Contents) (g : Graph) (b : Book) (owner : ℕ → Ow
     | inr o ↦ headed_old m o (heap.headed m l o)
   ]
 
-  space' : IsSpaceOf p t c
-  space' =
-      let ends = ap (λ (z : Contents). z.ends) pl.still in
-      record {
-        layout = ap (λ (z : Contents). z.layout) pl.still ∙ sp.layout;
-        shapes = ap (λ (z : Contents). z.shapes) pl.still ∙ sp.shapes;
-        fragments = sp.fragments ∙ ap length (sym ends);
-        same = pl.nexts ∙ sp.same ∙ ap length (sym ends);
-        next = λ i l. elim (cases_eq i f) [
-          | inl e ↦ ap (slice_index t.next) e ∙ pl.next ∙ sym (ap byte_at (next_f i e))
-          | inr d ↦ pl.other i d ∙ sp.next i l ∙ sym (ap byte_at (next_other i d))
-        ];
-        limit = λ i l. ap (λ ends. slice_index ends i) ends ∙ sp.limit i l;
-        fits = λ j z i l state set. sp.fits j z i l (sym (block_same j) ∙ state) (ap (λ (u : ℕ). bit_at u i) (sym (used_same j)) ∙ set);
-        unmarked = λ j. ap (λ (z : Contents). slice_index z.marks j) pl.still ∙ sp.unmarked j;
-        unowed = sp.unowed;
-        pages = λ j. ap (λ (z : Contents). slice_index z.pages j) pl.still ∙ sp.pages j;
-        head = ap (λ (z : Contents). z.head) pl.still ∙ sp.head;
-        made = ap (λ (z : Contents). z.made) pl.still ∙ sp.made;
-        registered = ap (λ (z : Contents). z.registered) pl.still ∙ sp.registered;
-        pairs = ap (λ (z : Contents). z.pairs) pl.still ∙ sp.pairs;
-      }
-
-  -- the old objects and their blocks are as they were
-  not_young : (m : ℕ) → c.stands m ≡ true → c.section m ≡ Old → b.stands m ≡ true
-  not_young m q o = elim (old_or_new m q) [
-    | inl e ↦ absurd (let z : Young ≡ Old = sym (put-at b.section new Young m e) ∙ o in cc)
-    | inr q ↦ q
-  ]
-
-  slot_old : (m : ℕ) → b.stands m ≡ true → slot_words (h.size m) ≡ slot_words (g.size m)
-  slot_old m q = ap slot_words (size_old m q)
-
+  -- an old object is where it was
   old_at : (m y z : ℕ) → IsOldAt g.size b.stands b.address b.section m y z → IsOldAt h.size c.stands c.address c.section m y z
   old_at m y z o = record {
     some = o.some;
     standing = stands_old m o.standing;
     old = section_old m o.standing ∙ o.old;
     at = at_old m o.standing ∙ o.at;
-    sized = slot_old m o.standing ∙ o.sized;
+    sized = ap slot_words (size_old m o.standing) ∙ o.sized;
   }
 
-  -- a word behind the nursery is as it was
-  old_word : (y : ℕ) → nursery_end p ≤ y → word t y ≡ word s y
-  old_word y l = let i = in_nursery in same_word y (λ u v. let w = i.1 in absurd (omega arith))
+  not_old : (m : ℕ) → m ≡ new → c.section m ≡ Old → ⊥
+  not_old m e old = let q : Young ≡ Old = sym (put-at b.section new Young m e) ∙ old in cc q
 
-  settled' : AreSettled p (record (words_of s) { word = word t }) h c owner'
+  taken_old : (m j : ℕ) → b.stands m ≡ true → IsTakenAt p (marks_in s j) (b.address m) (slot_words (g.size m)) j (block_in s j) (used_in s j) →
+      IsTakenAt p (marks_in s j) (c.address m) (slot_words (h.size m)) j (block_in s j) (used_in s j)
+  taken_old m j o i = subst (λ a. IsTakenAt p (marks_in s j) a (slot_words (h.size m)) j (block_in s j) (used_in s j)) (sym (at_old m o))
+      (subst (λ z. IsTakenAt p (marks_in s j) (b.address m) (slot_words z) j (block_in s j) (used_in s j)) (sym (size_old m o)) i)
+
+  blocks' : AreBlocks p (words_of s).marks (words_of s).block (words_of s).used (word t) h.size c.stands c.address c.section c.owed owner'
+  blocks' = record {
+    placed = λ m l q old. elim (old_or_new m q) [
+      | inl e ↦ absurd (not_old m e old)
+      | inr o ↦ let i = settled.blocks.placed m l o (sym (section_old m o) ∙ old) in (i.0, i.1, taken_old m i.0 o i.2)
+    ];
+    each = λ j l. let e = settled.blocks.each j l in record {
+      filled = λ z i of fits bit. let f = e.filled z i of fits bit in (f.0, old_at f.0 (slot_at p j z i) z f.1);
+      bare = e.bare;
+      owing = e.owing;
+      kept = e.kept;
+    };
+    clear = λ j l y from to none waste. behind y (omega arith) ∙ settled.blocks.clear j l y from to (λ m o. none m (owner_old m y o)) waste;
+    sized = settled.blocks.sized;
+  }
+
+  -- a young object to which an old one refers stood before
+  cards' : AreCarded p (words_of s).card h c
+  cards' = record {
+    dirty = λ m i r l q old below strong refers some young. elim (old_or_new m q) [
+      | inl e ↦ absurd (not_old m e old)
+      | inr o ↦
+          let size = size_old m o in
+          let within : i < g.size m = omega arith in
+          let ref : g.field m i ≡ Ref r = sym (field_old m i o) ∙ refers in
+          let there : IsKnownEntry (word s) g b (Ref r) = subst (IsKnownEntry (word s) g b) ref (heap.laid.fields.known m i o within) in
+          let before : is_strong (kind_of p (g.class m)) i (g.size m) ≡ true =
+          sym (λ j. is_strong (kind_of p (class_old m o j)) i (size_old m o j)) ∙ strong in
+          ap (λ a. (words_of s).card (card_of (layout_of p) (a + 2 + i))) (at_old m o)
+          ∙ settled.cards.dirty m i r l o (sym (section_old m o) ∙ old) within before ref some (sym (section_old r there.0) ∙ young)
+    ];
+  }
+
+  settled' : AreSettled p (words_of (record s { words = t.words; next = t.next })) h c owner'
   settled' = record {
-    blocks = record {
-      placed = λ m l q o.
-          let q' = not_young m q o in
-          let k = settled.blocks.placed m l q' (sym (section_old m q') ∙ o) in
-          (k.0, k.1, subst (λ (z : ℕ). IsTakenAt p (slice_index s.marks k.0) (c.address m) z k.0 (block_in s k.0) (used_in s k.0)) (sym (slot_old m q'))
-          (subst (λ (a : ℕ). IsTakenAt p (slice_index s.marks k.0) a (slot_words (g.size m)) k.0 (block_in s k.0) (used_in s k.0)) (sym (at_old m q')) k.2));
-      each = λ j l.
-          let is = settled.blocks.each j l in
-          record {
-            filled = λ z i of fits_it taken. let m = is.filled z i of fits_it taken in (m.0, old_at m.0 (slot_at p j z i) z m.1);
-            bare = is.bare;
-            owing = is.owing;
-            kept = is.kept;
-          };
-      clear = λ j l y from to none dirty. old_word y (omega arith) ∙ settled.blocks.clear j l y from to (λ m o. none m (owner_old m y o)) dirty;
-      sized = settled.blocks.sized;
-    };
+    blocks = blocks';
     settled = settled.settled;
-    inhabited = λ j z l e.
-        let m = settled.inhabited j z l e in
-        let at = at_old m.0 m.2 in
-        (m.0, m.1, stands_old m.0 m.2, (let low = m.3 in omega arith), (let high = m.4 in omega arith));
+    inhabited = λ j z l e. let i = settled.inhabited j z l e in
+        let at = at_old i.0 i.2 in let from = i.3 in let to = i.4 in (i.0, i.1, stands_old i.0 i.2, omega arith, omega arith);
     owes = settled.owes;
-    cards = record {
-      dirty = λ m i k l q o within strong ref some young.
-          let q' = not_young m q o in
-          let size = size_old m q' in
-          let class_is = class_old m q' in
-          let within' : i < g.size m = omega arith in
-          let ref' : g.field m i ≡ Ref k = sym (field_old m i q') ∙ ref in
-          let target = known_ref (g.field m i) k ref' (heap.laid.fields.known m i q' within') in
-          ap (λ (a : ℕ). slice_index s.cards (card_of (layout_of p) (a + 2 + i))) (at_old m q')
-          ∙ settled.cards.dirty m i k l q' (sym (section_old m q') ∙ o) within'
-          (ap (λ (z : ℕ). is_strong (kind_of p z) i (g.size m)) (sym class_is) ∙ ap (λ (z : ℕ). is_strong (kind_of p (h.class m)) i z) (sym size) ∙ strong)
-          ref' some (sym (section_old k target) ∙ young);
-    };
+    cards = cards';
   }
-    where
-      known_ref : (e : Entry) (k : ℕ) → e ≡ Ref k → IsKnownEntry (word s) g b e → b.stands k ≡ true
-      known_ref e k is q = (subst (IsKnownEntry (word s) g b) is q).0
 
-  -- by the space's own words
-  settled_on : AreSettled p (words_of t) h c owner'
-  settled_on = subst (λ (z : Contents). AreSettled p (record (words_of z) { word = word t }) h c owner') (sym pl.still) (record {
-    blocks = settled'.blocks;
-    settled = settled'.settled;
-    inhabited = settled'.inhabited;
-    owes = settled'.owes;
-    cards = settled'.cards;
-  })
+  space' : IsSpaceOf p (record s { words = t.words; next = t.next }) c
+  space' = record {
+    layout = sp.layout;
+    shapes = sp.shapes;
+    fragments = sp.fragments;
+    same = pl.nexts ∙ sp.same;
+    next = λ i l. elim (cases_eq i f) [
+      | inl e ↦ ap (slice_index t.next) e ∙ pl.next ∙ sym (ap byte_at (next_f i e))
+      | inr d ↦ pl.other i d ∙ sp.next i l ∙ sym (ap byte_at (next_other i d))
+    ];
+    limit = sp.limit;
+    fits = sp.fits;
+    unmarked = sp.unmarked;
+    unowed = sp.unowed;
+    pages = sp.pages;
+    head = sp.head;
+    made = sp.made;
+    registered = sp.registered;
+    pairs = sp.pairs;
+  }
 
   -- the space holds the graph with the new object
   pub holds_placed : HoldsHeap p t h c
-  holds_placed = (
+  holds_placed = subst (λ u. HoldsHeap p u h c) (sym pl.still) (
     space',
     (
       owner',
@@ -415,16 +392,11 @@ module _ (p : Program) (s : Contents) (g : Graph) (b : Book) (owner : ℕ → Ow
           globals = globals';
           clear = clear';
           fragments = fragments';
-          buffers = buffers';
+          buffers =
+              buffers';
         };
         headed = headed';
       },
-      record {
-        blocks = settled_on.blocks;
-        settled = settled_on.settled;
-        inhabited = settled_on.inhabited;
-        owes = settled_on.owes;
-        cards = settled_on.cards;
-      },
+      settled',
     ),
   )

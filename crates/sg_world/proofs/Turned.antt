@@ -76,7 +76,7 @@ module _ (p : Program) (s : Contents) (g : Graph) (b : Book) (contents : IsConte
 
     has_placed : HasPlaced s fragment x n class fields t
     has_placed = record {
-      still = is.after ∙ ap (λ (z : Contents). record s { words = z.words; next = z.next }) (sym is.after);
+      still = is.after ∙ sym (λ i. record s { words = (is.after i).words; next = (is.after i).next });
       nexts = ap (λ (s : Contents). length s.next) is.after ∙ length-set s.next fragment (a + byte_at n);
       next = ap (λ (s : Contents). get_or s.next fragment 0) is.after
           ∙ get_or-set_same s.next fragment (a + byte_at n) 0 (omega (arith, holds.0.same, is.there)) ∙ omega (arith, at);

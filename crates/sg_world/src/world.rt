@@ -83,7 +83,7 @@ impl<'a> World<'a> {
         held_whoever();
         let ran = going(alloc, self.mutators.as_slice())?;
         let end = epoch(alloc, self.space, self.mutators, order)?;
-        let _layout = end.space.layout();
+        let _ = end.space.layout();
         let report = epoch_report(alloc, self.number, ran.as_slice(), end.mutators.as_slice())?;
         let world = World {
             program: self.program,
@@ -126,6 +126,13 @@ impl<'a> World<'a> {
             number: self.number + 1,
         };
         Ok((world, report))
+    }
+
+    /// The space as it is, for a caller that looks into it. Nothing goes on in this world any more.
+    pub fn into_space(self) -> Space
+        ensures { result ≡ self.entry.space }
+    {
+        self.space
     }
 
     /// Whether every mutator has ended.

@@ -4,7 +4,7 @@ use Rattle.sg_graph.specs.declared.reports.Service.{Service}
 use Rattle.sg_world.specs.Stopping.{MayGoOn, GoOn}
 use Rattle.sg_world.specs.Stopping.GoOn.{Nobody}
 use Rattle.sg_world.proofs.AllOnward.{go_step}
-use Rattle.sg_world.proofs.Heaps.{keeps_then}
+use Rattle.sg_world.proofs.Heaps.{keeps_same, keeps_then}
 use Rattle.sg_world.proofs.Lists.{next_same, rest_more}
 use Rattle.sg_world.proofs.stop.serve_all.Goals.{in-Some+in_ok-push-in-Some, in-None}
 use Rattle.sg_world.proofs.stop.serve_all.Goals as goal
@@ -15,21 +15,7 @@ loop-k-init c = record {
       (Nobody c.args.space.now);
   rest = refl;
   still = c.requires.open;
-  keeps = record {
-    layout = refl;
-    shapes = refl;
-    ends = refl;
-    next = refl;
-    words = refl;
-    blocks = refl;
-    used = refl;
-    cards = refl;
-    marks = refl;
-    pages = refl;
-    made = refl;
-    registered = refl;
-    pairs = refl;
-  };
+  keeps = keeps_same c.args.space.now;
   stop = refl;
 }
 

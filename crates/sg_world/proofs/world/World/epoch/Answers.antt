@@ -53,4 +53,4 @@ returns-clause-comes c p turns phases is =
     subst (λ (ms : List Mutating). (report.last ≡ true) ↔ HaveEnded ms) c.as_slice-3.ensures c.in_ok-report.ensures.last in
     comes c.stays_ready.ensures c.held_is_sound.ensures c.held_whoever.ensures p turns phases old c.args.order.now b c.in_ok-end.end.space
     c.in_ok-end.end.mutators c.epoch.new.order
-    over report tells last c.in_ok-report.ensures.number c.layout-layout.ensures.contents
+    over c.layout.ensures.contents report tells last c.in_ok-report.ensures.number

@@ -79,7 +79,7 @@ returns-clause-between c p turns phases report order swept schedule at =
     order swept world schedule t
     c.in_ok-space.space c.in_ok-space.minor (c.in_ok-space.ensures.paused p t.graph t.book t.holds t.plain) c.in_ok-space.ensures.contents
     c.in_ok-space.ensures.registers
-    os c.in_ok-space.ensures.dropped c.in_ok-served.served c.serve_all.new.space ns go c.in_ok-served.ensures.keeps c.in_ok-served.ensures.contents
+    os c.in_ok-space.ensures.dropped c.in_ok-served.served c.serve_all.new.space ns go c.in_ok-served.ensures.keeps
     (c.in_ok-served.ensures.stop ∙ c.in_ok-space.ensures.going)
     (record { program = c.self.inside.program.now; space = c.serve_all.new.space; mutators = c.from_vec.result; number = c.self.inside.number + 1 }) refl refl
     after refl
