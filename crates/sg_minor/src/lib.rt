@@ -9,6 +9,7 @@ mod slots;
 pub use join::join_law;
 pub use law::{heap_law, pause_law};
 pub use pause::minor;
+pub use slots::first_slots;
 pub use sg_nursery::build;
 
 #[cfg(test)]
