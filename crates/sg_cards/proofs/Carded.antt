@@ -64,7 +64,7 @@ module _ (law : PlacingLaw) (s : Contents) (c size mask : ℕ) (sound_is : IsSou
   at_slot owner sound i z fits low high q =
       let e = is.block_is in
       let at = law.in_slot s owner sound is.block size i z q.field.front there is.sized fits
-          (subst (λ (b : ℕ). slot_base s.layout b size i ≤ z) (sym e) low) (subst (λ (b : ℕ). z < slot_base s.layout b size i + size) (sym e) high) (seed_owner s owner sound z q) in
+      (subst (λ (b : ℕ). slot_base s.layout b size i ≤ z) (sym e) low) (subst (λ (b : ℕ). z < slot_base s.layout b size i + size) (sym e) high) (seed_owner s owner sound z q) in
       (at.0 ∙ ap (λ (b : ℕ). slot_base s.layout b size i) e, is.bits i ∙ at.1)
 
   next_slot : (i : ℕ) → slot_base s.layout (c / 4) size i + size ≡ slot_base s.layout (c / 4) size (i + 1)

@@ -3,3 +3,5 @@ pub mod Scanning
 pub mod Objects
 pub mod Scans
 pub mod Carded
+pub mod Seeding
+pub mod Cleaned

@@ -68,11 +68,11 @@ module _ (layout : Layout) (shapes : List Shape) (count : ℕ) (f : ℕ → ℕ)
         within = subst (λ (l : Layout). front + 2 + word s (front + 1) ≤ globals_base l) are.words.layout_is (omega arith);
         few = slice_get_within shapes o.class o.shape shape_is;
         small = (
-          let nursery = are.words.contents.layout.nursery_most in
-          let blocks = are.words.contents.layout.blocks_most in
-          let pages = are.words.contents.layout.pages in
-          omega arith
-        );
+            let nursery = are.words.contents.layout.nursery_most in
+            let blocks = are.words.contents.layout.blocks_most in
+            let pages = are.words.contents.layout.pages in
+            omega arith
+            );
         count_is = are.words.count_is;
       }
 
@@ -113,8 +113,7 @@ module _ (layout : Layout) (shapes : List Shape) (count : ℕ) (f : ℕ → ℕ)
         let length_same : word s (q.front + 1) ≡ word s (front + 1) = ap (λ (k : ℕ). word s (k + 1)) same in
         let class_same : q.class ≡ class = tag_once q.class class (word s front) (subst (λ (k : ℕ). word s k ≡ plain_word q.class) same q.tag) tag in
         let shape_q = subst (λ (xs : List Shape). slice_get xs q.class ≡ Some q.shape) are.words.shapes_are q.shape_is in
-        let shape_same : q.shape ≡ shape = same_Some q.shape shape (sym (subst (λ (k : ℕ). slice_get shapes k ≡ Some q.shape) class_same shape_q) ∙ shape_is) in
-        (
+        let shape_same : q.shape ≡ shape = same_Some q.shape shape (sym (subst (λ (k : ℕ). slice_get shapes k ≡ Some q.shape) class_same shape_q) ∙ shape_is) in (
           q.field,
           at ∙ ap (λ (k : ℕ). k + 2 + q.field) same,
           subst (λ (n : ℕ). q.field < n) length_same within,

@@ -37,8 +37,7 @@ module _ (layout : Layout) (shapes : List Shape) (count : ℕ) (f : ℕ → ℕ)
   seed_field owner sound z low high seed =
       let n = length_is in
       let q = seed_of layout shapes count f s front are old owner sound read.class read.shape read.shape_is read.tag_in z low (omega arith) seed in
-      let within = q.2 in
-      (
+      let within = q.2 in (
         q.0,
         q.1,
         omega arith,
@@ -96,9 +95,9 @@ module _ (layout : Layout) (shapes : List Shape) (count : ℕ) (f : ℕ → ℕ)
       scanned_seed from to room young =
           let n = length_is in
           let seed = λ (owner : ℕ → Option ℕ) (sound : IsSoundBy s owner).
-              seed_at layout shapes count f s front are old owner sound read.class i read.shape read.shape_is read.tag_in (omega arith)
-              (subst (λ (m : ℕ). is_strong read.shape.kind i m ≡ true) n (subst (λ (x : Descriptor). is_strong x i fields ≡ true) kind_same strong))
-              (subst (λ (u : ℕ). IsYoungWord s.layout u) value_is (subst (λ (m : Layout). IsYoungWord m v) (sym are.words.layout_is) young)) in
+          seed_at layout shapes count f s front are old owner sound read.class i read.shape read.shape_is read.tag_in (omega arith)
+          (subst (λ (m : ℕ). is_strong read.shape.kind i m ≡ true) n (subst (λ (x : Descriptor). is_strong x i fields ≡ true) kind_same strong))
+          (subst (λ (u : ℕ). IsYoungWord s.layout u) value_is (subst (λ (m : Layout). IsYoungWord m v) (sym are.words.layout_is) young)) in
           let set = scanned_set s c found (front + 2 + i) h (omega arith) (omega arith) room v value_is seed in
           let after = subst (λ (k : ℕ). IsScannedTo s c (slice_set found (front + 2 + i - k) v) (front + 2 + i + 1)) (sym at) set in
           let step : front + 2 + i + 1 ≡ front + 2 + (i + 1) = omega arith in

@@ -2,21 +2,22 @@ ghost use Rattle.std.specs.Prelude.{◌≡◌, ◌+◌, ◌*◌, ◌<◌, ◌≤
 ghost use Rattle.sg_words.specs.Sections.{old_base};
 ghost use Rattle.sg_space.specs.Space.{Contents, cards_in};
 ghost use Rattle.sg_space.specs.Standing.{IsSoundBy};
+ghost use Rattle.sg_cards.specs.Numbering.{cards_from};
 ghost use Rattle.sg_cards.specs.Seeds.{AreSeeds, AreCarded};
 ghost use Rattle.sg_cards.specs.Scanned.{AreSoundWords, AreSeedsTo, card_base};
 
 use crate::found::{Seed, Seeds};
 use crate::scan::{CARD_WORDS, young_in};
 use crate::steps::Steps;
-use crate::words::{Words, cards, cards_number};
+use crate::words::{Words, cards_number, cards_of};
 use sg_desc::Shape;
 use sg_words::{Addr, Layout};
 use std::alloc::{AllocError, Global};
 use std::sync::ledger::Ledger;
 
 /// The strong fields of standing old and large objects that hold young references, by address, each with what it holds. The words are those of a
-/// sound space, and each such field has a dirty card. Reads each card's word once, and of a dirty card's words each at most once, beside at most 5
-/// others.
+/// sound space, and each such field has a dirty card. Reads the words of the cards in the range of the dirty ones, each once, and of a dirty card's
+/// words each at most once, beside at most 5 others.
 pub fn seeds<W: Words, L: Ledger>(
     alloc: Global,
     words: &W,
@@ -28,14 +29,18 @@ pub fn seeds<W: Words, L: Ledger>(
     ensures { IfOk result (λ seeds. (s : Contents) (owner : ℕ → Option ℕ) → AreSoundWords layout.now shapes.now (W.count words.now) (W.word_of words.now) s → AreCarded s → IsSoundBy s owner → AreSeeds s owner seeds) }
 {
     let mut items = Vec::new(alloc);
-    for block in 0..layout.blocks {
+    let cards = cards_of(layout);
+    let (from, to) = words.range_of_dirty(cards_number(layout), cards, steps);
+    let first_block = (from / 4).min(layout.blocks);
+    let end_block = ((to + 3) / 4).min(layout.blocks);
+    for block in first_block..end_block {
         add_block(words, layout, shapes, block, &mut items, steps)?;
     }
-    for card in 4 * layout.blocks..cards(layout) {
-        let number = cards_number(layout) + card as u64;
-        if words.word(number, steps) != 0 {
-            add_card(words, layout, shapes, card, &mut items, steps)?;
-        }
+    let first = (4 * layout.blocks).max(from);
+    let end = to.max(first);
+    for card in first..end {
+        let word = words.word(cards_number(layout) + card as u64, steps);
+        add_dirty(words, layout, shapes, card, word, &mut items, steps)?;
     }
     Ok(Seeds::of(items))
 }
@@ -55,20 +60,41 @@ fn add_block<W: Words, L: Ledger>(
     ensures { IfOk result (λ _. (s : Contents) → AreSoundWords layout.now shapes.now (W.count words.now) (W.word_of words.now) s → AreCarded s → AreSeedsTo s items.old.items (card_base layout.now (4 * block)) →
         AreSeedsTo s items.new.items (card_base layout.now (4 * (block + 1)))) }
 {
-    let number = cards_number(layout) + 4 * block as u64;
-    let dirty = [
-        words.word(number, steps),
-        words.word(number + 1, steps),
-        words.word(number + 2, steps),
-        words.word(number + 3, steps),
-    ];
-    if dirty[0] | dirty[1] | dirty[2] | dirty[3] == 0 {
+    let card = 4 * block;
+    let number = cards_number(layout) + card as u64;
+    let first = words.word(number, steps);
+    let second = words.word(number + 1, steps);
+    let third = words.word(number + 2, steps);
+    let fourth = words.word(number + 3, steps);
+    if first | second | third | fourth == 0 {
         return Ok(());
     }
-    for k in 0..4 {
-        if dirty[k as usize] != 0 {
-            add_card(words, layout, shapes, 4 * block + k, items, steps)?;
-        }
+    add_dirty(words, layout, shapes, card, first, items, steps)?;
+    add_dirty(words, layout, shapes, card + 1, second, items, steps)?;
+    add_dirty(words, layout, shapes, card + 2, third, items, steps)?;
+    add_dirty(words, layout, shapes, card + 3, fourth, items, steps)?;
+    Ok(())
+}
+
+// Adds the seeds of a card with this word, where it is dirty.
+#[inline]
+fn add_dirty<W: Words, L: Ledger>(
+    words: &W,
+    layout: &Layout,
+    shapes: &[Shape],
+    card: u32,
+    word: u64,
+    items: &mut Vec<Seed>,
+    steps: &mut Steps<L>,
+) -> Result<(), AllocError>
+    requires sound { (s : Contents) × AreSoundWords layout.now shapes.now (W.count words.now) (W.word_of words.now) s × AreCarded s }
+    requires card { card < cards_in layout.now }
+    requires word { word ≡ W.word_of words.now (cards_from layout.now + card) }
+    ensures { IfOk result (λ _. (s : Contents) → AreSoundWords layout.now shapes.now (W.count words.now) (W.word_of words.now) s → AreCarded s → AreSeedsTo s items.old.items (card_base layout.now card) →
+        AreSeedsTo s items.new.items (card_base layout.now (card + 1))) }
+{
+    if word != 0 {
+        add_card(words, layout, shapes, card, items, steps)?;
     }
     Ok(())
 }

@@ -1,4 +1,4 @@
-ghost use Rattle.std.specs.Prelude.{◌≡◌, ◌+◌, ◌<◌, ◌≤◌, ℕ};
+ghost use Rattle.std.specs.Prelude.{◌≡◌, ◌+◌, ◌<◌, ◌≤◌, ◌⊎◌, ℕ};
 ghost use Rattle.sg_words.specs.Sections.{IsLayout};
 ghost use Rattle.sg_space.specs.Space.{cards_in};
 ghost use Rattle.sg_cards.specs.Numbering.{cards_from, blocks_from, pages_from, numbers_end, of_block, numbered};
@@ -23,6 +23,15 @@ pub trait Words {
         requires { i < count self.now }
         ensures value { result ≡ word_of self.now i }
         ensures step { steps.new ≡ steps.old + 1 };
+
+    /// Of this many words from number `first` on, the first, and the one behind the last, of a range outside of which each is 0, counted from
+    /// `first`: one step.
+    fn range_of_dirty<L: Ledger>(&self, first: u64, cards: u32, steps: &mut Steps<L>) -> (u32, u32)
+        requires { first + cards ≤ count self.now }
+        ensures order { result.0 ≤ result.1 }
+        ensures within { result.1 ≤ cards }
+        ensures clean { (c : ℕ) → c < cards → (c < result.0) ⊎ (result.1 ≤ c) → word_of self.now (first + c) ≡ 0 }
+        ensures step { steps.new ≡ steps.old + 1 };
 }
 
 /// The number of the first card's word.
@@ -36,7 +45,7 @@ pub(crate) fn cards_number(layout: &Layout) -> u64
 
 /// How many cards there are.
 #[inline]
-pub(crate) fn cards(layout: &Layout) -> u32
+pub(crate) fn cards_of(layout: &Layout) -> u32
     requires { IsLayout layout.now }
     ensures { result ≡ cards_in layout.now }
 {
@@ -48,7 +57,7 @@ pub(crate) fn blocks_number(layout: &Layout) -> u64
     requires { IsLayout layout.now }
     ensures { result ≡ blocks_from layout.now }
 {
-    cards_number(layout) + cards(layout) as u64
+    cards_number(layout) + cards_of(layout) as u64
 }
 
 /// The number of the first page's word.
@@ -76,6 +85,17 @@ impl Words for Space {
             self.dirty((i - first) as u32) as u64
         } else {
             word_behind(self, &layout, i)
+        }
+    }
+
+    // By the range that the space keeps.
+    fn range_of_dirty<L: Ledger>(&self, first: u64, cards: u32, steps: &mut Steps<L>) -> (u32, u32) {
+        steps.tick();
+        let layout = self.layout();
+        if first == cards_number(&layout) && cards == cards_of(&layout) {
+            self.dirty_range()
+        } else {
+            (0, cards)
         }
     }
 }

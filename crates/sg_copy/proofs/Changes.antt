@@ -29,7 +29,8 @@ still_words s t x v e = subst (IsStillBeside s) (sym e) (record { same = refl; w
 
 words_then : (s t : Contents) (cells : List ℕ) (x v : ℕ) → x < length s.words → t ≡ record s { words = slice_set s.words x v } →
     words_with t cells ≡ record (words_with s cells) { word = put (word s) x v }
-words_then s t cells x v l e = ap (λ (c : Contents). words_with c cells) e ∙ ap (λ (f : ℕ → ℕ). record (words_with s cells) { word = f }) (put_set s.words x v 0 l)
+words_then s t cells x v l e = ap (λ (c : Contents). words_with c cells) e ∙ ap (λ (f : ℕ → ℕ). record (words_with s cells) { word = f })
+    (put_set s.words x v 0 l)
 
 pub leads_store : (s t : Contents) (cells : List ℕ) (x v : ℕ) → x < length s.words → t ≡ record s { words = slice_set s.words x v } →
     LeadsOn s cells (Store (Word x) v ∷ []) t cells
@@ -64,7 +65,8 @@ leads_claim s t cells b i found l is e = record {
   words = ap (λ (c : Contents). words_with c cells) e ∙
       ap (λ (f : ℕ → ℕ). record (words_with s cells) { used = f }) (put_set s.used b (bit_or found (2 ^ i)) 0 l) ∙
       ap (λ (v : ℕ). record (words_with s cells) { used = put (used_in s) b (bit_or v (2 ^ i)) }) (sym is);
-  still = subst (IsStillBeside s) (sym e) (record { same = refl; words = refl; cards = refl; blocks = refl; used = length-set s.used b (bit_or found (2 ^ i)) });
+  still = subst (IsStillBeside s) (sym e)
+      (record { same = refl; words = refl; cards = refl; blocks = refl; used = length-set s.used b (bit_or found (2 ^ i)) });
   as_many = refl;
 }
 

@@ -24,7 +24,8 @@ use Rattle.sg_copy.specs.State.{Copying, slots_in_hand, teller_of, worker_of, se
 use Rattle.sg_copy.specs.Turning.{IsNextOf, HasBegun}
 use Rattle.sg_copy.specs.declared.copier.Stage.TheVariants.{Between}
 use Rattle.sg_copy.proofs.Handled.{seat_same, same_then, idle_is, on_as}
-use Rattle.sg_copy.proofs.Ports.{Ports, On, Gone, Started, Did, may_at, did_at, may_now, saw_now, on_now, on_then, one_step, started, started_then, gone_then, gone_started}
+use Rattle.sg_copy.proofs.Ports.{Ports, On, Gone, Started, Did, may_at, did_at, may_now, saw_now, on_now, on_then, one_step, started, started_then}
+use Rattle.sg_copy.proofs.Ports.{gone_then, gone_started}
 use Rattle.sg_copy.proofs.Seen.{saw_at}
 
 -- the next item of a sane worker is sane
@@ -34,7 +35,8 @@ next_sane area team most k _ _ _ (Of_list a item rest) sane = sane.list.0
 next_sane area team most k _ _ _ (Of_cell a item) sane = sane.at.0
 
 -- the slots of the object that was taken in hand
-pub hand_taken : (c d : Copying) (whole first n : ℕ) → TakesInHand c whole first n d → slots_in_hand d.hand ≡ slots_by (area_by c.layout c.shapes) (class_of first) whole n
+pub hand_taken : (c d : Copying) (whole first n : ℕ) → TakesInHand c whole first n d →
+    slots_in_hand d.hand ≡ slots_by (area_by c.layout c.shapes) (class_of first) whole n
 hand_taken c d whole first n h =
     let strong = (area_by c.layout c.shapes).strong (class_of first) in
     ap (λ (f : ℕ → Bool). strong_slots f d.hand.at d.hand.from (d.hand.fields - d.hand.from)) (fun_ext (λ i. h.kind i d.hand.fields))
@@ -55,10 +57,12 @@ taken_is c d whole first n h idle =
 pub same_queue : (c d : Copying) (queue : List Gray) → d ≡ record c { queue = queue } → IsSameCopier c d
 same_queue c d queue e = subst (IsSameCopier c) (sym e) (record { layout = refl; shapes = refl; number = refl; team = refl; most = refl })
 
-listed : (w : Worker) (item : Item) (rest : List Item) → w.list ≡ item ∷ rest → w.hand ≡ [] → IsNext (record w { mid = Idle }) item (record w { list = rest; mid = Idle })
+listed : (w : Worker) (item : Item) (rest : List Item) → w.list ≡ item ∷ rest → w.hand ≡ [] →
+    IsNext (record w { mid = Idle }) item (record w { list = rest; mid = Idle })
 listed w item rest e f =
     subst (λ (hand : List ℕ). IsNext (record w { hand = hand; mid = Idle }) item (record w { list = rest; hand = hand; mid = Idle })) (sym f)
-    (subst (λ (list : List Item). IsNext (record w { list = list; hand = []; mid = Idle }) item (record w { list = rest; hand = []; mid = Idle })) (sym e) (Of_list w item rest))
+    (subst (λ (list : List Item). IsNext (record w { list = list; hand = []; mid = Idle }) item (record w { list = rest; hand = []; mid = Idle }))
+        (sym e) (Of_list w item rest))
 
 -- the oldest item of the list is the next one
 pub next_listed : (c d : Copying) (item : Gray) → c.queue ≡ item ∷ d.queue → d ≡ record c { queue = d.queue } → slots_in_hand c.hand ≡ [] →
@@ -71,7 +75,8 @@ pub next_handed : (c d : Copying) (slot : ℕ) → slots_in_hand c.hand ≡ slot
     IsNextOf (at (teller_of c) Idle) (SlotOf slot) (at (teller_of d) Idle)
 next_handed c d slot e f = subst (λ (k : Copying). IsNextOf (at (teller_of c) Idle) (SlotOf slot) (at (teller_of k) Idle)) (sym f)
     (record {
-      next = subst (λ (hand : List ℕ). IsNext (record (worker_of c) { hand = hand; mid = Idle }) (SlotOf slot) (record (worker_of c) { hand = slots_in_hand d.hand; mid = Idle })) (sym e)
+      next = subst (λ (hand : List ℕ). IsNext (record (worker_of c) { hand = hand; mid = Idle }) (SlotOf slot)
+          (record (worker_of c) { hand = slots_in_hand d.hand; mid = Idle })) (sym e)
           (Of_hand (worker_of c) slot (slots_in_hand d.hand));
       moves = refl;
       fails = refl;
@@ -80,7 +85,8 @@ next_handed c d slot e f = subst (λ (k : Copying). IsNextOf (at (teller_of c) I
 pub same_hand : (c d : Copying) (hand : Hand) → d ≡ record c { hand = hand } → IsSameCopier c d
 same_hand c d hand e = subst (IsSameCopier c) (sym e) (record { layout = refl; shapes = refl; number = refl; team = refl; most = refl })
 
-module _ {P : Type 0} (o : Ports P) (seat : Seat) (t : Teller) (whole : ℕ) (a : Teller) (isn : IsNextOf a (WholeOf whole) (at t Idle)) (p : P) (on : On o seat p a) where
+module _ {P : Type 0} (o : Ports P) (seat : Seat) (t : Teller) (whole : ℕ) (a : Teller) (isn : IsNextOf a (WholeOf whole) (at t Idle)) (p : P)
+    (on : On o seat p a) where
   abbrev counting : ℕ → Teller
   counting v = at t (Count whole (class_of v))
 
@@ -110,15 +116,18 @@ module _ {P : Type 0} (o : Ports P) (seat : Seat) (t : Teller) (whole : ℕ) (a 
     count_next n l = (Nothing, counts t.worker whole (class_of v) n l, refl, refl)
 
     pub count_may : o.may q (Loads (Word (word_at (byte_at (whole + 1)))))
-    count_may = may_at o seat (λ w. Loads (Word w)) (whole + 1) q (may_now o seat (counting v) (handed 0) q on_count (Load (Word (whole + 1)) 0) (count_next 0 (omega arith)))
+    count_may = may_at o seat (λ w. Loads (Word w)) (whole + 1) q
+        (may_now o seat (counting v) (handed 0) q on_count (Load (Word (whole + 1)) 0) (count_next 0 (omega arith)))
 
-    module _ (n : ℕ) (r : P) (saw' : o.sees q (Load (Word (word_at (byte_at (whole + 1)))) n)) (led' : o.leads q (Load (Word (word_at (byte_at (whole + 1)))) n ∷ []) r) where
+    module _ (n : ℕ) (r : P) (saw' : o.sees q (Load (Word (word_at (byte_at (whole + 1)))) n))
+        (led' : o.leads q (Load (Word (word_at (byte_at (whole + 1)))) n ∷ []) r) where
       did_count : Did o seat q (Load (Word (whole + 1)) n) r
       did_count = did_at o seat (λ w. Load (Word w) n) (whole + 1) q r saw' led'
 
       pub count_short : n ≤ 62
       count_short =
-          let next = saw_now o seat (counting v) (handed 0) q on_count (Load (Word (whole + 1)) 0) (count_next 0 (omega arith)) (Load (Word (whole + 1)) n) refl did_count.0 in
+          let next = saw_now o seat (counting v) (handed 0) q on_count (Load (Word (whole + 1)) 0) (count_next 0 (omega arith))
+              (Load (Word (whole + 1)) n) refl did_count.0 in
           saw_at seat.area seat.team seat.number (counting v).worker (Load (Word (whole + 1)) n) next.0.1.0 next.0.0.worker next.0.1.1
 
       pub opened : Started o seat a p (handed n) r
@@ -127,13 +136,15 @@ module _ {P : Type 0} (o : Ports P) (seat : Seat) (t : Teller) (whole : ℕ) (a 
           (one_step o seat (counting v) (handed n) q on_count (Load (Word (whole + 1)) n) (count_next n count_short) r did_count (λ h. h))
 
 -- the slots of the object in hand are handled one after another
-module _ {P : Type 0} (o : Ports P) (m s k : Copying) (slot : ℕ) (x y : P) (on : On o (seat_of m) x (teller_of m)) (gone : Gone o (seat_of m) (teller_of m) x (teller_of s) y)
+module _ {P : Type 0} (o : Ports P) (m s k : Copying) (slot : ℕ) (x y : P) (on : On o (seat_of m) x (teller_of m))
+    (gone : Gone o (seat_of m) (teller_of m) x (teller_of s) y)
     (same : IsSameCopier m s) (between : s.stage ≡ Between) (put : k ≡ record s { hand = k.hand }) where
   same_put : IsSameCopier m k
   same_put = same_then m s k same (same_hand s k k.hand put)
 
   pub scan_on : On o (seat_of k) y (at (teller_of s) Idle)
-  scan_on = on_as o (seat_of m) (seat_of k) (teller_of s) (at (teller_of s) Idle) y (seat_same m k same_put) (idle_is s between) (on_then o (seat_of m) (teller_of m) (teller_of s) x y on gone)
+  scan_on = on_as o (seat_of m) (seat_of k) (teller_of s) (at (teller_of s) Idle) y (seat_same m k same_put) (idle_is s between)
+      (on_then o (seat_of m) (teller_of m) (teller_of s) x y on gone)
 
   module _ (next : slots_in_hand s.hand ≡ slot ∷ slots_in_hand k.hand) where
     pub scan_next : IsNextOf (at (teller_of s) Idle) (SlotOf slot) (at (teller_of k) Idle)
@@ -142,11 +153,13 @@ module _ {P : Type 0} (o : Ports P) (m s k : Copying) (slot : ℕ) (x y : P) (on
     not_over : slots_in_hand s.hand ≡ [] → ⊥
     not_over e = let f : slot ∷ slots_in_hand k.hand ≡ [] = sym next ∙ e in cc
 
-    pub scanned : (d : Copying) (z : P) → HasBegun k o.leads (at (teller_of s) Idle) y d z → Gone o (seat_of m) (teller_of m) x (teller_of d) z × IsSameCopier m d
+    pub scanned : (d : Copying) (z : P) → HasBegun k o.leads (at (teller_of s) Idle) y d z →
+        Gone o (seat_of m) (teller_of m) x (teller_of d) z × IsSameCopier m d
     scanned d z h = (
       gone_then o (seat_of m) (teller_of m) (teller_of s) (teller_of d) x y z gone
           (subst (λ (a : Teller). Gone o (seat_of m) a y (teller_of d) z) (idle_is s between)
-          (gone_started o (seat_of m) (at (teller_of s) Idle) (teller_of d) y z not_over (subst (λ (h : Seat). Started o h (at (teller_of s) Idle) y (teller_of d) z) (seat_same m k same_put) h.started))),
+          (gone_started o (seat_of m) (at (teller_of s) Idle) (teller_of d) y z not_over
+              (subst (λ (h : Seat). Started o h (at (teller_of s) Idle) y (teller_of d) z) (seat_same m k same_put) h.started))),
       same_then m k d same_put h.same.copier,
     )
 

@@ -39,19 +39,23 @@ pub same_handed : (c : Copying) → IsSameHanded c c
 same_handed c = record { copier = same_self c; hand = refl }
 
 pub same_then : (c d e : Copying) → IsSameCopier c d → IsSameCopier d e → IsSameCopier c e
-same_then c d e h k = record { layout = k.layout ∙ h.layout; shapes = k.shapes ∙ h.shapes; number = k.number ∙ h.number; team = k.team ∙ h.team; most = k.most ∙ h.most }
+same_then c d e h k = record { layout = k.layout ∙ h.layout; shapes = k.shapes ∙ h.shapes; number = k.number ∙ h.number; team =
+    k.team ∙ h.team; most = k.most ∙ h.most }
 
 pub handed_then : (c d e : Copying) → IsSameHanded c d → IsSameHanded d e → IsSameHanded c e
 handed_then c d e h k = record { copier = same_then c d e h.copier k.copier; hand = k.hand ∙ h.hand }
 
 pub same_stage : (c d : Copying) (stage : Stage) → d ≡ record c { stage = stage } → IsSameHanded c d
-same_stage c d stage e = subst (IsSameHanded c) (sym e) (record { copier = record { layout = refl; shapes = refl; number = refl; team = refl; most = refl }; hand = refl })
+same_stage c d stage e =
+    subst (IsSameHanded c) (sym e) (record { copier = record { layout = refl; shapes = refl; number = refl; team = refl; most = refl }; hand = refl })
 
 pub same_spares : (c d : Copying) (spares : List ℕ) → d ≡ record c { spares = spares } → IsSameHanded c d
-same_spares c d spares e = subst (IsSameHanded c) (sym e) (record { copier = record { layout = refl; shapes = refl; number = refl; team = refl; most = refl }; hand = refl })
+same_spares c d spares e =
+    subst (IsSameHanded c) (sym e) (record { copier = record { layout = refl; shapes = refl; number = refl; team = refl; most = refl }; hand = refl })
 
 pub same_passed : (c d : Copying) (passed : List ℕ) → d ≡ record c { passed = passed } → IsSameHanded c d
-same_passed c d passed e = subst (IsSameHanded c) (sym e) (record { copier = record { layout = refl; shapes = refl; number = refl; team = refl; most = refl }; hand = refl })
+same_passed c d passed e =
+    subst (IsSameHanded c) (sym e) (record { copier = record { layout = refl; shapes = refl; number = refl; team = refl; most = refl }; hand = refl })
 
 -- no exchange is prepared
 pub idle_is : (c : Copying) → c.stage ≡ Between → at (teller_of c) Idle ≡ teller_of c
@@ -75,20 +79,24 @@ at_passed c d size z v mid e is l =
 -- an object has moved
 pub at_moved : (c d : Copying) (from to : ℕ) (mid : Mid) →
     d ≡ record c { moves = c.moves ++ move_of from to ∷ []; queue = c.queue ++ Whole (byte_at to) ∷ [] } →
-    at (teller_of d) mid ≡ record (teller_of c) { worker = record (worker_of c) { list = (worker_of c).list ++ WholeOf to ∷ []; mid = mid }; moves = (teller_of c).moves ++ from ∷ [] }
+    at (teller_of d) mid ≡ record (teller_of c) { worker = record (worker_of c) { list = (worker_of c).list ++ WholeOf to ∷ []; mid = mid }; moves =
+        (teller_of c).moves ++ from ∷ [] }
 at_moved c d from to mid e =
     ap (λ (k : Copying). at (teller_of k) mid) e
-    ∙ ap (λ (list : List Item). record (teller_of c) { worker = record (worker_of c) { list = list; mid = mid }; moves = map (λ (m : Move). word_at m.from) (c.moves ++ move_of from to ∷ []) })
+    ∙ ap (λ (list : List Item). record (teller_of c) { worker = record (worker_of c) { list = list; mid = mid }; moves =
+        map (λ (m : Move). word_at m.from) (c.moves ++ move_of from to ∷ []) })
         (map_push item_of c.queue (Whole (byte_at to)) ∙ ap (λ n. (worker_of c).list ++ WholeOf n ∷ []) (word_at-byte_at to))
     ∙ ap (λ ms. record (teller_of c) { worker = record (worker_of c) { list = (worker_of c).list ++ WholeOf to ∷ []; mid = mid }; moves = ms })
         (map_push (λ (m : Move). word_at m.from) c.moves (move_of from to) ∙ ap (λ n. (teller_of c).moves ++ n ∷ []) (word_at-byte_at from))
 
 pub same_moved : (c d : Copying) (moves : List Move) (queue : List Gray) → d ≡ record c { moves = moves; queue = queue } → IsSameHanded c d
-same_moved c d moves queue e = subst (IsSameHanded c) (sym e) (record { copier = record { layout = refl; shapes = refl; number = refl; team = refl; most = refl }; hand = refl })
+same_moved c d moves queue e =
+    subst (IsSameHanded c) (sym e) (record { copier = record { layout = refl; shapes = refl; number = refl; team = refl; most = refl }; hand = refl })
 
 -- an object has failed, and no block can take its size
 pub at_failed : (c d k : Copying) (x size z v : ℕ) (mid : Mid) →
-    d ≡ record c { fails = c.fails ++ byte_at x ∷ []; queue = c.queue ++ Whole (byte_at x) ∷ [] } → k ≡ record d { passed = slice_set d.passed size v } → size ≡ z → size < length d.passed →
+    d ≡ record c { fails = c.fails ++ byte_at x ∷ []; queue = c.queue ++ Whole (byte_at x) ∷ [] } →
+        k ≡ record d { passed = slice_set d.passed size v } → size ≡ z → size < length d.passed →
     at (teller_of k) mid ≡ record (teller_of c) {
       worker = record (worker_of c) { list = (worker_of c).list ++ WholeOf x ∷ []; passed = put (worker_of c).passed z v; mid = mid };
       fails = (teller_of c).fails ++ x ∷ [];
@@ -96,23 +104,28 @@ pub at_failed : (c d k : Copying) (x size z v : ℕ) (mid : Mid) →
 at_failed c d k x size z v mid e f is l =
     at_passed d k size z v mid f is l
     ∙ ap (λ (b : Copying). record (teller_of b) { worker = record (worker_of b) { passed = put (worker_of b).passed z v; mid = mid } }) e
-    ∙ ap (λ (list : List Item). record (teller_of c) { worker = record (worker_of c) { list = list; passed = put (worker_of c).passed z v; mid = mid }; fails = map word_at (c.fails ++ byte_at x ∷ []) })
+    ∙ ap (λ (list : List Item). record (teller_of c)
+        { worker = record (worker_of c) { list = list; passed = put (worker_of c).passed z v; mid = mid }; fails = map word_at (c.fails ++ byte_at x ∷ []) })
         (map_push item_of c.queue (Whole (byte_at x)) ∙ ap (λ n. (worker_of c).list ++ WholeOf n ∷ []) (word_at-byte_at x))
-    ∙ ap (λ ms. record (teller_of c) { worker = record (worker_of c) { list = (worker_of c).list ++ WholeOf x ∷ []; passed = put (worker_of c).passed z v; mid = mid }; fails = ms })
+    ∙ ap (λ ms. record (teller_of c)
+        { worker = record (worker_of c) { list = (worker_of c).list ++ WholeOf x ∷ []; passed = put (worker_of c).passed z v; mid = mid }; fails = ms })
         (map_push word_at c.fails (byte_at x) ∙ ap (λ n. (teller_of c).fails ++ n ∷ []) (word_at-byte_at x))
 
 pub same_failed : (c d : Copying) (fails : List ℕ) (queue : List Gray) → d ≡ record c { fails = fails; queue = queue } → IsSameHanded c d
-same_failed c d fails queue e = subst (IsSameHanded c) (sym e) (record { copier = record { layout = refl; shapes = refl; number = refl; team = refl; most = refl }; hand = refl })
+same_failed c d fails queue e =
+    subst (IsSameHanded c) (sym e) (record { copier = record { layout = refl; shapes = refl; number = refl; team = refl; most = refl }; hand = refl })
 
 -- there is room to tell of one more object
 pub moves_room : (layout : Layout) (moves : List Move) (fails : List ℕ) (x : ℕ) →
-    length (map (λ (m : Move). word_at m.from) moves ++ x ∷ []) + length (map word_at fails) ≤ old_base layout - nursery_base → length moves + length fails < layout.nursery
+    length (map (λ (m : Move). word_at m.from) moves ++ x ∷ []) + length (map word_at fails) ≤ old_base layout - nursery_base →
+        length moves + length fails < layout.nursery
 moves_room layout moves fails x few =
     let n = length-map moves (λ (m : Move). word_at m.from) in let k = length-map fails word_at in
     omega (arith, few, length-append (map (λ (m : Move). word_at m.from) moves) (x ∷ []), n, k)
 
 pub fails_room : (layout : Layout) (moves : List Move) (fails : List ℕ) (x : ℕ) →
-    length (map (λ (m : Move). word_at m.from) moves) + length (map word_at fails ++ x ∷ []) ≤ old_base layout - nursery_base → length moves + length fails < layout.nursery
+    length (map (λ (m : Move). word_at m.from) moves) + length (map word_at fails ++ x ∷ []) ≤ old_base layout - nursery_base →
+        length moves + length fails < layout.nursery
 fails_room layout moves fails x few =
     let n = length-map moves (λ (m : Move). word_at m.from) in let k = length-map fails word_at in
     omega (arith, few, length-append (map word_at fails) (x ∷ []), n, k)
@@ -130,7 +143,8 @@ module _ {P : Type 0} (o : Ports P) where
 
   module _ (c d : Copying) (a : Teller) (x y : P) where
     -- an exchange is prepared
-    pub handled_at : (stage : Stage) → d ≡ record c { stage = stage } → IsOnSlot stage → Gone o (seat_of c) a x (at (teller_of c) (mid_of stage)) y → HasHandled c o.leads a x d y
+    pub handled_at : (stage : Stage) → d ≡ record c { stage = stage } → IsOnSlot stage → Gone o (seat_of c) a x (at (teller_of c) (mid_of stage)) y →
+        HasHandled c o.leads a x d y
     handled_at stage e is gone = record {
       gone = gone_to (seat_of c) a _ (teller_of d) x y (ap teller_of e) gone;
       same = same_stage c d stage e;
@@ -148,7 +162,8 @@ module _ {P : Type 0} (o : Ports P) where
   -- handling goes on where a copier was changed, and worker and seat are the same
   pub handled_as : (c k d : Copying) (a b : Teller) (x y : P) → IsSameHanded c k → b ≡ a → HasHandled k o.leads b x d y → HasHandled c o.leads a x d y
   handled_as c k d a b x y same e h = record {
-    gone = subst (λ (s : Seat). Gone o s a x (teller_of d) y) (seat_same c k same.copier) (subst (λ (t : Teller). Gone o (seat_of k) t x (teller_of d) y) e h.gone);
+    gone = subst (λ (s : Seat). Gone o s a x (teller_of d) y) (seat_same c k same.copier)
+        (subst (λ (t : Teller). Gone o (seat_of k) t x (teller_of d) y) e h.gone);
     same = handed_then c k d same h.same;
     where_is = h.where_is;
   }

@@ -6,5 +6,15 @@ pub mod Looks
 pub mod Swaps
 pub mod Handing
 pub mod Seeking
+pub mod Cells
+pub mod Items
 pub mod Handled
 pub mod Changes
+pub mod RoundLists
+pub mod RoundMeasure
+pub mod RoundGuided
+pub mod RoundTold
+pub mod RoundMidst
+pub mod RoundStart
+pub mod RoundDone
+pub mod RoundRun

@@ -28,7 +28,8 @@ cards area s = elim (cases_lt s area.high) [
   | inl l ↦ inr (λ has. absurd (let h = has.0 in omega arith), cond-false (nat_le area.high s) _ _ (lt-leb area.high s l))
   | inr l ↦ elim (cases_lt s area.rows) [
     | inl m ↦ inl ((l, m), cond-true (nat_le area.high s) _ _ (le-leb area.high s l) ∙ cond-true (nat_lt s area.rows) _ _ (lt-ltb s area.rows m))
-    | inr m ↦ inr (λ has. absurd (let h = has.1 in omega arith), cond-true (nat_le area.high s) _ _ (le-leb area.high s l) ∙ cond-false (nat_lt s area.rows) _ _ (le-ltb s area.rows m))
+    | inr m ↦ inr (λ has. absurd (let h = has.1 in omega arith), cond-true (nat_le area.high s) _ _ (le-leb area.high s l) ∙ cond-false
+        (nat_lt s area.rows) _ _ (le-ltb s area.rows m))
   ]
 ]
 
@@ -51,7 +52,8 @@ module _ {P : Type 0} (o : Ports P) (seat : Seat) (t : Teller) (s : ℕ) where
     send_next = (Ends s, sends t.worker s to, refl, refl)
 
     pub send_may : o.may p (Stores (Word (word_at (byte_at s))) (byte_at to))
-    send_may = may_at o seat (λ w. Stores (Word w) (byte_at to)) s p (may_now o seat (at t (OnSlot s (Send to))) (at t Idle) p on (Store (Word s) (byte_at to)) send_next)
+    send_may = may_at o seat (λ w. Stores (Word w) (byte_at to)) s p
+        (may_now o seat (at t (OnSlot s (Send to))) (at t Idle) p on (Store (Word s) (byte_at to)) send_next)
 
     pub sent_on : (q : P) → o.sees p (Store (Word (word_at (byte_at s))) (byte_at to)) → o.leads p (Store (Word (word_at (byte_at s))) (byte_at to) ∷ []) q →
         Gone o seat (at t (OnSlot s (Send to))) p (at t Idle) q
@@ -72,18 +74,21 @@ module _ {P : Type 0} (o : Ports P) (seat : Seat) (t : Teller) (s : ℕ) where
       did = did_at o seat (λ w. Load (Word w) v) x p q saw led
 
       next : SeesNext (Tells seat) (IsSaneTeller seat) look (Load (Word x) v)
-      next = saw_now o seat look (at t (OnSlot s (Size x 0))) p on (Load (Word x) (plain_word 0)) (Nothing, looks_plain t.worker s x 0, refl, refl) (Load (Word x) v) refl did.0
+      next = saw_now o seat look (at t (OnSlot s (Size x 0))) p on (Load (Word x) (plain_word 0)) (Nothing, looks_plain t.worker s x 0, refl, refl)
+          (Load (Word x) v) refl did.0
 
       step_to : (b : Teller) → Tells seat look (Load (Word x) v) b → On o seat q b × Gone o seat look p b q
       step_to b n = (on_now o seat look b p on (Load (Word x) v) n q did, one_step o seat look b p on (Load (Word x) v) n q did (λ h. h))
 
       pub plain_seen : (class : ℕ) → v ≡ plain_word class → On o seat q (at t (OnSlot s (Size x class))) × Gone o seat look p (at t (OnSlot s (Size x class))) q
       plain_seen class e = step_to (at t (OnSlot s (Size x class)))
-          (Nothing, subst (λ u. Comes seat.area seat.team seat.number look.worker (Load (Word x) u) Nothing (at t (OnSlot s (Size x class))).worker) (sym e) (looks_plain t.worker s x class), refl, refl)
+          (Nothing, subst (λ u. Comes seat.area seat.team seat.number look.worker (Load (Word x) u) Nothing (at t (OnSlot s (Size x class))).worker)
+              (sym e) (looks_plain t.worker s x class), refl, refl)
 
       pub forwarded_seen : (to : ℕ) → v ≡ forward_word (byte_at to) → On o seat q (at t (OnSlot s (Send to))) × Gone o seat look p (at t (OnSlot s (Send to))) q
       forwarded_seen to e = step_to (at t (OnSlot s (Send to)))
-          (Nothing, subst (λ u. Comes seat.area seat.team seat.number look.worker (Load (Word x) u) Nothing (at t (OnSlot s (Send to))).worker) (sym e) (looks_forwarded t.worker s x to), refl, refl)
+          (Nothing, subst (λ u. Comes seat.area seat.team seat.number look.worker (Load (Word x) u) Nothing (at t (OnSlot s (Send to))).worker)
+              (sym e) (looks_forwarded t.worker s x to), refl, refl)
 
       fixed_seen : (class : ℕ) → IsFixed class v → On o seat q (at t (staying seat.area s)) × Gone o seat look p (at t (staying seat.area s)) q
       fixed_seen class is = elim (cards seat.area s) [
@@ -98,7 +103,8 @@ module _ {P : Type 0} (o : Ports P) (seat : Seat) (t : Teller) (s : ℕ) where
           On o seat q (at t (staying seat.area s)) × Gone o seat look p (at t (staying seat.area s)) q
       staying_seen plain forwarded = elim (first) [
         | inl f ↦ absurd (let sane = (step_to (at t (OnSlot s (Send f.0))) (forward_next f.0 f.1)).0.guided.is_sane.worker in
-            let l = sane.at.1 in let lim = sane.limits in forwarded f.0 (let a = lim.above in let b = lim.nursery in omega arith) (let b = lim.sections in let c = lim.small in omega arith) f.1)
+            let l = sane.at.1 in let lim = sane.limits in forwarded f.0 (let a = lim.above in let b = lim.nursery in omega arith)
+                (let b = lim.sections in let c = lim.small in omega arith) f.1)
         | inr g ↦ elim g [
           | inl is ↦ fixed_seen is.0 is.1
           | inr is ↦ absurd (plain is.0 ((plain_seen is.0 is.1).0.guided.is_sane.worker.at.1.2) is.1)
@@ -109,7 +115,9 @@ module _ {P : Type 0} (o : Ports P) (seat : Seat) (t : Teller) (s : ℕ) where
           first = saw_at seat.area seat.team seat.number look.worker (Load (Word x) v) next.0.1.0 next.0.0.worker next.0.1.1
 
           forward_next : (to : ℕ) → v ≡ forward_word (byte_at to) → Tells seat look (Load (Word x) v) (at t (OnSlot s (Send to)))
-          forward_next to e = (Nothing, subst (λ u. Comes seat.area seat.team seat.number look.worker (Load (Word x) u) Nothing (at t (OnSlot s (Send to))).worker) (sym e) (looks_forwarded t.worker s x to), refl, refl)
+          forward_next to e = (Nothing,
+              subst (λ u. Comes seat.area seat.team seat.number look.worker (Load (Word x) u) Nothing (at t (OnSlot s (Send to))).worker) (sym e)
+                  (looks_forwarded t.worker s x to), refl, refl)
 
   -- its length is loaded
   module _ (x class : ℕ) (p : P) (on : On o seat p (at t (OnSlot s (Size x class)))) where
@@ -120,7 +128,8 @@ module _ {P : Type 0} (o : Ports P) (seat : Seat) (t : Teller) (s : ℕ) where
     object n = record { x = x; class = class; n = n }
 
     abbrev pub spared : ℕ → Teller
-    spared n = record t { worker = record (t.worker) { spare = put t.worker.spare (size_for (object n)) 0; mid = OnSlot s (Body (object n) (t.worker.spare (size_for (object n))) 1) } }
+    spared n = record t { worker =
+        record (t.worker) { spare = put t.worker.spare (size_for (object n)) 0; mid = OnSlot s (Body (object n) (t.worker.spare (size_for (object n))) 1) } }
 
     abbrev pub searching : ℕ → Teller
     searching n = at t (OnSlot s (looking seat.area (object n) (t.worker.passed (size_for (object n)))))
@@ -137,7 +146,8 @@ module _ {P : Type 0} (o : Ports P) (seat : Seat) (t : Teller) (s : ℕ) where
       | inr some ↦ may_now o seat sizing (spared 0) p on (Load (Word (x + 1)) 0) (spare_next 0 some)
     ])
 
-    module _ (n : ℕ) (q : P) (saw : o.sees p (Load (Word (word_at (byte_at (x + 1)))) n)) (led : o.leads p (Load (Word (word_at (byte_at (x + 1)))) n ∷ []) q) where
+    module _ (n : ℕ) (q : P) (saw : o.sees p (Load (Word (word_at (byte_at (x + 1)))) n))
+        (led : o.leads p (Load (Word (word_at (byte_at (x + 1)))) n ∷ []) q) where
       did_size : Did o seat p (Load (Word (x + 1)) n) q
       did_size = did_at o seat (λ w. Load (Word w) n) (x + 1) p q saw led
 
@@ -172,7 +182,8 @@ module _ {P : Type 0} (o : Ports P) (seat : Seat) (t : Teller) (s : ℕ) where
       slot_empty none = started o seat a (at t Idle) p on (Load (Word s) v) (empty_next v none) q did_slot
 
       young_next : (x : ℕ) → v ≡ byte_at x → IsYoung seat.area x → Tells seat a (Load (Word s) v) (at t (OnSlot s (Look x)))
-      young_next x e young = (Nothing, subst (λ u. Comes seat.area seat.team seat.number a.worker (Load (Word s) u) Nothing (at t (OnSlot s (Look x))).worker) (sym e)
+      young_next x e young =
+          (Nothing, subst (λ u. Comes seat.area seat.team seat.number a.worker (Load (Word s) u) Nothing (at t (OnSlot s (Look x))).worker) (sym e)
           (sees a.worker (at t Idle).worker s x isn.next young), isn.moves, isn.fails)
 
       pub slot_full : (x : ℕ) → v ≡ byte_at x → IsYoung seat.area x → On o seat q (at t (OnSlot s (Look x))) × Started o seat a p (at t (OnSlot s (Look x))) q

@@ -1,5 +1,6 @@
 -- The search for a slot, over any port.
-use Rattle.std.proofs.Common.{◌≡◌, ◌≢◌, ℕ, zero, suc, ◌+◌, ◌-◌, ◌<◌, ◌≤◌, nat_lt, if◌then◌else◌, Bool, true, false, List, [], ◌∷◌, ◌++◌, refl, sym, ap, ◌∙◌, subst, arith}
+use Rattle.std.proofs.Common.{◌≡◌, ◌≢◌, ℕ, zero, suc, ◌+◌, ◌-◌, ◌<◌, ◌≤◌, nat_lt, if◌then◌else◌, Bool, true, false, List, [], ◌∷◌, ◌++◌, refl, sym}
+use Rattle.std.proofs.Common.{ap, ◌∙◌, subst, arith}
 use Rattle.std.proofs.lemmas.Bool.{cond-true, cond-false, lt-ltb, le-ltb}
 use Rattle.sg_words.specs.declared.steps.BlockWord.{BlockWord}
 use Rattle.sg_words.specs.declared.steps.BlockWord.TheVariants.{Free, Swept}
@@ -11,7 +12,8 @@ use Rattle.sg_words.specs.declared.steps.BlockCall.TheVariants.{LoadsBlock, Load
 use Rattle.sg_words.specs.Blocks.{slots}
 use Rattle.sg_words.proofs.Blocks.{has_slots}
 use Rattle.sg_cells.specs.Made.{Makes}
-use Rattle.sg_slots.specs.Looks.{IsFull, IsLowest, PassesOver, PassesOther, PassesFull, ArePassed, Finds, FindsFree, FindsSlot, AreLooks, PassesAll, PassesTo, MayLook}
+use Rattle.sg_slots.specs.Looks.{IsFull, IsLowest, PassesOver, PassesOther, PassesFull, ArePassed, Finds, FindsFree, FindsSlot, AreLooks, PassesAll}
+use Rattle.sg_slots.specs.Looks.{PassesTo, MayLook}
 use Rattle.sg_slots.specs.declared.search.Found.{Found}
 use Rattle.sg_slots.specs.declared.search.Found.TheVariants.{Free as IsFree, Slot as HasSlot, None as NoSlot}
 use Rattle.sg_round.specs.Area.{Area}
@@ -43,7 +45,8 @@ found_stage x NoSlot = Pin x
 
 module _ {P : Type 0} (o : Ports P) where
   -- steps one behind another were made one behind another
-  pub makes_split : (p : P) (es fs : List Step) (q : P) → Makes o.leads o.sees p (es ++ fs) q → (r : P) × Makes o.leads o.sees p es r × Makes o.leads o.sees r fs q
+  pub makes_split : (p : P) (es fs : List Step) (q : P) → Makes o.leads o.sees p (es ++ fs) q →
+      (r : P) × Makes o.leads o.sees p es r × Makes o.leads o.sees r fs q
   makes_split p [] fs q h = (p, refl, h)
   makes_split p (e ∷ es) fs q h = let rest = makes_split h.0 es fs q h.3 in (rest.0, (h.0, h.1, h.2, rest.1), rest.2)
 
@@ -77,33 +80,39 @@ module _ {P : Type 0} (o : Ports P) where
       passes : (ts : List Step) (q : P) → PassesOver (size_for x) b ts → Makes o.leads o.sees p ts q → Gone o seat (room b) p (look_at (b + 1)) q
       passes _ q (PassesOther state free swept) h =
           subst (λ (r : P). Gone o seat (room b) p (look_at (b + 1)) r) (sym h.3)
-          (one_step o seat (room b) (look_at (b + 1)) p on (OnBlock (LoadBlock b state)) (Nothing, finds_other t.worker s x b state free swept, refl, refl) h.0 (h.2, h.1) (λ k. k))
+          (one_step o seat (room b) (look_at (b + 1)) p on (OnBlock (LoadBlock b state)) (Nothing, finds_other t.worker s x b state free swept, refl,
+              refl) h.0 (h.2, h.1) (λ k. k))
       passes _ q (PassesFull used full) h =
           let did : Did o seat p (OnBlock (LoadBlock b (Swept (size_for x)))) h.0 = (h.2, h.1) in
           let more = h.3 in
           subst (λ (r : P). Gone o seat (room b) p (look_at (b + 1)) r) (sym more.3)
           (gone_then o seat (room b) (slots_of b) (look_at (b + 1)) p h.0 more.0 (swept_gone h.0 did)
-          (one_step o seat (slots_of b) (look_at (b + 1)) h.0 (swept_on h.0 did) (OnBlock (LoadUsed b used)) (Nothing, finds_full t.worker s x b used full, refl, refl) more.0 (more.2, more.1) (λ k. k)))
+          (one_step o seat (slots_of b) (look_at (b + 1)) h.0 (swept_on h.0 did) (OnBlock (LoadUsed b used))
+              (Nothing, finds_full t.worker s x b used full, refl, refl) more.0 (more.2, more.1) (λ k. k)))
 
       -- or it has a slot
-      finds : (ts : List Step) (found : Found) (q : P) → Finds (size_for x) b ts found → Makes o.leads o.sees p ts q → Gone o seat (room b) p (at t (OnSlot s (found_stage x found))) q
+      finds : (ts : List Step) (found : Found) (q : P) → Finds (size_for x) b ts found → Makes o.leads o.sees p ts q →
+          Gone o seat (room b) p (at t (OnSlot s (found_stage x found))) q
       finds _ _ q FindsFree h =
           subst (λ (r : P). Gone o seat (room b) p (at t (OnSlot s (Take x b))) r) (sym h.3)
-          (one_step o seat (room b) (at t (OnSlot s (Take x b))) p on (OnBlock (LoadBlock b Free)) (Nothing, finds_free t.worker s x b, refl, refl) h.0 (h.2, h.1) (λ k. k))
+          (one_step o seat (room b) (at t (OnSlot s (Take x b))) p on (OnBlock (LoadBlock b Free)) (Nothing, finds_free t.worker s x b, refl, refl)
+              h.0 (h.2, h.1) (λ k. k))
       finds _ _ q (FindsSlot used i low) h =
           let did : Did o seat p (OnBlock (LoadBlock b (Swept (size_for x)))) h.0 = (h.2, h.1) in
           let more = h.3 in
           let there = at t (OnSlot s (Mark x b i)) in
           subst (λ (r : P). Gone o seat (room b) p there r) (sym more.3)
           (gone_then o seat (room b) (slots_of b) there p h.0 more.0 (swept_gone h.0 did)
-          (one_step o seat (slots_of b) there h.0 (swept_on h.0 did) (OnBlock (LoadUsed b used)) (Nothing, finds_clear t.worker s x b i used low.within low.clear low.below, refl, refl) more.0 (more.2, more.1) (λ k. k)))
+          (one_step o seat (slots_of b) there h.0 (swept_on h.0 did) (OnBlock (LoadUsed b used))
+              (Nothing, finds_clear t.worker s x b i used low.within low.clear low.below, refl, refl) more.0 (more.2, more.1) (λ k. k)))
 
     module _ (from : ℕ) (p : P) (on : On o seat p (look_at from)) where
       next_block : (n : ℕ) → from + n + 1 ≡ from + suc n
       next_block n = omega arith
 
       -- blocks are passed over
-      passed : (n : ℕ) (es : List Step) (q : P) → ArePassed (size_for x) from n es → Makes o.leads o.sees p es q → ((k : ℕ) → k < n → from + k < seat.area.blocks) →
+      passed : (n : ℕ) (es : List Step) (q : P) → ArePassed (size_for x) from n es → Makes o.leads o.sees p es q →
+          ((k : ℕ) → k < n → from + k < seat.area.blocks) →
           Gone o seat (look_at from) p (look_at (from + n)) q
       passed zero es q none h there =
           let same : q ≡ p = subst (λ (fs : List Step). Makes o.leads o.sees p fs q) none h in
@@ -121,7 +130,8 @@ module _ {P : Type 0} (o : Ports P) where
           (subst (λ (b : Teller). Gone o seat b parts.0 (look_at (from + n + 1)) q) (sym (as_room (from + n) l)) step))
 
       -- the port allows the loads
-      room_on : (n : ℕ) (es : List Step) (q : P) → ArePassed (size_for x) from n es → Makes o.leads o.sees p es q → from + n < seat.area.blocks → On o seat q (room (from + n))
+      room_on : (n : ℕ) (es : List Step) (q : P) → ArePassed (size_for x) from n es → Makes o.leads o.sees p es q → from + n < seat.area.blocks →
+          On o seat q (room (from + n))
       room_on n es q are h l =
           let gone = passed n es q are h (λ k m. omega arith) in
           subst (λ (b : Teller). On o seat q b) (as_room (from + n) l) (on_then o seat (look_at from) (look_at (from + n)) p q on gone)

@@ -68,7 +68,8 @@ module _ {P : Type 0} (o : Ports P) (seat : Seat) (t : Teller) where
             ]
 
         pub cell_empty : v ≡ 0 → Started o seat a p (at t (sought seat.team (i + 1))) q
-        cell_empty e = started o seat a (at t (sought seat.team (i + 1))) p on (Load (Cell cell) 0) empty_next q (subst (λ u. Did o seat p (Load (Cell cell) u) q) e did)
+        cell_empty e = started o seat a (at t (sought seat.team (i + 1))) p on (Load (Cell cell) 0) empty_next q
+            (subst (λ u. Did o seat p (Load (Cell cell) u) q) e did)
 
         found_next : (item : Item) → Tells seat a (Load (Cell cell) (cell_word item)) (at t (Grab i item))
         found_next item = to_mid (Load (Cell cell) (cell_word item)) (Grab i item) (Nothing, finds a.worker i item looking, refl, refl)
@@ -90,7 +91,8 @@ module _ {P : Type 0} (o : Ports P) (seat : Seat) (t : Teller) where
     pub on : On o seat y here
     pub started_by : (b : Teller) (z : P) → Started o seat here y b z → Started o seat a x b z
 
-  pub seeks_here : (from : ℕ) (a : Teller) (x : P) → LooksAt a from (at t Idle) → On o seat x a → (i : ℕ) (y : P) → i < 8 * seat.team → HasSought from a x i y → SeeksHere a x i y
+  pub seeks_here : (from : ℕ) (a : Teller) (x : P) → LooksAt a from (at t Idle) → On o seat x a → (i : ℕ) (y : P) → i < 8 * seat.team →
+      HasSought from a x i y → SeeksHere a x i y
   seeks_here from a x is on i y l h = elim h [
     | inl e ↦ record {
         here = a;

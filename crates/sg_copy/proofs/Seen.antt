@@ -9,7 +9,10 @@ use Rattle.sg_round.specs.Area.{Area, IsFixed}
 use Rattle.sg_round.specs.Items.{Item, SlotOf, WholeOf, cell_word, own_cell, looked_cell}
 use Rattle.sg_round.specs.Worker.{Worker, Mid, Idle, Seek, Count, On, Look, Send, Dirty}
 use Rattle.sg_round.specs.Rules.{Effect, Comes, IsNext, Of_hand, Of_list, Of_cell, MayOffer, IsLooking}
-use Rattle.sg_round.specs.Rules.Comes.{opens, counts, sees_none, sees, looks_forwarded, looks_fixed, looks_bare, looks_plain, has_spare, has_none, finds_free, finds_swept, finds_other, takes, takes_not, finds_clear, finds_full, marks, marks_not, reads, writes, clears, heads, forwards, loses, fails as has_failed, fails_bare, fails_not, sends, dirties, keeps, prepares, offers, offers_not, seeks, ends, finds, grabs, grabs_not}
+use Rattle.sg_round.specs.Rules.Comes.{opens, counts, sees_none, sees, looks_forwarded, looks_fixed, looks_bare, looks_plain, has_spare, has_none}
+use Rattle.sg_round.specs.Rules.Comes.{finds_free, finds_swept, finds_other, takes, takes_not, finds_clear, finds_full, marks, marks_not, reads}
+use Rattle.sg_round.specs.Rules.Comes.{writes, clears, heads, forwards, loses, fails as has_failed, fails_bare, fails_not, sends, dirties, keeps}
+use Rattle.sg_round.specs.Rules.Comes.{prepares, offers, offers_not, seeks, ends, finds, grabs, grabs_not}
 
 -- an offer cell holds nothing, or an item
 abbrev pub HoldsItem : ℕ → Type 0
@@ -79,8 +82,10 @@ saw_at area team k _ _ _ _ (fails_bare a s o none) = tt
 saw_at area team k _ _ _ _ (fails_not a s o found) = tt
 saw_at area team k _ _ _ _ (sends a s t) = tt
 saw_at area team k _ _ _ _ (dirties a s) = tt
-saw_at area team k _ _ _ _ (keeps a items item i v many there may is some) = offering a.list a.mid (own_cell k i) v may (λ none. some_list items item (sym is ∙ none))
-saw_at area team k _ _ _ _ (prepares a items item i many there may is) = offering a.list a.mid (own_cell k i) 0 may (λ none. some_list items item (sym is ∙ none))
+saw_at area team k _ _ _ _ (keeps a items item i v many there may is some) =
+    offering a.list a.mid (own_cell k i) v may (λ none. some_list items item (sym is ∙ none))
+saw_at area team k _ _ _ _ (prepares a items item i many there may is) =
+    offering a.list a.mid (own_cell k i) 0 may (λ none. some_list items item (sym is ∙ none))
 saw_at area team k _ _ _ _ (offers a items item i next) = tt
 saw_at area team k _ _ _ _ (offers_not a items item i next found) = tt
 saw_at area team k _ _ _ _ (seeks a i is more) = looking a i (looked_cell team k i) 0 is (inl refl)

@@ -19,7 +19,8 @@ use Rattle.sg_words.specs.declared.steps.Call.TheVariants.{Swaps, OnBlocks}
 use Rattle.sg_words.specs.declared.steps.BlockCall.TheVariants.{SwapsBlock, OrsUsed}
 use Rattle.sg_round.specs.Area.{Area, HasCard, place}
 use Rattle.sg_round.specs.Items.{Item, WholeOf, cell_word, looked_cell}
-use Rattle.sg_round.specs.Worker.{Object, Worker, Mid, Idle, Seek, Grab, Took, On as OnSlot, Look, Take, Mark, Room, Body, Swap, Pin, Send, Dirty, size_for, looking}
+use Rattle.sg_round.specs.Worker.{Object, Worker, Mid, Idle, Seek, Grab, Took, On as OnSlot, Look, Take, Mark, Room, Body, Swap, Pin, Send, Dirty}
+use Rattle.sg_round.specs.Worker.{size_for, looking}
 use Rattle.sg_round.specs.Rules.{Nothing, Moves, Fails, FailsEnding, Comes}
 use Rattle.sg_round.specs.Rules.Comes.{takes, takes_not, marks, marks_not, forwards, loses, fails as has_failed, fails_bare, fails_not, grabs, grabs_not}
 use Rattle.sg_copy.specs.Telling.{Seat, Teller, Tells, at}
@@ -33,7 +34,8 @@ module _ {P : Type 0} (o : Ports P) (seat : Seat) where
   pub swap_word_may : (call : ℕ → ℕ → Call) (x v a u : ℕ) → a ≡ byte_at x → u ≡ v → (p : P) → o.may p (call x v) → o.may p (call (word_at a) u)
   swap_word_may call x v a u e f p m = subst (λ k. o.may p (call k u)) (sym (ap word_at e ∙ word_at-byte_at x)) (subst (λ k. o.may p (call x k)) (sym f) m)
 
-  pub swapped : (step : ℕ → ℕ → Step) (x v a u : ℕ) → a ≡ byte_at x → u ≡ v → (p q : P) → o.sees p (step (word_at a) u) → o.leads p (step (word_at a) u ∷ []) q → Did o seat p (step x v) q
+  pub swapped : (step : ℕ → ℕ → Step) (x v a u : ℕ) → a ≡ byte_at x → u ≡ v → (p q : P) → o.sees p (step (word_at a) u) →
+      o.leads p (step (word_at a) u ∷ []) q → Did o seat p (step x v) q
   swapped step x v a u e f p q saw led =
       subst (λ k. Did o seat p (step x k) q) f (subst (λ k. Did o seat p (step k u) q) (ap word_at e ∙ word_at-byte_at x) (saw, led))
 
@@ -51,19 +53,23 @@ module _ {P : Type 0} (o : Ports P) (seat : Seat) where
 
     pub grabbed : (q : P) → Did o seat p (Won (Cell (looked_cell seat.team seat.number i)) (cell_word item) 0) q →
         On o seat q (at t (Took item)) × Started o seat (at t (Grab i item)) p (at t (Took item)) q
-    grabbed q did = (on_now o seat (at t (Grab i item)) (at t (Took item)) p on (Won (Cell (looked_cell seat.team seat.number i)) (cell_word item) 0) grab_next q did,
+    grabbed q did = (on_now o seat (at t (Grab i item)) (at t (Took item)) p on (Won (Cell (looked_cell seat.team seat.number i)) (cell_word item) 0)
+        grab_next q did,
         started o seat (at t (Grab i item)) (at t (Took item)) p on (Won (Cell (looked_cell seat.team seat.number i)) (cell_word item) 0) grab_next q did)
 
     pub grab_lost : (found : ℕ) (q : P) → Did o seat p (Lost (Cell (looked_cell seat.team seat.number i)) (cell_word item) 0 found) q →
         On o seat q (at t (Seek i)) × Started o seat (at t (Grab i item)) p (at t (Seek i)) q
     grab_lost found q did = (
-        on_now o seat (at t (Grab i item)) (at t (Seek i)) p on (Lost (Cell (looked_cell seat.team seat.number i)) (cell_word item) 0 found) (Nothing, grabs_not t.worker i item found, refl, refl) q did,
-        started o seat (at t (Grab i item)) (at t (Seek i)) p on (Lost (Cell (looked_cell seat.team seat.number i)) (cell_word item) 0 found) (Nothing, grabs_not t.worker i item found, refl, refl) q did,
+        on_now o seat (at t (Grab i item)) (at t (Seek i)) p on (Lost (Cell (looked_cell seat.team seat.number i)) (cell_word item) 0 found)
+            (Nothing, grabs_not t.worker i item found, refl, refl) q did,
+        started o seat (at t (Grab i item)) (at t (Seek i)) p on (Lost (Cell (looked_cell seat.team seat.number i)) (cell_word item) 0 found)
+            (Nothing, grabs_not t.worker i item found, refl, refl) q did,
     )
 
 module _ {P : Type 0} (o : Ports P) (seat : Seat) (t : Teller) (s : ℕ) (x : Object) where
   -- one step from a to b
-  first_step : (a b : Teller) (p : P) → On o seat p a → (step : Step) → Tells seat a step b → (q : P) → Did o seat p step q → On o seat q b × Started o seat a p b q
+  first_step : (a b : Teller) (p : P) → On o seat p a → (step : Step) → Tells seat a step b → (q : P) → Did o seat p step q →
+      On o seat q b × Started o seat a p b q
   first_step a b p on step n q did = (on_now o seat a b p on step n q did, started o seat a b p on step n q did)
 
   -- a free block's word
@@ -84,7 +90,8 @@ module _ {P : Type 0} (o : Ports P) (seat : Seat) (t : Teller) (s : ℕ) (x : Ob
         On o seat q (look_at o seat t s x b) × Started o seat taking p (look_at o seat t s x b) q
     as_looked q h = subst (λ (c : Teller). On o seat q c × Started o seat taking p c q) (sym as_looking) h
 
-    pub took_block : (q : P) → Did o seat p (OnBlock (WonBlock b Free (Swept (size_for x)))) q → On o seat q (look_at o seat t s x b) × Started o seat taking p (look_at o seat t s x b) q
+    pub took_block : (q : P) → Did o seat p (OnBlock (WonBlock b Free (Swept (size_for x)))) q →
+        On o seat q (look_at o seat t s x b) × Started o seat taking p (look_at o seat t s x b) q
     took_block q did = as_looked q (first_step taking (at t (OnSlot s (Room x b))) p on (OnBlock (WonBlock b Free (Swept (size_for x)))) won_next q did)
 
     pub lost_block : (found : BlockWord) (q : P) → Did o seat p (OnBlock (LostBlock b Free (Swept (size_for x)) found)) q →
@@ -98,7 +105,8 @@ module _ {P : Type 0} (o : Ports P) (seat : Seat) (t : Teller) (s : ℕ) (x : Ob
     marking = at t (OnSlot s (Mark x b i))
 
     abbrev pub marked : Teller
-    marked = record t { worker = record (t.worker) { passed = put t.worker.passed (size_for x) b; mid = OnSlot s (Body x (place seat.area b (size_for x) i) 1) } }
+    marked = record t { worker =
+        record (t.worker) { passed = put t.worker.passed (size_for x) b; mid = OnSlot s (Body x (place seat.area b (size_for x) i) 1) } }
 
     as_marked : look_at o seat t s x b ≡ at t (OnSlot s (Room x b))
     as_marked = ap (λ stage. at t (OnSlot s stage)) (room_left seat.area x b (on.guided.is_sane.worker.at.1.1))
@@ -112,7 +120,8 @@ module _ {P : Type 0} (o : Ports P) (seat : Seat) (t : Teller) (s : ℕ) (x : Ob
     pub slot_below : i < 64
     slot_below = let l = slot_there in let m = (class_slots (size_for x) (slot_size-class (x.n + 2))).1 in omega arith
 
-    pub got_slot : (found : ℕ) → bit_at found i ≡ 0 → (q : P) → Did o seat p (OnBlock (OrUsed b i found)) q → On o seat q marked × Started o seat marking p marked q
+    pub got_slot : (found : ℕ) → bit_at found i ≡ 0 → (q : P) → Did o seat p (OnBlock (OrUsed b i found)) q →
+        On o seat q marked × Started o seat marking p marked q
     got_slot found clear q did = first_step marking marked p on (OnBlock (OrUsed b i found)) (Nothing, marks t.worker s x b i found clear, refl, refl) q did
 
     pub lost_slot : (found : ℕ) → bit_at found i ≡ 1 → (q : P) → Did o seat p (OnBlock (OrUsed b i found)) q →
@@ -137,11 +146,14 @@ module _ {P : Type 0} (o : Ports P) (seat : Seat) (t : Teller) (s : ℕ) (x : Ob
     pub forward_may : o.may p (Swaps (Word x.x) (plain_word x.class) (forward_word (byte_at to)))
     forward_may = may_now o seat swapping forwarded p on (Won (Word x.x) (plain_word x.class) (forward_word (byte_at to))) forward_next
 
-    pub has_forwarded : (q : P) → Did o seat p (Won (Word x.x) (plain_word x.class) (forward_word (byte_at to))) q → On o seat q forwarded × Started o seat swapping p forwarded q
+    pub has_forwarded : (q : P) → Did o seat p (Won (Word x.x) (plain_word x.class) (forward_word (byte_at to))) q →
+        On o seat q forwarded × Started o seat swapping p forwarded q
     has_forwarded q did = first_step swapping forwarded p on (Won (Word x.x) (plain_word x.class) (forward_word (byte_at to))) forward_next q did
 
-    pub has_lost : (found : ℕ) (q : P) → Did o seat p (Lost (Word x.x) (plain_word x.class) (forward_word (byte_at to)) found) q → On o seat q lost_to × Started o seat swapping p lost_to q
-    has_lost found q did = first_step swapping lost_to p on (Lost (Word x.x) (plain_word x.class) (forward_word (byte_at to)) found) (Nothing, loses t.worker s x to found, refl, refl) q did
+    pub has_lost : (found : ℕ) (q : P) → Did o seat p (Lost (Word x.x) (plain_word x.class) (forward_word (byte_at to)) found) q →
+        On o seat q lost_to × Started o seat swapping p lost_to q
+    has_lost found q did = first_step swapping lost_to p on (Lost (Word x.x) (plain_word x.class) (forward_word (byte_at to)) found)
+        (Nothing, loses t.worker s x to found, refl, refl) q did
 
   -- the first word, to Pinned
   module _ (p : P) (on : On o seat p (at t (OnSlot s (Pin x)))) where
@@ -156,8 +168,10 @@ module _ {P : Type 0} (o : Ports P) (seat : Seat) (t : Teller) (s : ℕ) (x : Ob
 
     pin_next : (Tells seat pinning (Won (Word x.x) (plain_word x.class) (pinned_word x.class)) (pinned (staying seat.area s)))
     pin_next = elim (cards seat.area s) [
-      | inl has ↦ subst (λ (mid : Mid). Tells seat pinning (Won (Word x.x) (plain_word x.class) (pinned_word x.class)) (pinned mid)) (sym has.1) (Fails x.x, has_failed t.worker s x has.0, refl, refl)
-      | inr has ↦ subst (λ (mid : Mid). Tells seat pinning (Won (Word x.x) (plain_word x.class) (pinned_word x.class)) (pinned mid)) (sym has.1) (FailsEnding x.x s, fails_bare t.worker s x has.0, refl, refl)
+      | inl has ↦ subst (λ (mid : Mid). Tells seat pinning (Won (Word x.x) (plain_word x.class) (pinned_word x.class)) (pinned mid)) (sym has.1)
+          (Fails x.x, has_failed t.worker s x has.0, refl, refl)
+      | inr has ↦ subst (λ (mid : Mid). Tells seat pinning (Won (Word x.x) (plain_word x.class) (pinned_word x.class)) (pinned mid)) (sym has.1)
+          (FailsEnding x.x s, fails_bare t.worker s x has.0, refl, refl)
     ]
 
     pub pin_may : o.may p (Swaps (Word x.x) (plain_word x.class) (pinned_word x.class))
@@ -169,4 +183,5 @@ module _ {P : Type 0} (o : Ports P) (seat : Seat) (t : Teller) (s : ℕ) (x : Ob
 
     pub lost_pin : (found : ℕ) (q : P) → Did o seat p (Lost (Word x.x) (plain_word x.class) (pinned_word x.class) found) q →
         On o seat q (at t (OnSlot s (Look x.x))) × Started o seat pinning p (at t (OnSlot s (Look x.x))) q
-    lost_pin found q did = first_step pinning (at t (OnSlot s (Look x.x))) p on (Lost (Word x.x) (plain_word x.class) (pinned_word x.class) found) (Nothing, fails_not t.worker s x found, refl, refl) q did
+    lost_pin found q did = first_step pinning (at t (OnSlot s (Look x.x))) p on (Lost (Word x.x) (plain_word x.class) (pinned_word x.class) found)
+        (Nothing, fails_not t.worker s x found, refl, refl) q did

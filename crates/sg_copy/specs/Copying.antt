@@ -84,7 +84,8 @@ pub record AreMarked (old : Contents) (slots wholes : List ℕ) (m : ℕ → ℕ
 -- A block's word changes from Free to Swept alone, and no bit falls. Each moved object is at a slot of its size that was clear, and each
 -- slot that was clear and isn't is the place of one.
 pub record AreFilled (old : Contents) (m : ℕ → ℕ) (went : List ℕ) (new : Contents) : Type 0 where
-  pub opened : (b : ℕ) → (block_in new b ≡ block_in old b) ⊎ ((b < old.layout.blocks) × (block_in old b ≡ Free) × ((z : ℕ) × IsSizeClass z × (block_in new b ≡ Swept z)))
+  pub opened : (b : ℕ) →
+      (block_in new b ≡ block_in old b) ⊎ ((b < old.layout.blocks) × (block_in old b ≡ Free) × ((z : ℕ) × IsSizeClass z × (block_in new b ≡ Swept z)))
   pub risen : (b i : ℕ) → bit_at (used_in new b) i ≡ 0 → bit_at (used_in old b) i ≡ 0
   pub homes : (a : ℕ) → In a went → IsTaken (area_of old) (block_in new) (used_in old) (used_in new) (m a) (slot_size (size_of (word old) a))
   pub bits : (b i : ℕ) → bit_at (used_in new b) i ≡ 1 → bit_at (used_in old b) i ≡ 0 →

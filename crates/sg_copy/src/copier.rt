@@ -1,4 +1,5 @@
-ghost use Rattle.std.specs.Prelude.{◌≡◌, ◌↔◌, ◌+◌, ◌-◌, ◌<◌, ◌≤◌, ◌^◌, true, [], ◌∷◌, ◌++◌, IfOk, IfSome, MatchOption, length, slice_index, slice_set, vec_capacity};
+ghost use Rattle.std.specs.Prelude.{◌≡◌, ◌↔◌, ◌+◌, ◌-◌, ◌<◌, ◌≤◌, ◌^◌, true, [], ◌∷◌, ◌++◌, IfOk, IfSome, MatchOption, length, slice_index};
+ghost use Rattle.std.specs.Prelude.{slice_set, vec_capacity};
 ghost use Rattle.sg_words.specs.Address.{byte_at};
 ghost use Rattle.sg_words.specs.Sections.{old_base, globals_base, IsLayout};
 ghost use Rattle.sg_copy.specs.declared.gray.Gray.TheVariants.{Whole};
@@ -300,11 +301,7 @@ impl Copier {
                 to: Addr::at_word(to),
             })
             .unwrap();
-        self.items
-            .push(Gray::Whole {
-                at: Addr::at_word(to),
-            })
-            .unwrap();
+        add_whole(&mut self.items, to);
     }
 
     /// The object has failed, and is an item. It takes no memory.
@@ -315,12 +312,23 @@ impl Copier {
         ensures { self.new ≡ record self.old { fails = self.old.fails ++ byte_at at ∷ []; queue = self.old.queue ++ Whole (byte_at at) ∷ [] } }
     {
         self.fails.push(Addr::at_word(at)).unwrap();
-        self.items
-            .push(Gray::Whole {
-                at: Addr::at_word(at),
-            })
-            .unwrap();
+        add_whole(&mut self.items, at);
     }
+}
+
+/// The object at this word is an item more. It takes no memory.
+fn add_whole(items: &mut Vec<Gray>, at: u64)
+    requires room { length items.old.items < vec_capacity items.old }
+    requires above { 512 ≤ at }
+    requires below { at < 2 ^ 37 }
+    ensures added { items.new.items ≡ items.old.items ++ Whole (byte_at at) ∷ [] }
+    ensures room { vec_capacity items.old ≤ vec_capacity items.new }
+{
+    items
+        .push(Gray::Whole {
+            at: Addr::at_word(at),
+        })
+        .unwrap();
 }
 
 /// Which fields are strong of an object with this first word, whichever of its low bits are set; none, where no class has it.

@@ -31,7 +31,8 @@ impl Copier {
     /// Handles this slot: loads it, and goes by the young object to which it refers, if there is one.
     pub(crate) fn visit<P: CopyPort>(&mut self, port: &mut P, slot: u64)
         requires between { self.old.stage ≡ Between }
-        requires on { (a : Teller) × IsNextOf a (SlotOf slot) (at (teller_of self.old) Idle) × IsOn (seat_of self.old) P.leads P.may P.sees P.blocks port.old a }
+        requires on { (a : Teller) × IsNextOf a (SlotOf slot) (at (teller_of self.old) Idle) × IsOn (seat_of self.old) P.leads P.may P.sees P.blocks
+            port.old a }
         ensures { (a : Teller) → IsNextOf a (SlotOf slot) (at (teller_of self.old) Idle) → IsOn (seat_of self.old) P.leads P.may P.sees P.blocks port.old a →
             HasBegun self.old P.leads a port.old self.new port.new }
     {
@@ -70,7 +71,8 @@ impl Copier {
     /// Marks the card of the slot, where it has one: its target stays where it is.
     pub(crate) fn mark<P: CopyPort>(&self, port: &mut P, slot: u64)
         requires { IsOn (seat_of self.now) P.leads P.may P.sees P.blocks port.old (at (teller_of self.now) (staying (seat_of self.now).area slot)) }
-        ensures { HasGoneOn (seat_of self.now) P.leads (at (teller_of self.now) (staying (seat_of self.now).area slot)) port.old (at (teller_of self.now) Idle) port.new }
+        ensures { HasGoneOn (seat_of self.now) P.leads (at (teller_of self.now) (staying (seat_of self.now).area slot)) port.old
+            (at (teller_of self.now) Idle) port.new }
     {
         if let Some(card) = self.card_of(slot) {
             port.mark_card(card);
@@ -120,7 +122,8 @@ impl Copier {
         requires short { job.fields ≤ 62 }
         requires on { IsOn (seat_of self.old) P.leads P.may P.sees P.blocks port.old
             (at (teller_of self.old) (On job.slot (looking (seat_of self.old).area (object_of job) from))) }
-        ensures { HasHandled self.old P.leads (at (teller_of self.old) (On job.slot (looking (seat_of self.old).area (object_of job) from))) port.old self.new port.new }
+        ensures { HasHandled self.old P.leads (at (teller_of self.old) (On job.slot (looking (seat_of self.old).area (object_of job) from))) port.old
+            self.new port.new }
     {
         match find(port, size_of(job.fields), from) {
             Found::Free { block } => self.set_stage(Stage::Taking { job, block }),

@@ -65,7 +65,8 @@ impl Copier {
     /// Handles the slot of this item, or takes its object in hand.
     fn go_through<P: CopyPort>(&mut self, port: &mut P, item: Gray)
         requires between { self.old.stage ≡ Between }
-        requires on { (a : Teller) × IsNextOf a (item_of item) (at (teller_of self.old) Idle) × IsOn (seat_of self.old) P.leads P.may P.sees P.blocks port.old a }
+        requires on { (a : Teller) × IsNextOf a (item_of item) (at (teller_of self.old) Idle) × IsOn (seat_of self.old) P.leads P.may P.sees P.blocks
+            port.old a }
         ensures { (a : Teller) → IsNextOf a (item_of item) (at (teller_of self.old) Idle) → IsOn (seat_of self.old) P.leads P.may P.sees P.blocks port.old a →
             HasSetOut self.old P.leads a port.old self.new port.new }
     {
@@ -78,7 +79,8 @@ impl Copier {
     /// Takes the object at this word in hand: two loads.
     fn open<P: CopyPort>(&mut self, port: &mut P, whole: u64)
         requires between { self.old.stage ≡ Between }
-        requires on { (a : Teller) × IsNextOf a (WholeOf whole) (at (teller_of self.old) Idle) × IsOn (seat_of self.old) P.leads P.may P.sees P.blocks port.old a }
+        requires on { (a : Teller) × IsNextOf a (WholeOf whole) (at (teller_of self.old) Idle) × IsOn (seat_of self.old) P.leads P.may P.sees P.blocks
+            port.old a }
         ensures { (a : Teller) → IsNextOf a (WholeOf whole) (at (teller_of self.old) Idle) → IsOn (seat_of self.old) P.leads P.may P.sees P.blocks port.old a →
             HasSetOut self.old P.leads a port.old self.new port.new }
     {

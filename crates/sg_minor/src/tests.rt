@@ -1,4 +1,4 @@
-use crate::minor;
+use crate::{found_in, minor};
 use sg_space::{Layout, Space};
 use sg_words::{Addr, Piece};
 use std::test::Fail;
@@ -12,7 +12,8 @@ fn a_pause_without_objects(rt: HostRuntime) -> Result<(), Fail> {
         pages: 0,
     };
     let space = Space::new(rt.alloc(), layout, &[])?;
-    let (space, report) = minor(rt.alloc(), space, &[4096, 7])?;
+    let found = found_in(rt.alloc(), &space)?;
+    let (space, report) = minor(rt.alloc(), space, &[4096, 7], found)?;
     let front = Addr::of(4096).ok_or("an address")?;
     assert_eq!(rt; report.pins.into_vec().len(), 0);
     assert_eq!(rt; report.moves.into_vec().len(), 0);

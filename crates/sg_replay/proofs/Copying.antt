@@ -12,7 +12,7 @@ use Rattle.sg_graph.specs.Book.{Book, slot_at, slot_words, IsInSlot, IsEmptySlot
 use Rattle.sg_graph.specs.Pause.{IsPinned}
 use Rattle.sg_graph.specs.Copies.{IsMovable, AreByAddress, StandsOld, items_of, leads_of, moved_to_slot, AreCopied, CopiesInOrder}
 use Rattle.sg_replay.proofs.Rising.{one_by_names}
-use Rattle.sg_replay.proofs.Found.{one_search}
+use Rattle.sg_words.proofs.Found.{one_search}
 
 -- two standing objects at one address are one
 pub one_standing : (p : Program) (g : Graph) (b : Book) → IsApart p g b → (m n : ℕ) → m ≢ 0 → b.stands m ≡ true → n ≢ 0 → b.stands n ≡ true →

@@ -1,6 +1,5 @@
 pub mod Rising
 pub mod Giving
-pub mod Found
 pub mod Turning
 pub mod Playing
 pub mod Keeping

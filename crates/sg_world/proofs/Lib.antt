@@ -13,6 +13,5 @@ pub mod Opened
 pub mod Parts
 pub mod Paused
 pub mod Placed
-pub mod Seeded
 pub mod Turned
 pub mod Yields

@@ -3,11 +3,9 @@
 
 mod placing;
 mod reports;
-mod seeding;
 mod stop;
 mod world;
 
-pub use seeding::seeds_in;
 pub use world::World;
 
 #[cfg(test)]

@@ -15,17 +15,15 @@ ghost use Rattle.sg_world.specs.Telling.{goes};
 ghost use Rattle.sg_world.specs.Stopping.{held_by, held_in, HaveRegisters, IsOpen, MayGoOn, GoesOn, GoOn};
 
 use crate::placing::answer_to;
-use crate::seeding::seeds_in;
 use sg_actor::Mutator;
 use sg_graph::{MinorReport, Program, Service};
-use sg_minor::minor;
+use sg_minor::{found_in, minor};
 use sg_space::Space;
 use sg_words::List;
 use std::alloc::{AllocError, Global};
 
-/// The pause of a stop: the stop word is cleared, the seeds are found by the dirty cards, what no mutator that hasn't ended reaches is
-/// dropped, and no mutator has a buffer any more. Takes the time and the memory of a minor pause and of its seeds, and 80 words for each
-/// mutator. Where memory runs out the space is lost.
+/// The pause of a stop: the stop word is cleared, what no mutator that hasn't ended reaches is dropped, and no mutator has a buffer any
+/// more. Takes the time and the memory of a minor pause, and 80 words for each mutator. Where memory runs out the space is lost.
 pub(crate) fn pause(
     alloc: Global,
     space: Space,
@@ -43,7 +41,7 @@ pub(crate) fn pause(
     let ambiguous = ambiguous(alloc, mutators)?;
     let mut space = space;
     space.set_stopping(false);
-    let found = seeds_in(alloc, &space)?;
+    let found = found_in(alloc, &space)?;
     let (space, report) = minor(alloc, space, ambiguous.as_slice(), found)?;
     drop_buffers(mutators);
     Ok((space, report))
@@ -96,6 +94,7 @@ pub(crate) fn serve_all(
     requires few { length program.now.classes ≤ 256 }
     requires may { (k : ℕ) (m : Mutating) → slice_get mutators.old k ≡ Some m → MayGoOn program.now m }
     ensures served { IfOk result (λ services. GoOn program.now space.old mutators.old services space.new mutators.new) }
+    ensures contents { IfOk result (λ _. IsContents space.new) }
     ensures keeps { KeepsSections space.old space.new }
     ensures stop { space.new.stop ≡ space.old.stop }
 {

@@ -24,9 +24,12 @@ scan_slots-requires-clause-sound g c =
     let s = c.requires.sound.0 in
     let are = c.requires.sound.1 in
     let state = same_Some (block_in s (c.args.card / 4)) _ (sym (read g (goal.at.scan_slots-requires-clause-sound g c).After-of_word s are) ∙ c.in-Some-Swept.is) ∙ c.in-Some-Swept.field-0-is in
-    let at = ap (λ (n : ℕ). g.W.Words.word_of c.args.words.now (n + 3 * (c.args.card / 4) + 1)) c.blocks_number.ensures in
-    (s, are, swept_mask c.args.layout.now c.args.shapes.now (g.W.Words.count c.args.words.now) (g.W.Words.word_of c.args.words.now) s are c.args.card c.requires.card
-    c.in-Some-Swept.size c.word-mask.result state (c.word-mask.ensures.value ∙ at))
+    let at = ap (λ (n : ℕ). g.W.Words.word_of c.args.words.now (n + 3 * (c.args.card / 4) + 1)) c.blocks_number.ensures in (
+      s,
+      are,
+      swept_mask c.args.layout.now c.args.shapes.now (g.W.Words.count c.args.words.now) (g.W.Words.word_of c.args.words.now) s are c.args.card c.requires.card
+          c.in-Some-Swept.size c.word-mask.result state (c.word-mask.ensures.value ∙ at),
+    )
 
 pub scan_slots-requires-in-Some-Need-clause-sound : goal.scan_slots-requires-in-Some-Need-clause-sound
 scan_slots-requires-in-Some-Need-clause-sound g c =
@@ -34,9 +37,12 @@ scan_slots-requires-in-Some-Need-clause-sound g c =
     let are = c.requires.sound.1 in
     let o = (goal.at.scan_slots-requires-in-Some-Need-clause-sound g c).After-of_word in
     let state = same_Some (block_in s (c.args.card / 4)) _ (sym (read g o s are) ∙ c.in-Some-Need.is) ∙ c.in-Some-Need.field-0-is in
-    let at = ap (λ (n : ℕ). g.W.Words.word_of c.args.words.now (n + 3 * (c.args.card / 4) + 2)) c.blocks_number.ensures in
-    (s, are, need_mask c.args.layout.now c.args.shapes.now (g.W.Words.count c.args.words.now) (g.W.Words.word_of c.args.words.now) s are c.args.card c.requires.card
-    c.in-Some-Need.size c.word-mask-in-Some-Need.result state (c.word-mask-in-Some-Need.ensures.value ∙ at))
+    let at = ap (λ (n : ℕ). g.W.Words.word_of c.args.words.now (n + 3 * (c.args.card / 4) + 2)) c.blocks_number.ensures in (
+      s,
+      are,
+      need_mask c.args.layout.now c.args.shapes.now (g.W.Words.count c.args.words.now) (g.W.Words.word_of c.args.words.now) s are c.args.card c.requires.card
+          c.in-Some-Need.size c.word-mask-in-Some-Need.result state (c.word-mask-in-Some-Need.ensures.value ∙ at),
+    )
 
 pub returns-in-Some-Swept : goal.returns-in-Some-Swept
 returns-in-Some-Swept g c = λ s are h.

@@ -38,7 +38,7 @@ scan_object-requires-clause-sound g c =
     let are = c.requires.sound.1 in
     let set = sym (shr_and_one c.args.mask c.loop-slot.slot) ∙ c.if-mask-slot-eq1.true in
     let front : c.old_word.result + 256 * (c.args.card / 4) + c.args.size * c.loop-slot.slot ≡ slot_base s.layout (c.args.card / 4) c.args.size c.loop-slot.slot =
-        ap (λ (n : ℕ). n + 256 * (c.args.card / 4) + c.args.size * c.loop-slot.slot) (c.old_word.ensures ∙ ap old_base (sym are.words.layout_is)) in
+    ap (λ (n : ℕ). n + 256 * (c.args.card / 4) + c.args.size * c.loop-slot.slot) (c.old_word.ensures ∙ ap old_base (sym are.words.layout_is)) in
     (s, are, subst (IsOldFront s) (sym front) (old_front c.placing_law.ensures s c.args.card c.args.size c.args.mask are.sound c.requires.sound.2 c.loop-slot.slot set))
 
 pub loop-slot-preserved : goal.loop-slot-preserved
@@ -56,9 +56,9 @@ loop-slot-preserved g c =
                 let set = sym (shr_and_one c.args.mask c.loop-slot.slot) ∙ w.if-mask-slot-eq1.true in
                 let base = c.old_word.ensures ∙ ap old_base (sym are.words.layout_is) in
                 let front : c.old_word.result + 256 * (c.args.card / 4) + c.args.size * c.loop-slot.slot ≡ slot_base s.layout (c.args.card / 4) c.args.size c.loop-slot.slot =
-                    ap (λ (n : ℕ). n + 256 * (c.args.card / 4) + c.args.size * c.loop-slot.slot) base in
+                ap (λ (n : ℕ). n + 256 * (c.args.card / 4) + c.args.size * c.loop-slot.slot) base in
                 let start : c.old_word.result + 256 * (c.args.card / 4) + 64 * (c.args.card % 4) ≡ card_base c.args.layout.now c.args.card =
-                    ap (λ (n : ℕ). n + 256 * (c.args.card / 4) + 64 * (c.args.card % 4)) c.old_word.ensures ∙ omega arith in
+                ap (λ (n : ℕ). n + 256 * (c.args.card / 4) + 64 * (c.args.card % 4)) c.old_word.ensures ∙ omega arith in
                 let old = old_front c.placing_law.ensures s c.args.card c.args.size c.args.mask are.sound is c.loop-slot.slot set in
                 subst (λ (xs : List ℕ). IsScannedTo s c.args.card xs (slot_base s.layout (c.args.card / 4) c.args.size (c.loop-slot.slot + 1))) (sym w.found-is)
                 (over_set c.placing_law.ensures s c.args.card c.args.size c.args.mask are.sound is w.scan_object.new.found c.loop-slot.slot fits set

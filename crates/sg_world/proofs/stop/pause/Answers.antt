@@ -1,15 +1,13 @@
 use Rattle.std.proofs.Common.{List, ℕ, ◌∙◌, subst}
 use Rattle.sg_minor.specs.Law.{HasPaused}
-use Rattle.sg_world.proofs.Heaps.{heap_stays}
+use Rattle.sg_world.proofs.Heaps.{heap_stays, some_stays}
 use Rattle.sg_world.proofs.stop.pause.Goals as goal
 
-pub seeds_in-requires : goal.seeds_in-requires
-seeds_in-requires c =
-    let h = c.requires.some in (h.0, h.1, h.2, heap_stays h.0 c.args.space c.set_stopping.new.self h.1 h.2 0 c.set_stopping.ensures h.3, h.4)
+pub found_in-requires : goal.found_in-requires
+found_in-requires c = some_stays c.args.space c.set_stopping.new.self 0 c.set_stopping.ensures c.requires.some
 
 pub minor-requires-clause-some : goal.minor-requires-clause-some
-minor-requires-clause-some c =
-    let h = c.requires.some in (h.0, h.1, h.2, heap_stays h.0 c.args.space c.set_stopping.new.self h.1 h.2 0 c.set_stopping.ensures h.3, h.4)
+minor-requires-clause-some c = some_stays c.args.space c.set_stopping.new.self 0 c.set_stopping.ensures c.requires.some
 
 pub returns-clause-paused : goal.returns-clause-paused
 returns-clause-paused c p h b holds plain =

@@ -27,10 +27,12 @@ ports g = record {
 
 pub take_slot-found-requires : goal.take_slot-found-requires
 take_slot-found-requires g c =
-    record { may = mark_may (ports g) (seat_of c.args.self.now) (teller_of c.args.self.now) c.args.job.slot (object_of c.args.job) c.args.block c.args.slot c.args.port.now c.requires.on }
+    record { may = mark_may (ports g) (seat_of c.args.self.now) (teller_of c.args.self.now) c.args.job.slot (object_of c.args.job) c.args.block
+        c.args.slot c.args.port.now c.requires.on }
 
 pub overflow_shr-found : goal.overflow_shr-found
-overflow_shr-found g c = slot_below (ports g) (seat_of c.args.self.now) (teller_of c.args.self.now) c.args.job.slot (object_of c.args.job) c.args.block c.args.slot c.args.port.now c.requires.on
+overflow_shr-found g c = slot_below (ports g) (seat_of c.args.self.now) (teller_of c.args.self.now) c.args.job.slot (object_of c.args.job)
+    c.args.block c.args.slot c.args.port.now c.requires.on
 
 pub write-requires-clause-on : goal.write-requires-clause-on
 write-requires-clause-on g c =
@@ -51,10 +53,12 @@ write-requires-clause-on g c =
     let room : c.size_of-size.result < length m.passed = omega (arith, c.size_of-size.ensures.most, c.set_passed.ensures.length) in
     let here = marked o (seat_of m) (teller_of m) s x b i p c.requires.on in
     let to : c.place-to.result ≡ place (seat_of m).area b (size_for x) i =
-        c.place-to.ensures ∙ ap (λ (h : Seat). place h.area b c.size_of-size.result i) (seat_same m k same.copier) ∙ ap (λ z. place (seat_of m).area b z i) size in
+        c.place-to.ensures ∙ ap (λ (h : Seat). place h.area b c.size_of-size.result i) (seat_same m k same.copier) ∙ ap
+            (λ z. place (seat_of m).area b z i) size in
     let is : at (teller_of k) (OnSlot s (Body x c.place-to.result 1)) ≡ here =
         at_passed m k c.size_of-size.result (size_for x) b (OnSlot s (Body x c.place-to.result 1)) c.set_passed.ensures.value size room
-        ∙ ap (λ at. record (teller_of m) { worker = record (worker_of m) { passed = put (worker_of m).passed (size_for x) b; mid = OnSlot s (Body x at 1) } }) to in
+        ∙ ap (λ at. record (teller_of m)
+            { worker = record (worker_of m) { passed = put (worker_of m).passed (size_for x) b; mid = OnSlot s (Body x at 1) } }) to in
     on_as o (seat_of m) (seat_of k) here _ q (seat_same m k same.copier) is got.0
 
 pub search-requires-clause-on : goal.search-requires-clause-on
@@ -94,10 +98,12 @@ returns-then-found-slot-eq0 g c =
     let room : c.size_of-size.result < length m.passed = omega (arith, c.size_of-size.ensures.most, c.set_passed.ensures.length) in
     let here = marked o (seat_of m) (teller_of m) s x b i p c.requires.on in
     let to : c.place-to.result ≡ place (seat_of m).area b (size_for x) i =
-        c.place-to.ensures ∙ ap (λ (h : Seat). place h.area b c.size_of-size.result i) (seat_same m k same.copier) ∙ ap (λ z. place (seat_of m).area b z i) size in
+        c.place-to.ensures ∙ ap (λ (h : Seat). place h.area b c.size_of-size.result i) (seat_same m k same.copier) ∙ ap
+            (λ z. place (seat_of m).area b z i) size in
     let is : at (teller_of k) (OnSlot s (Body x c.place-to.result 1)) ≡ here =
         at_passed m k c.size_of-size.result (size_for x) b (OnSlot s (Body x c.place-to.result 1)) c.set_passed.ensures.value size room
-        ∙ ap (λ at. record (teller_of m) { worker = record (worker_of m) { passed = put (worker_of m).passed (size_for x) b; mid = OnSlot s (Body x at 1) } }) to in
+        ∙ ap (λ at. record (teller_of m)
+            { worker = record (worker_of m) { passed = put (worker_of m).passed (size_for x) b; mid = OnSlot s (Body x at 1) } }) to in
     begun_then o m c.write.new.self (at (teller_of m) (OnSlot s (Mark x b i))) here p q c.write.new.port got.1
     (handled_as o m k c.write.new.self here (at (teller_of k) (OnSlot s (Body x c.place-to.result 1))) q c.write.new.port same is c.write.ensures)
 
@@ -117,4 +123,5 @@ returns-else-found-slot-eq0 g c =
       | inr zero ↦ absurd (c.if-found-slot-eq0.false (shr_and_one found i ∙ zero))
     ] in
     let lost = lost_slot o (seat_of m) (teller_of m) s x b i p c.requires.on found set q (c.take_slot-found.ensures.seen, c.take_slot-found.ensures.led) in
-    begun_then o m c.search.new.self (at (teller_of m) (OnSlot s (Mark x b i))) (look_at o (seat_of m) (teller_of m) s x b) p q c.search.new.port lost.1 c.search.ensures
+    begun_then o m c.search.new.self (at (teller_of m) (OnSlot s (Mark x b i))) (look_at o (seat_of m) (teller_of m) s x b) p q c.search.new.port
+        lost.1 c.search.ensures

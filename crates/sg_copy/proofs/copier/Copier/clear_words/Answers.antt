@@ -29,7 +29,8 @@ store-requires-clause-may g c =
     let m = c.args.self.now in
     let x = object_of c.args.job in
     let n = c.args.job.fields + 2 in
-    let on = on_then o (seat_of m) (at (teller_of m) (On c.args.job.slot (Body x c.args.to n))) (at (teller_of m) (On c.args.job.slot (Body x c.args.to c.loop-j.j))) c.args.port.now c.loop-j.port
+    let on = on_then o (seat_of m) (at (teller_of m) (On c.args.job.slot (Body x c.args.to n)))
+        (at (teller_of m) (On c.args.job.slot (Body x c.args.to c.loop-j.j))) c.args.port.now c.loop-j.port
     c.requires c.loop-j.invariant in
     let size : c.size_of-j-end.result ≡ size_for x = c.size_of-j-end.ensures.size in
     let last : c.loop-j.j < size_for x = omega (arith, c.loop-j-test.true, size) in
@@ -46,7 +47,8 @@ loop-j-preserved g c =
     let size : c.size_of-j-end.result ≡ size_for x = c.size_of-j-end.ensures.size in
     let last : c.loop-j.j < size_for x = omega (arith, c.loop-j-test.true, size) in
     gone_then o (seat_of m) start here _ c.args.port.now c.loop-j.port c.store.new.self c.loop-j.invariant
-    (word_cleared o (seat_of m) (teller_of m) c.args.job.slot x c.args.to c.loop-j.j c.loop-j.port on c.loop-j.auto.j last c.store.new.self c.store.ensures.seen c.store.ensures.led)
+    (word_cleared o (seat_of m) (teller_of m) c.args.job.slot x c.args.to c.loop-j.j c.loop-j.port on c.loop-j.auto.j last c.store.new.self
+        c.store.ensures.seen c.store.ensures.led)
 
 pub returns : goal.returns
 returns g c =
@@ -58,5 +60,6 @@ returns g c =
     let size : c.size_of-j-end.result ≡ size_for x = c.size_of-j-end.ensures.size in
     let above : c.args.job.fields + 2 ≤ c.size_of-j-end.result = omega (arith, size, holds) in
     let last : c.loop-j.j ≡ size_for x = omega (arith, c.loop-j-test.false, c.loop-j.auto.j-end above, size) in
-    subst (λ j. Gone o (seat_of m) (at (teller_of m) (On c.args.job.slot (Body x c.args.to (c.args.job.fields + 2)))) c.args.port.now (at (teller_of m) (On c.args.job.slot (Body x c.args.to j))) c.loop-j.port)
+    subst (λ j. Gone o (seat_of m) (at (teller_of m) (On c.args.job.slot (Body x c.args.to (c.args.job.fields + 2)))) c.args.port.now
+        (at (teller_of m) (On c.args.job.slot (Body x c.args.to j))) c.loop-j.port)
     last c.loop-j.invariant

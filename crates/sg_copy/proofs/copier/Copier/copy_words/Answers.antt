@@ -26,7 +26,8 @@ load-word-requires-clause-may g c =
     let o = ports g in
     let m = c.args.self.now in
     let x = object_of c.args.job in
-    let on = on_then o (seat_of m) (at (teller_of m) (On c.args.job.slot (Body x c.args.to 1))) (at (teller_of m) (On c.args.job.slot (Body x c.args.to c.loop-j.j))) c.args.port.now c.loop-j.port
+    let on = on_then o (seat_of m) (at (teller_of m) (On c.args.job.slot (Body x c.args.to 1)))
+        (at (teller_of m) (On c.args.job.slot (Body x c.args.to c.loop-j.j))) c.args.port.now c.loop-j.port
     c.requires c.loop-j.invariant in
     read_may o (seat_of m) (teller_of m) c.args.job.slot x c.args.to c.loop-j.j c.loop-j.port on c.loop-j-test.true
 
@@ -35,7 +36,8 @@ store-requires-clause-may g c =
     let o = ports g in
     let m = c.args.self.now in
     let x = object_of c.args.job in
-    let on = on_then o (seat_of m) (at (teller_of m) (On c.args.job.slot (Body x c.args.to 1))) (at (teller_of m) (On c.args.job.slot (Body x c.args.to c.loop-j.j))) c.args.port.now c.loop-j.port
+    let on = on_then o (seat_of m) (at (teller_of m) (On c.args.job.slot (Body x c.args.to 1)))
+        (at (teller_of m) (On c.args.job.slot (Body x c.args.to c.loop-j.j))) c.args.port.now c.loop-j.port
     c.requires c.loop-j.invariant in
     write_may o (seat_of m) (teller_of m) c.args.job.slot x c.args.to c.loop-j.j c.loop-j.port on c.loop-j-test.true c.load-word.result c.load-word.new.self
     c.load-word.ensures.seen c.load-word.ensures.led

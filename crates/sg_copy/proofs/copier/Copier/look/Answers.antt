@@ -26,21 +26,24 @@ pub store-requires-clause-may : goal.store-requires-clause-may
 store-requires-clause-may g c =
     let o = ports g in
     let m = c.args.self.now in
-    let seen = forwarded_seen o (seat_of m) (teller_of m) c.args.slot c.args.target c.args.port.now c.requires.on c.load.result c.load.new.self c.load.ensures.seen c.load.ensures.led c.in-Forwarded.to c.in-Forwarded.ensures in
+    let seen = forwarded_seen o (seat_of m) (teller_of m) c.args.slot c.args.target c.args.port.now c.requires.on c.load.result c.load.new.self
+        c.load.ensures.seen c.load.ensures.led c.in-Forwarded.to c.in-Forwarded.ensures in
     send_may o (seat_of m) (teller_of m) c.args.slot c.in-Forwarded.to c.load.new.self seen.0
 
 pub mark-requires : goal.mark-requires
 mark-requires g c =
     let o = ports g in
     let m = c.args.self.now in
-    (staying_seen o (seat_of m) (teller_of m) c.args.slot c.args.target c.args.port.now c.requires.on c.load.result c.load.new.self c.load.ensures.seen c.load.ensures.led
+    (staying_seen o (seat_of m) (teller_of m) c.args.slot c.args.target c.args.port.now c.requires.on c.load.result c.load.new.self
+        c.load.ensures.seen c.load.ensures.led
     c.in-Staying.ensures.0 c.in-Staying.ensures.1).0
 
 pub prepare-requires-clause-on : goal.prepare-requires-clause-on
 prepare-requires-clause-on g c =
     let o = ports g in
     let m = c.args.self.now in
-    (plain_seen o (seat_of m) (teller_of m) c.args.slot c.args.target c.args.port.now c.requires.on c.load.result c.load.new.self c.load.ensures.seen c.load.ensures.led
+    (plain_seen o (seat_of m) (teller_of m) c.args.slot c.args.target c.args.port.now c.requires.on c.load.result c.load.new.self c.load.ensures.seen
+        c.load.ensures.led
     c.in-Plain.class c.in-Plain.ensures.1).0
 
 pub returns-in-Forwarded : goal.returns-in-Forwarded
@@ -50,7 +53,8 @@ returns-in-Forwarded g c =
     let p = c.args.port.now in
     let q = c.load.new.self in
     let r = c.store.new.self in
-    let seen = forwarded_seen o (seat_of m) (teller_of m) c.args.slot c.args.target p c.requires.on c.load.result q c.load.ensures.seen c.load.ensures.led c.in-Forwarded.to c.in-Forwarded.ensures in
+    let seen = forwarded_seen o (seat_of m) (teller_of m) c.args.slot c.args.target p c.requires.on c.load.result q c.load.ensures.seen
+        c.load.ensures.led c.in-Forwarded.to c.in-Forwarded.ensures in
     let start = at (teller_of m) (OnSlot c.args.slot (Look c.args.target)) in
     handled_idle o m start p r c.requires.between
     (gone_then o (seat_of m) start (at (teller_of m) (OnSlot c.args.slot (Send c.in-Forwarded.to))) (at (teller_of m) Idle) p q r seen.1
@@ -63,7 +67,8 @@ returns-in-Staying g c =
     let p = c.args.port.now in
     let q = c.load.new.self in
     let r = c.mark.new.port in
-    let seen = staying_seen o (seat_of m) (teller_of m) c.args.slot c.args.target p c.requires.on c.load.result q c.load.ensures.seen c.load.ensures.led c.in-Staying.ensures.0 c.in-Staying.ensures.1 in
+    let seen = staying_seen o (seat_of m) (teller_of m) c.args.slot c.args.target p c.requires.on c.load.result q c.load.ensures.seen
+        c.load.ensures.led c.in-Staying.ensures.0 c.in-Staying.ensures.1 in
     let start = at (teller_of m) (OnSlot c.args.slot (Look c.args.target)) in
     handled_idle o m start p r c.requires.between
     (gone_then o (seat_of m) start (at (teller_of m) (staying (seat_of m).area c.args.slot)) (at (teller_of m) Idle) p q r seen.1 c.mark.ensures)
@@ -74,6 +79,8 @@ returns-in-Plain g c =
     let m = c.args.self.now in
     let p = c.args.port.now in
     let q = c.load.new.self in
-    let seen = plain_seen o (seat_of m) (teller_of m) c.args.slot c.args.target p c.requires.on c.load.result q c.load.ensures.seen c.load.ensures.led c.in-Plain.class c.in-Plain.ensures.1 in
+    let seen = plain_seen o (seat_of m) (teller_of m) c.args.slot c.args.target p c.requires.on c.load.result q c.load.ensures.seen c.load.ensures.led
+        c.in-Plain.class c.in-Plain.ensures.1 in
     let start = at (teller_of m) (OnSlot c.args.slot (Look c.args.target)) in
-    handled_then o m c.prepare.new.self start (at (teller_of m) (OnSlot c.args.slot (Size c.args.target c.in-Plain.class))) p q c.prepare.new.port seen.1 c.prepare.ensures
+    handled_then o m c.prepare.new.self start (at (teller_of m) (OnSlot c.args.slot (Size c.args.target c.in-Plain.class))) p q c.prepare.new.port
+        seen.1 c.prepare.ensures

@@ -43,7 +43,8 @@ returns-in-Some g c =
     let on = subst (λ (mid : Mid). On o (seat_of m) x (at (teller_of m) mid)) card.0 c.requires in
     subst (λ (mid : Mid). Gone o (seat_of m) (at (teller_of m) mid) x (at (teller_of m) Idle) y) (sym card.0)
     (card_marked o (seat_of m) (teller_of m) s x on y
-    (subst (λ k. o.sees x (Store (Card k) 1)) card.1 c.mark_card.ensures.seen) (subst (λ k. o.leads x (Store (Card k) 1 ∷ []) y) card.1 c.mark_card.ensures.led))
+    (subst (λ k. o.sees x (Store (Card k) 1)) card.1 c.mark_card.ensures.seen)
+        (subst (λ k. o.leads x (Store (Card k) 1 ∷ []) y) card.1 c.mark_card.ensures.led))
 
 pub returns-in_default : goal.returns-in_default
 returns-in_default g c =
@@ -51,4 +52,5 @@ returns-in_default g c =
     let m = c.args.self.now in
     let none : staying (seat_of m).area c.args.slot ≡ Idle = c.in_default.ensures in
     subst (λ (mid : Mid). Gone o (seat_of m) (at (teller_of m) mid) c.args.port.now (at (teller_of m) Idle) c.args.port.now) (sym none)
-    (none_yet o (seat_of m) (at (teller_of m) Idle) c.args.port.now (subst (λ (mid : Mid). On o (seat_of m) c.args.port.now (at (teller_of m) mid)) none c.requires))
+    (none_yet o (seat_of m) (at (teller_of m) Idle) c.args.port.now
+        (subst (λ (mid : Mid). On o (seat_of m) c.args.port.now (at (teller_of m) mid)) none c.requires))

@@ -18,7 +18,8 @@ returns-then-i-self-clause-next c =
     let same : slots_in_hand c.args.self.now.hand ≡ slots_in_hand hand = ap (λ (m : Copying). slots_in_hand m.hand) (sym c.self.view_is) in
     let skip : slots_in_hand hand ≡ strong_slots strong hand.at i (hand.fields - i) =
         slots-skip strong hand.at hand.from i hand.fields c.next_strong-i.ensures.from c.next_strong-i.ensures.within c.next_strong-i.ensures.passed in
-    let end : strong_slots strong hand.at i (hand.fields - i) ≡ [] = subst (λ n. strong_slots strong hand.at n (hand.fields - n) ≡ []) (sym e) (none_to_come strong hand.at hand.fields) in
+    let end : strong_slots strong hand.at i (hand.fields - i) ≡ [] = subst (λ n. strong_slots strong hand.at n (hand.fields - n) ≡ []) (sym e)
+        (none_to_come strong hand.at hand.fields) in
     (same ∙ skip ∙ end, end)
 
 pub returns-clause-next : goal.returns-clause-next

@@ -47,7 +47,8 @@ returns-then-not-is_between-clause-gone g c =
     let on = scan_on o m s k c.in-Some.slot p y c.requires.on i.gone i.same i.between c.next_slot.ensures.same in
     let next = scan_next o m s k c.in-Some.slot p y c.requires.on i.gone i.same i.between c.next_slot.ensures.same c.in-Some.ensures.next in
     let begun = c.visit.ensures here next on in
-    let all = scanned o m s k c.in-Some.slot p y c.requires.on i.gone i.same i.between c.next_slot.ensures.same c.in-Some.ensures.next c.visit.new.self c.visit.new.port begun in
+    let all = scanned o m s k c.in-Some.slot p y c.requires.on i.gone i.same i.between c.next_slot.ensures.same c.in-Some.ensures.next
+        c.visit.new.self c.visit.new.port begun in
     all.0
 
 pub returns-then-not-is_between-clause-same : goal.returns-then-not-is_between-clause-same
@@ -63,7 +64,8 @@ returns-then-not-is_between-clause-same g c =
     let on = scan_on o m s k c.in-Some.slot p y c.requires.on i.gone i.same i.between c.next_slot.ensures.same in
     let next = scan_next o m s k c.in-Some.slot p y c.requires.on i.gone i.same i.between c.next_slot.ensures.same c.in-Some.ensures.next in
     let begun = c.visit.ensures here next on in
-    let all = scanned o m s k c.in-Some.slot p y c.requires.on i.gone i.same i.between c.next_slot.ensures.same c.in-Some.ensures.next c.visit.new.self c.visit.new.port begun in
+    let all = scanned o m s k c.in-Some.slot p y c.requires.on i.gone i.same i.between c.next_slot.ensures.same c.in-Some.ensures.next
+        c.visit.new.self c.visit.new.port begun in
     all.1
 
 pub loop-slot-smaller : goal.loop-slot-smaller
@@ -79,7 +81,8 @@ loop-slot-smaller g c =
     let on = scan_on o m s k c.in-Some.slot p y c.requires.on i.gone i.same i.between c.next_slot.ensures.same in
     let next = scan_next o m s k c.in-Some.slot p y c.requires.on i.gone i.same i.between c.next_slot.ensures.same c.in-Some.ensures.next in
     let begun = c.visit.ensures here next on in
-    let all = scanned o m s k c.in-Some.slot p y c.requires.on i.gone i.same i.between c.next_slot.ensures.same c.in-Some.ensures.next c.visit.new.self c.visit.new.port begun in
+    let all = scanned o m s k c.in-Some.slot p y c.requires.on i.gone i.same i.between c.next_slot.ensures.same c.in-Some.ensures.next
+        c.visit.new.self c.visit.new.port begun in
     subst (λ (hand : Hand). hand.fields - hand.from < s.hand.fields - s.hand.from) (sym begun.same.hand) c.in-Some.ensures.fewer
 
 pub loop-slot-preserved : goal.loop-slot-preserved
@@ -95,7 +98,8 @@ loop-slot-preserved g c =
     let on = scan_on o m s k c.in-Some.slot p y c.requires.on i.gone i.same i.between c.next_slot.ensures.same in
     let next = scan_next o m s k c.in-Some.slot p y c.requires.on i.gone i.same i.between c.next_slot.ensures.same c.in-Some.ensures.next in
     let begun = c.visit.ensures here next on in
-    let all = scanned o m s k c.in-Some.slot p y c.requires.on i.gone i.same i.between c.next_slot.ensures.same c.in-Some.ensures.next c.visit.new.self c.visit.new.port begun in
+    let all = scanned o m s k c.in-Some.slot p y c.requires.on i.gone i.same i.between c.next_slot.ensures.same c.in-Some.ensures.next
+        c.visit.new.self c.visit.new.port begun in
     record { gone = all.0; same = all.1; between = c.is_between.ensures.0 c.if-not-is_between.false }
 
 pub returns-clause-gone : goal.returns-clause-gone

@@ -44,7 +44,8 @@ returns-in-Free g c =
     let are : AreLooks (size_for x) (seat_of m).area.blocks c.args.from look.0 (Free c.in-Free.block) =
         subst (λ n. AreLooks (size_for x) n c.args.from look.0 (Free c.in-Free.block)) c.requires.on.blocks_are
         (subst (λ z. AreLooks z (o.blocks p) c.args.from look.0 (Free c.in-Free.block)) c.size_of.ensures.size look.2) in
-    handled_at o m c.set_stage.new.self (look_at o (seat_of m) (teller_of m) c.args.job.slot x c.args.from) p c.find.new.port (Taking c.args.job c.in-Free.block) c.set_stage.ensures tt
+    handled_at o m c.set_stage.new.self (look_at o (seat_of m) (teller_of m) c.args.job.slot x c.args.from) p c.find.new.port
+        (Taking c.args.job c.in-Free.block) c.set_stage.ensures tt
     (looked o (seat_of m) (teller_of m) c.args.job.slot x c.args.from p c.requires.on look.0 (Free c.in-Free.block) c.find.new.port are look.1)
 
 pub returns-in-Slot : goal.returns-in-Slot
@@ -57,7 +58,8 @@ returns-in-Slot g c =
     let are : AreLooks (size_for x) (seat_of m).area.blocks c.args.from look.0 (Slot c.in-Slot.block c.in-Slot.slot) =
         subst (λ n. AreLooks (size_for x) n c.args.from look.0 (Slot c.in-Slot.block c.in-Slot.slot)) c.requires.on.blocks_are
         (subst (λ z. AreLooks z (o.blocks p) c.args.from look.0 (Slot c.in-Slot.block c.in-Slot.slot)) c.size_of.ensures.size look.2) in
-    handled_at o m c.set_stage-in-Slot.new.self (look_at o (seat_of m) (teller_of m) c.args.job.slot x c.args.from) p c.find.new.port (Claiming c.args.job c.in-Slot.block c.in-Slot.slot) c.set_stage-in-Slot.ensures tt
+    handled_at o m c.set_stage-in-Slot.new.self (look_at o (seat_of m) (teller_of m) c.args.job.slot x c.args.from) p c.find.new.port
+        (Claiming c.args.job c.in-Slot.block c.in-Slot.slot) c.set_stage-in-Slot.ensures tt
     (looked o (seat_of m) (teller_of m) c.args.job.slot x c.args.from p c.requires.on look.0 (Slot c.in-Slot.block c.in-Slot.slot) c.find.new.port are look.1)
 
 pub returns-in-None : goal.returns-in-None
@@ -70,5 +72,6 @@ returns-in-None g c =
     let are : AreLooks (size_for x) (seat_of m).area.blocks c.args.from look.0 (None) =
         subst (λ n. AreLooks (size_for x) n c.args.from look.0 (None)) c.requires.on.blocks_are
         (subst (λ z. AreLooks z (o.blocks p) c.args.from look.0 (None)) c.size_of.ensures.size look.2) in
-    handled_at o m c.set_stage-in-None.new.self (look_at o (seat_of m) (teller_of m) c.args.job.slot x c.args.from) p c.find.new.port (Pinning c.args.job) c.set_stage-in-None.ensures tt
+    handled_at o m c.set_stage-in-None.new.self (look_at o (seat_of m) (teller_of m) c.args.job.slot x c.args.from) p c.find.new.port
+        (Pinning c.args.job) c.set_stage-in-None.ensures tt
     (looked o (seat_of m) (teller_of m) c.args.job.slot x c.args.from p c.requires.on look.0 (None) c.find.new.port are look.1)

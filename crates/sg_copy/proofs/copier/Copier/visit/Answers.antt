@@ -27,7 +27,8 @@ overflow_mul-slot g c =
     let m = c.args.self.now in
     let a = c.requires.on.0 in
     let sane = c.requires.on.2.guided.is_sane.worker in
-    let is = next_sane (seat_of m).area (seat_of m).team (seat_of m).most (seat_of m).number a.worker (at (teller_of m) Idle).worker (SlotOf c.args.slot) c.requires.on.1.next sane in
+    let is = next_sane (seat_of m).area (seat_of m).team (seat_of m).most (seat_of m).number a.worker (at (teller_of m) Idle).worker
+        (SlotOf c.args.slot) c.requires.on.1.next sane in
     let end = is.1 in
     let small = sane.limits.small in
     omega (arith, end, small)
@@ -40,7 +41,8 @@ load-value-requires-clause-may g c =
 pub look-requires-clause-on : goal.look-requires-clause-on
 look-requires-clause-on g c =
     let m = c.args.self.now in
-    (slot_full (ports g) (seat_of m) (teller_of m) c.args.slot c.requires.on.0 c.requires.on.1 c.args.port.now c.requires.on.2 c.load-value.result c.load-value.new.self
+    (slot_full (ports g) (seat_of m) (teller_of m) c.args.slot c.requires.on.0 c.requires.on.1 c.args.port.now c.requires.on.2 c.load-value.result
+        c.load-value.new.self
     c.load-value.ensures.seen c.load-value.ensures.led c.in-Some.target c.in-Some.ensures.found.0 c.in-Some.ensures.found.1).0
 
 pub returns-in-Some : goal.returns-in-Some
@@ -49,7 +51,8 @@ returns-in-Some g c a isn on =
     let m = c.args.self.now in
     let full = slot_full o (seat_of m) (teller_of m) c.args.slot a isn c.args.port.now on c.load-value.result c.load-value.new.self
         c.load-value.ensures.seen c.load-value.ensures.led c.in-Some.target c.in-Some.ensures.found.0 c.in-Some.ensures.found.1 in
-    begun_then o m c.look.new.self a (at (teller_of m) (OnSlot c.args.slot (Look c.in-Some.target))) c.args.port.now c.load-value.new.self c.look.new.port full.1 c.look.ensures
+    begun_then o m c.look.new.self a (at (teller_of m) (OnSlot c.args.slot (Look c.in-Some.target))) c.args.port.now c.load-value.new.self
+        c.look.new.port full.1 c.look.ensures
 
 pub returns-in_default : goal.returns-in_default
 returns-in_default g c a isn on =
@@ -58,7 +61,8 @@ returns-in_default g c a isn on =
     let empty = slot_empty o (seat_of m) (teller_of m) c.args.slot a isn c.args.port.now on c.load-value.result c.load-value.new.self
         c.load-value.ensures.seen c.load-value.ensures.led c.in_default.ensures.none in
     record {
-      started = started_to o (seat_of m) a (at (teller_of m) Idle) (teller_of m) c.args.port.now c.load-value.new.self (sym (idle_is m c.requires.between)) empty;
+      started = started_to o (seat_of m) a (at (teller_of m) Idle) (teller_of m) c.args.port.now c.load-value.new.self
+          (sym (idle_is m c.requires.between)) empty;
       same = same_handed m;
       where_is = subst IsOnSlot (sym c.requires.between) tt;
     }
