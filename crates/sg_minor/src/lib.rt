@@ -11,6 +11,7 @@ pub use found::found_in;
 pub use join::join_law;
 pub use law::{heap_law, pause_law};
 pub use pause::minor;
+pub use slots::first_slots;
 pub use sg_nursery::build;
 
 #[cfg(test)]
