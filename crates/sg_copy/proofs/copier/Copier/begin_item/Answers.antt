@@ -1,13 +1,13 @@
-use Rattle.std.proofs.Common.{◌≡◌, ℕ, List, [], ◌∷◌, map, inl, refl, sym, ap, ◌∙◌, subst}
+use Rattle.std.proofs.Common.{List, map, inl, refl, sym, ap, subst}
 use Rattle.sg_round.specs.Worker.{Idle}
 use Rattle.sg_copy.specs.declared.gray.Gray.{Gray}
 use Rattle.sg_copy.specs.Grays.{item_of}
-use Rattle.sg_copy.specs.Telling.{Teller, HasStarted, at}
-use Rattle.sg_copy.specs.State.{Copying, worker_of, teller_of, seat_of}
+use Rattle.sg_copy.specs.Telling.{Teller, at}
+use Rattle.sg_copy.specs.State.{Copying, teller_of, seat_of}
 use Rattle.sg_copy.specs.Turning.{LooksAt, HasSetOut}
 use Rattle.sg_copy.proofs.Ports.{Ports, On}
 use Rattle.sg_copy.proofs.Handing.{same_queue, next_listed}
-use Rattle.sg_copy.proofs.Handled.{seat_same, same_self, same_then, on_as, set_out_as}
+use Rattle.sg_copy.proofs.Handled.{seat_same, on_as, set_out_as}
 use Rattle.sg_copy.proofs.copier.Copier.begin_item.Given.{Over}
 use Rattle.sg_copy.proofs.copier.Copier.begin_item.Goals as goal
 
@@ -40,9 +40,14 @@ seek-requires-clause-on g c =
     let k = c.take_item.new.self in
     let p = c.args.port.now in
     let took = c.in-None.ensures in
-    subst (λ (n : Copying). (a : Teller) × LooksAt a 0 (at (teller_of n) Idle) × On o (seat_of n) p a) (sym took.1)
-    (at (teller_of m) Idle, record { where_is = inl (refl, refl); nothing = (ap (λ (queue : List Gray). map item_of queue) took.0, c.requires.empty)
-        }, c.requires.on)
+    subst (λ (n : Copying). (a : Teller) × LooksAt a 0 (at (teller_of n) Idle) × On o (seat_of n) p a) (sym took.1) (
+      at (teller_of m) Idle,
+      record {
+        where_is = inl (refl, refl);
+        nothing = (ap (λ (queue : List Gray). map item_of queue) took.0, c.requires.empty);
+      },
+      c.requires.on,
+    )
 
 pub returns-in-Some : goal.returns-in-Some
 returns-in-Some g c =
@@ -55,7 +60,7 @@ returns-in-Some g c =
     let isn = next_listed m k c.in-Some.item took.0 took.1 c.requires.empty in
     set_out_as o m k c.go_through.new.self (at (teller_of m) Idle) p c.go_through.new.port same
     (c.go_through.ensures (at (teller_of m) Idle) isn (on_as o (seat_of m) (seat_of k) (at (teller_of m) Idle) (at (teller_of m) Idle) p
-        (seat_same m k same) refl c.requires.on))
+    (seat_same m k same) refl c.requires.on))
 
 pub returns-in-None : goal.returns-in-None
 returns-in-None g c =
@@ -65,7 +70,7 @@ returns-in-None g c =
     let p = c.args.port.now in
     let took = c.in-None.ensures in
     let looks : LooksAt (at (teller_of m) Idle) 0 (at (teller_of m) Idle) =
-        record { where_is = inl (refl, refl); nothing = (ap (λ (queue : List Gray). map item_of queue) took.0, c.requires.empty) } in
+    record { where_is = inl (refl, refl); nothing = (ap (λ (queue : List Gray). map item_of queue) took.0, c.requires.empty) } in
     let all = subst (λ (n : Copying). (a : Teller) → LooksAt a 0 (at (teller_of n) Idle) → On o (seat_of n) p a →
-        HasSetOut n o.leads a p c.seek.new.self c.seek.new.port) took.1 c.seek.ensures in
+    HasSetOut n o.leads a p c.seek.new.self c.seek.new.port) took.1 c.seek.ensures in
     all (at (teller_of m) Idle) looks c.requires.on

@@ -1,8 +1,7 @@
-use Rattle.std.proofs.Common.{◌≡◌, ℕ, ◌+◌, ◌*◌, ◌<◌, ◌≤◌, ◌^◌, sym, ap, ◌∙◌, subst, arith}
-use Rattle.sg_copy.specs.Telling.{at}
+use Rattle.std.proofs.Common.{arith}
 use Rattle.sg_copy.specs.State.{teller_of, seat_of}
 use Rattle.sg_copy.proofs.Ports.{Ports}
-use Rattle.sg_copy.proofs.Handing.{open_may, whole_in, count_may, count_short, opened, handed, taken_same, taken_is}
+use Rattle.sg_copy.proofs.Handing.{open_may, count_may, count_short, opened, taken_same, taken_is}
 use Rattle.sg_copy.proofs.Handled.{idle_is, started_to}
 use Rattle.sg_copy.proofs.copier.Copier.open.Given.{Over}
 use Rattle.sg_copy.proofs.copier.Copier.open.Goals as goal
@@ -27,14 +26,14 @@ pub load-fields-requires-clause-may : goal.load-fields-requires-clause-may
 load-fields-requires-clause-may g c =
     let m = c.args.self.now in
     count_may (ports g) (seat_of m) (teller_of m) c.args.whole c.requires.on.0 c.requires.on.1 c.args.port.now c.requires.on.2 c.load-first.result
-        c.load-first.new.self c.load-first.ensures.seen c.load-first.ensures.led
+    c.load-first.new.self c.load-first.ensures.seen c.load-first.ensures.led
 
 pub overflow_cast-fields : goal.overflow_cast-fields
 overflow_cast-fields g c =
     let m = c.args.self.now in
     let short = count_short (ports g) (seat_of m) (teller_of m) c.args.whole c.requires.on.0 c.requires.on.1 c.args.port.now c.requires.on.2
-        c.load-first.result c.load-first.new.self c.load-first.ensures.seen c.load-first.ensures.led
-        c.load-fields.result c.load-fields.new.self c.load-fields.ensures.seen c.load-fields.ensures.led in
+    c.load-first.result c.load-first.new.self c.load-first.ensures.seen c.load-first.ensures.led
+    c.load-fields.result c.load-fields.new.self c.load-fields.ensures.seen c.load-fields.ensures.led in
     omega (arith, short)
 
 pub returns : goal.returns
@@ -46,7 +45,7 @@ returns g c a isn on =
     let v = c.load-first.result in
     let p = c.args.port.now in
     let start = opened o (seat_of m) (teller_of m) c.args.whole a isn p on v c.load-first.new.self c.load-first.ensures.seen c.load-first.ensures.led
-        n c.load-fields.new.self c.load-fields.ensures.seen c.load-fields.ensures.led in
+    n c.load-fields.new.self c.load-fields.ensures.seen c.load-fields.ensures.led in
     record {
       started = started_to o (seat_of m) a _ (teller_of d) p c.load-fields.new.self
           (taken_is m d c.args.whole v n c.take_in_hand.ensures (idle_is m c.requires.between)) start;

@@ -1,20 +1,18 @@
-use Rattle.std.proofs.Common.{◌≡◌, ℕ, ◌+◌, ◌*◌, ◌<◌, ◌≤◌, ◌^◌, ◌⊎◌, Option, Some, None, inl, inr, refl, sym, ap, ◌∙◌, subst, arith}
+use Rattle.std.proofs.Common.{◌≡◌, ℕ, ◌+◌, ◌*◌, ◌<◌, ◌≤◌, inl, inr, refl, sym, ap, ◌∙◌, subst, arith}
 use Rattle.sg_words.specs.declared.steps.Place.TheVariants.{Cell}
 use Rattle.sg_words.specs.declared.steps.Step.TheVariants.{Load}
 use Rattle.sg_words.specs.declared.steps.Call.TheVariants.{Loads}
 use Rattle.sg_round.specs.Items.{Item, SlotOf, WholeOf, cell_word, looked_cell}
 use Rattle.sg_round.specs.Area.{IsArea}
 use Rattle.sg_round.specs.Sane.{IsSaneItem}
-use Rattle.sg_round.specs.Worker.{Mid, Idle, Seek, Grab}
-use Rattle.sg_copy.specs.declared.copier.Stage.{Stage}
+use Rattle.sg_round.specs.Worker.{Mid, Grab}
 use Rattle.sg_copy.specs.declared.copier.Stage.TheVariants.{Grabbing, Ended}
 use Rattle.sg_copy.specs.Grays.{item_of, IsCellItem}
-use Rattle.sg_copy.specs.Telling.{Seat, Teller, at}
+use Rattle.sg_copy.specs.Telling.{Seat, at}
 use Rattle.sg_copy.specs.State.{Copying, teller_of, seat_of}
-use Rattle.sg_copy.specs.Turning.{LooksAt}
-use Rattle.sg_copy.proofs.Ports.{Ports, On, Started, Did}
+use Rattle.sg_copy.proofs.Ports.{Ports, Did}
 use Rattle.sg_copy.proofs.Seen.{HoldsItem}
-use Rattle.sg_copy.proofs.Seeking.{SeeksHere, seeks_here, from_there, sought, sought_all, cell_may, cell_saw, cell_empty, cell_full}
+use Rattle.sg_copy.proofs.Seeking.{seeks_here, from_there, sought, sought_all, cell_may, cell_saw, cell_empty, cell_full}
 use Rattle.sg_copy.proofs.Handled.{same_stage, started_to}
 use Rattle.sg_copy.proofs.copier.Copier.seek.Given.{Over}
 use Rattle.sg_copy.proofs.copier.Copier.seek.Goals as goal
@@ -49,10 +47,10 @@ cell-word-requires g c =
     let number : c.place_in_team-number.result.0 ≡ m.number = ap (λ (n : ℕ × ℕ). n.0) c.place_in_team-number.ensures in
     let l : i < 8 * m.team = omega (arith, c.loop-cell-test.true, team) in
     let place : looked_cell c.place_in_team-number.result.1 c.place_in_team-number.result.0 i ≡ looked_cell m.team m.number i =
-        ap (λ n. looked_cell n c.place_in_team-number.result.0 i) team ∙ ap (λ n. looked_cell m.team n i) number in
+    ap (λ n. looked_cell n c.place_in_team-number.result.0 i) team ∙ ap (λ n. looked_cell m.team n i) number in
     let a = c.requires.on.0 in
     let here = seeks_here o (seat_of m) (teller_of m) c.args.from a p c.requires.on.1 c.requires.on.2 i y l
-        (c.loop-cell.invariant.sought_so_far a c.requires.on.1 c.requires.on.2) in
+    (c.loop-cell.invariant.sought_so_far a c.requires.on.1 c.requires.on.2) in
     record { may = subst (λ k. o.may y (Loads (Cell k))) (sym place) (cell_may o (seat_of m) (teller_of m) i here.here here.looks y here.on) }
 
 -- where no item was read the cell is empty
@@ -76,17 +74,17 @@ loop-cell-preserved g c = record {
       let number : c.place_in_team-number.result.0 ≡ m.number = ap (λ (n : ℕ × ℕ). n.0) c.place_in_team-number.ensures in
       let l : i < 8 * m.team = omega (arith, c.loop-cell-test.true, team) in
       let place : looked_cell c.place_in_team-number.result.1 c.place_in_team-number.result.0 i ≡ looked_cell m.team m.number i =
-          ap (λ n. looked_cell n c.place_in_team-number.result.0 i) team ∙ ap (λ n. looked_cell m.team n i) number in
+      ap (λ n. looked_cell n c.place_in_team-number.result.0 i) team ∙ ap (λ n. looked_cell m.team n i) number in
       let did : Did o (seat_of m) y (Load (Cell (looked_cell m.team m.number i)) c.cell-word.result) c.cell-word.new.self =
-          subst (λ k. Did o (seat_of m) y (Load (Cell k) c.cell-word.result) c.cell-word.new.self) place (c.cell-word.ensures.seen, c.cell-word.ensures.led) in
+      subst (λ k. Did o (seat_of m) y (Load (Cell k) c.cell-word.result) c.cell-word.new.self) place (c.cell-word.ensures.seen, c.cell-word.ensures.led) in
       let here = seeks_here o (seat_of m) (teller_of m) c.args.from a p is on i y l (c.loop-cell.invariant.sought_so_far a is on) in
       let t = teller_of m in
       let holds = cell_saw o (seat_of m) t i here.here here.looks y here.on c.cell-word.result c.cell-word.new.self did in
       let empty : c.cell-word.result ≡ 0 = none_there (seat_of m) c.cell-word.result on.guided.is_sane.worker.limits holds
-          (λ item e. (cell_full o (seat_of m) t i here.here here.looks y here.on c.cell-word.result c.cell-word.new.self did item
-              e).0.guided.is_sane.worker.at.1) c.in_default.ensures.none in
+      (λ item e. (cell_full o (seat_of m) t i here.here here.looks y here.on c.cell-word.result c.cell-word.new.self did item
+      e).0.guided.is_sane.worker.at.1) c.in_default.ensures.none in
       inr (here.started_by (at t (sought m.team (i + 1))) c.cell-word.new.self
-          (cell_empty o (seat_of m) t i here.here here.looks y here.on c.cell-word.result c.cell-word.new.self did empty));
+      (cell_empty o (seat_of m) t i here.here here.looks y here.on c.cell-word.result c.cell-word.new.self did empty));
 }
 
 pub returns-in-Some : goal.returns-in-Some
@@ -100,16 +98,16 @@ returns-in-Some g c a is on =
     let number : c.place_in_team-number.result.0 ≡ m.number = ap (λ (n : ℕ × ℕ). n.0) c.place_in_team-number.ensures in
     let l : i < 8 * m.team = omega (arith, c.loop-cell-test.true, team) in
     let place : looked_cell c.place_in_team-number.result.1 c.place_in_team-number.result.0 i ≡ looked_cell m.team m.number i =
-        ap (λ n. looked_cell n c.place_in_team-number.result.0 i) team ∙ ap (λ n. looked_cell m.team n i) number in
+    ap (λ n. looked_cell n c.place_in_team-number.result.0 i) team ∙ ap (λ n. looked_cell m.team n i) number in
     let did : Did o (seat_of m) y (Load (Cell (looked_cell m.team m.number i)) c.cell-word.result) c.cell-word.new.self =
-        subst (λ k. Did o (seat_of m) y (Load (Cell k) c.cell-word.result) c.cell-word.new.self) place (c.cell-word.ensures.seen, c.cell-word.ensures.led) in
+    subst (λ k. Did o (seat_of m) y (Load (Cell k) c.cell-word.result) c.cell-word.new.self) place (c.cell-word.ensures.seen, c.cell-word.ensures.led) in
     let t = teller_of m in
     let k = c.set_stage.new.self in
     let here = seeks_here o (seat_of m) t c.args.from a p is on i y l (c.loop-cell.invariant.sought_so_far a is on) in
     let full = cell_full o (seat_of m) t i here.here here.looks y here.on c.cell-word.result c.cell-word.new.self did (item_of c.in-Some.item)
-        c.in-Some.ensures.item in
+    c.in-Some.ensures.item in
     let set : k ≡ record m { stage = Grabbing i c.in-Some.item } =
-        c.set_stage.ensures ∙ ap (λ (n : Copying). record n { stage = Grabbing i c.in-Some.item }) c.loop-cell.invariant.self_is in
+    c.set_stage.ensures ∙ ap (λ (n : Copying). record n { stage = Grabbing i c.in-Some.item }) c.loop-cell.invariant.self_is in
     record {
       started = started_to o (seat_of m) a (at t (Grab i (item_of c.in-Some.item))) (teller_of k) p c.cell-word.new.self (ap teller_of set)
           (here.started_by (at t (Grab i (item_of c.in-Some.item))) c.cell-word.new.self full.1);

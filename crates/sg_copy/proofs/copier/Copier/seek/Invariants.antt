@@ -15,5 +15,5 @@ invariant-loop-cell g l =
       sought_so_far : (a : Teller) → LooksAt a l.fn.from (at (teller_of m) Idle) →
           IsOn (seat_of m) g.P.Port.leads g.P.Port.may g.P.Port.sees g.P.BlockPort.blocks l.initial.port a →
           ((l.cell ≡ l.fn.from) × (l.port ≡ l.initial.port)) ⊎ HasStarted (seat_of m) g.P.Port.leads a l.initial.port
-              (at (teller_of m) (sought m.team l.cell)) l.port;
+          (at (teller_of m) (sought m.team l.cell)) l.port;
     }
