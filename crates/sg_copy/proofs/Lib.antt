@@ -8,3 +8,11 @@ pub mod Handing
 pub mod Seeking
 pub mod Handled
 pub mod Changes
+pub mod RoundLists
+pub mod RoundMeasure
+pub mod RoundGuided
+pub mod RoundTold
+pub mod RoundMidst
+pub mod RoundStart
+pub mod RoundDone
+pub mod RoundRun

@@ -4,3 +4,4 @@ pub mod Grays
 pub mod State
 pub mod Turning
 pub mod Plain
+pub mod Rounds

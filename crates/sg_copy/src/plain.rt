@@ -1,4 +1,4 @@
-ghost use Rattle.std.specs.Prelude.{◌≡◌, length, IfOk, replicate, ◌*◌};
+ghost use Rattle.std.specs.Prelude.{◌≡◌, length, replicate};
 ghost use Rattle.std.proofs.Common.{refl, ◌∙◌};
 ghost use Rattle.sg_words.specs.Words.{Saw};
 ghost use Rattle.sg_copy.specs.Plain.{words_with, LeadsOn, Allows, leads_none, leads_then};
@@ -7,37 +7,38 @@ use crate::port::CopyPort;
 use sg_cells::{BlockPort, Port};
 use sg_space::Space;
 use sg_words::{Addr, BlockWord};
-use std::alloc::{AllocError, Global};
 
 /// A port over a lent space and offer cells of its own: each call is done at once.
 #[derive(Drop)]
 pub struct PlainRound<'a> {
     space: &'a mut Space,
-    cells: Vec<u64>,
+    cells: [u64; 64],
 }
 
 impl<'a> PlainRound<'a> {
-    /// The port over this space, which is the space again once the port is gone, with 8 empty cells for each worker. Takes memory for the cells.
-    pub fn new(alloc: Global, space: &'a mut Space, workers: u32) -> Result<PlainRound<'a>, AllocError>
-        ensures same { IfOk result (λ port. port.space.ghost_name ≡ space.entry.ghost_name) }
-        ensures now { IfOk result (λ port. port.space.now ≡ space.old) }
-        ensures cells { IfOk result (λ port. port.cells.items ≡ replicate (8 * workers) 0) }
+    /// The port over this space, which is the space again once the port is gone, with 8 empty cells for each of at most 8 workers.
+    pub fn new(space: &'a mut Space) -> PlainRound<'a>
+        ensures same { result.space.ghost_name ≡ space.entry.ghost_name }
+        ensures now { result.space.now ≡ space.old }
+        ensures cells { result.cells ≡ replicate 64 0 }
     {
-        let cells = vec![in alloc; 0; 8 * workers as usize]?;
-        Ok(PlainRound { space, cells })
+        PlainRound {
+            space,
+            cells: [0; 64],
+        }
     }
 }
 
 impl<'a> Port for PlainRound<'a> {
-    ghost leads = { λ p es q. (q.space.ghost_name ≡ p.space.ghost_name) × LeadsOn p.space.now p.cells.items es q.space.now q.cells.items };
+    ghost leads = { λ p es q. (q.space.ghost_name ≡ p.space.ghost_name) × LeadsOn p.space.now p.cells es q.space.now q.cells };
 
-    ghost may = { λ p call. Allows p.space.now p.cells.items call };
+    ghost may = { λ p call. Allows p.space.now p.cells call };
 
-    ghost sees = { λ p s. Saw (words_with p.space.now p.cells.items) s };
+    ghost sees = { λ p s. Saw (words_with p.space.now p.cells) s };
 
-    ghost stays = { λ p. (refl, leads_none p.space.now p.cells.items) };
+    ghost stays = { λ p. (refl, leads_none p.space.now p.cells) };
 
-    ghost chains = { λ p q r es fs h k. (k.0 ∙ h.0, leads_then p.space.now q.space.now r.space.now p.cells.items q.cells.items r.cells.items es fs h.1 k.1) };
+    ghost chains = { λ p q r es fs h k. (k.0 ∙ h.0, leads_then p.space.now q.space.now r.space.now p.cells q.cells r.cells es fs h.1 k.1) };
 }
 
 impl<'a> BlockPort for PlainRound<'a> {

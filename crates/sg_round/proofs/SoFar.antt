@@ -8,7 +8,7 @@ use Rattle.sg_words.proofs.Puts.{put-all}
 use Rattle.sg_round.specs.Area.{Area}
 use Rattle.sg_round.specs.Worker.{Worker}
 use Rattle.sg_round.specs.Rules.{Deed, WorkEvent, steps, part, by_one, Follows, moved_by}
-use Rattle.sg_round.specs.Laws.{steps_of, OpensSoFar, GoesSoFar, GoesAlways, BoundedLaw}
+use Rattle.sg_round.specs.Laws.{steps_of, OpensSoFar, GoesSoFar, TellsSoFar, GoesAlways, BoundedLaw}
 use Rattle.sg_round.proofs.Law.{part-same, part-other, so-far}
 use Rattle.sg_round.proofs.Sanity.{few-settled, few-handled, is-sane}
 use Rattle.sg_round.proofs.Progress.{goes-on, can-go}
@@ -75,6 +75,10 @@ goes_so_far t v workers k a v' so went =
           (sym (part-more j so.events mine ∙ ap (λ ts. part j so.events ++ ts) (part-none j k went.deeds other) ∙ append-nil (part j so.events)))
           (so.follows j));
     }
+
+pub tells_so_far : TellsSoFar
+unfolding goes_so_far
+tells_so_far t v workers k a v' so went = (goes_so_far t v workers k a v' so went, refl)
 
 pub goes_always : GoesAlways
 goes_always t v workers so = let x = so-far t v workers so in record {

@@ -14,7 +14,7 @@ use Rattle.sg_words.specs.declared.steps.BlockWord.TheVariants.{Free, Swept}
 use Rattle.sg_round.specs.Area.{Area, IsYoung, HasCard, place, card_at}
 use Rattle.sg_round.specs.Items.{slots_of}
 use Rattle.sg_round.specs.Worker.{Worker, Over}
-use Rattle.sg_round.specs.Rules.{Deed, WorkEvent, steps, part, Follows, ended_by, moved_by, failed_by}
+use Rattle.sg_round.specs.Rules.{Deed, WorkEvent, steps, part, by_one, Follows, ended_by, moved_by, failed_by}
 use Rattle.sg_round.specs.Acting.{Acts}
 use Rattle.sg_round.specs.Sane.{IsSane}
 use Rattle.sg_round.specs.Image.{IsImage}
@@ -94,6 +94,11 @@ OpensSoFar = (t : Start) → IsRoundOpening t → IsSoFar t t.words t.workers
 abbrev pub GoesSoFar : Type 0
 GoesSoFar = (t : Start) (v : Words) (workers : ℕ → Worker) (k : ℕ) (a : Worker) (v' : Words) → IsSoFar t v workers →
     Went t.area t.team k (workers k) v a v' → IsSoFar t v' (put workers k a)
+
+-- and then its steps are the last ones
+abbrev pub TellsSoFar : Type 0
+TellsSoFar = (t : Start) (v : Words) (workers : ℕ → Worker) (k : ℕ) (a : Worker) (v' : Words) → (so : IsSoFar t v workers) →
+    (went : Went t.area t.team k (workers k) v a v') → (later : IsSoFar t v' (put workers k a)) × (later.events ≡ so.events ++ by_one k went.deeds)
 
 -- and where all workers have ended the round is done
 abbrev pub RacingLaw : Type 0

@@ -1,4 +1,4 @@
-ghost use Rattle.sg_round.specs.Laws.{OpensSoFar, GoesSoFar, RacingLaw, OneWorkerLaw, OneOrderLaw, GoesAlways, BoundedLaw, Released, MoreItems};
+ghost use Rattle.sg_round.specs.Laws.{OpensSoFar, GoesSoFar, TellsSoFar, RacingLaw, OneWorkerLaw, OneOrderLaw, GoesAlways, BoundedLaw, Released, MoreItems};
 
 /// A round's opening is its midst before any step.
 pub fn opens_so_far()
@@ -8,6 +8,11 @@ pub fn opens_so_far()
 /// From the midst of a round the next steps of any worker lead on.
 pub fn goes_so_far()
     ensures { GoesSoFar }
+{}
+
+/// And then these steps are the last ones of the round.
+pub fn tells_so_far()
+    ensures { TellsSoFar }
 {}
 
 /// The law of racing copiers: every legal list of atomic steps of any number of workers that follow their programs, and have all

@@ -6,5 +6,5 @@ mod laws;
 
 pub use laws::{
     bounded, goes_always, goes_so_far, more_items, one_order_of_copies, one_worker, opens_so_far,
-    racing_law, released,
+    racing_law, released, tells_so_far,
 };

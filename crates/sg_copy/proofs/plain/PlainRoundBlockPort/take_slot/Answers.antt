@@ -15,4 +15,4 @@ returns-clause-led c =
     let bit : 1 * 2 ^ c.args.slot % 2 ^ 64 ≡ 2 ^ c.args.slot = shifted c.args.slot c.requires.may.1 in
     let mask : bit_or c.used-found.result (1 * 2 ^ c.args.slot % 2 ^ 64) ≡ bit_or c.used-found.result (2 ^ c.args.slot) = ap (bit_or c.used-found.result) bit in
     let with : ℕ → Contents = λ m. record s { used = slice_set s.used c.args.b m } in
-    (refl, leads_claim s c.set_used.new.self c.args.self.now.cells.items c.args.b c.args.slot c.used-found.result c.requires.may.0 (sym c.used-found.ensures) (c.set_used.ensures ∙ ap with mask))
+    (refl, leads_claim s c.set_used.new.self c.args.self.now.cells c.args.b c.args.slot c.used-found.result c.requires.may.0 (sym c.used-found.ensures) (c.set_used.ensures ∙ ap with mask))

@@ -10,4 +10,4 @@ returns-clause-led c =
     let at : c.at_word.result ≡ 8 * (c.args.a / 8) = c.at_word.ensures in
     let same : word_at c.at_word.result ≡ word_at c.args.a = omega arith in
     let with : ℕ → Contents = λ n. record s { words = slice_set s.words n c.args.w } in
-    (refl, leads_store s c.write.new.self c.args.self.now.cells.items (word_at c.args.a) c.args.w c.requires.may.2 (c.write.ensures ∙ ap with same))
+    (refl, leads_store s c.write.new.self c.args.self.now.cells (word_at c.args.a) c.args.w c.requires.may.2 (c.write.ensures ∙ ap with same))

@@ -8,4 +8,4 @@ pub returns-clause-led : goal.returns-clause-led
 returns-clause-led c =
     let s = c.args.self.now.space.now in
     let is : word s (word_at c.args.a) ≡ c.args.seen = search rules in
-    (refl, leads_won s c.write.new.self c.args.self.now.cells.items (word_at c.args.a) c.args.seen c.args.new c.requires.may.2 is c.write.ensures)
+    (refl, leads_won s c.write.new.self c.args.self.now.cells (word_at c.args.a) c.args.seen c.args.new c.requires.may.2 is c.write.ensures)
