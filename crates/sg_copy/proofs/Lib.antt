@@ -6,6 +6,8 @@ pub mod Looks
 pub mod Swaps
 pub mod Handing
 pub mod Seeking
+pub mod Cells
+pub mod Items
 pub mod Handled
 pub mod Changes
 pub mod RoundLists

@@ -25,29 +25,31 @@ load-first-requires-clause-may g c =
 pub load-fields-requires-clause-may : goal.load-fields-requires-clause-may
 load-fields-requires-clause-may g c =
     let m = c.args.self.now in
-    count_may (ports g) (seat_of m) (teller_of m) c.args.whole c.requires.on.0 c.requires.on.1 c.args.port.now c.requires.on.2 c.load-first.result
-    c.load-first.new.self c.load-first.ensures.seen c.load-first.ensures.led
+    let first = c.load-first in
+    count_may (ports g) (seat_of m) (teller_of m) c.args.whole c.requires.on.0 c.requires.on.1 c.args.port.now c.requires.on.2
+        first.result first.new.self first.ensures.seen first.ensures.led
 
 pub overflow_cast-fields : goal.overflow_cast-fields
 overflow_cast-fields g c =
     let m = c.args.self.now in
+    let first = c.load-first in
+    let fields = c.load-fields in
     let short = count_short (ports g) (seat_of m) (teller_of m) c.args.whole c.requires.on.0 c.requires.on.1 c.args.port.now c.requires.on.2
-    c.load-first.result c.load-first.new.self c.load-first.ensures.seen c.load-first.ensures.led
-    c.load-fields.result c.load-fields.new.self c.load-fields.ensures.seen c.load-fields.ensures.led in
+        first.result first.new.self first.ensures.seen first.ensures.led fields.result fields.new.self fields.ensures.seen fields.ensures.led in
     omega (arith, short)
 
 pub returns : goal.returns
 returns g c a isn on =
     let o = ports g in
     let m = c.args.self.now in
-    let d = c.take_in_hand.new.self in
-    let n = c.load-fields.result in
-    let v = c.load-first.result in
     let p = c.args.port.now in
-    let start = opened o (seat_of m) (teller_of m) c.args.whole a isn p on v c.load-first.new.self c.load-first.ensures.seen c.load-first.ensures.led
-    n c.load-fields.new.self c.load-fields.ensures.seen c.load-fields.ensures.led in
+    let d = c.take_in_hand.new.self in
+    let first = c.load-first in
+    let fields = c.load-fields in
+    let start = opened o (seat_of m) (teller_of m) c.args.whole a isn p on
+        first.result first.new.self first.ensures.seen first.ensures.led fields.result fields.new.self fields.ensures.seen fields.ensures.led in
+    let taken = taken_is m d c.args.whole first.result fields.result c.take_in_hand.ensures (idle_is m c.requires.between) in
     record {
-      started = started_to o (seat_of m) a _ (teller_of d) p c.load-fields.new.self
-          (taken_is m d c.args.whole v n c.take_in_hand.ensures (idle_is m c.requires.between)) start;
-      same = taken_same m d c.args.whole v n c.take_in_hand.ensures;
+      started = started_to o (seat_of m) a _ (teller_of d) p fields.new.self taken start;
+      same = taken_same m d c.args.whole first.result fields.result c.take_in_hand.ensures;
     }

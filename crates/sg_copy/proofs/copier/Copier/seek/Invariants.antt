@@ -10,10 +10,10 @@ use Rattle.sg_copy.proofs.copier.Copier.seek.Given as goal
 abbrev pub invariant-loop-cell : goal.invariant-loop-cell
 invariant-loop-cell g l =
     let m = l.initial.self in
+    let x = l.initial.port in
     record {
       self_is : l.self ≡ m;
       sought_so_far : (a : Teller) → LooksAt a l.fn.from (at (teller_of m) Idle) →
-          IsOn (seat_of m) g.P.Port.leads g.P.Port.may g.P.Port.sees g.P.BlockPort.blocks l.initial.port a →
-          ((l.cell ≡ l.fn.from) × (l.port ≡ l.initial.port)) ⊎ HasStarted (seat_of m) g.P.Port.leads a l.initial.port
-          (at (teller_of m) (sought m.team l.cell)) l.port;
+          IsOn (seat_of m) g.P.Port.leads g.P.Port.may g.P.Port.sees g.P.BlockPort.blocks x a →
+          ((l.cell ≡ l.fn.from) × (l.port ≡ x)) ⊎ HasStarted (seat_of m) g.P.Port.leads a x (at (teller_of m) (sought m.team l.cell)) l.port;
     }
