@@ -8,12 +8,12 @@ use crate::top::accept;
 use sg_cells::ScheduleDriver;
 use sg_copy::{Round, copy_one};
 use sg_graph::Program;
-use sg_minor::{first_slots, heap_law};
+use sg_minor::{first_slots, found_in, heap_law};
 use sg_nursery::tag::tag;
 use sg_pins::pin_queue;
 use sg_space::{Object, Space};
 use sg_words::{Addr, BlockWord, FIRST_WORD, Move};
-use sg_world::{World, seeds_in};
+use sg_world::World;
 use std::alloc::{AllocError, Global};
 use std::test::Fail;
 
@@ -79,7 +79,7 @@ fn round_with(alloc: Global, space: Space, ambiguous: &[u64]) -> Result<Round, A
     heap_law();
     is_sound(&space);
     let pins = pin_queue(alloc, ambiguous, &space)?;
-    let found = seeds_in(alloc, &space)?;
+    let found = found_in(alloc, &space)?;
     let slots = first_slots(alloc, &space, space.layout(), found.all())?;
     let mut space = space;
     tag(&mut space, pins.as_slice());
