@@ -223,7 +223,7 @@ module _ (tells : TellsSoFar) (bounded : BoundedLaw) (always : GoesAlways) (t : 
     worker = subst (IsSane t.area t.team t.most 0) (alone-first a.worker) ((always t v (alone a.worker) st.so).sane 0);
     few = subst (λ (l : List ℕ). length l + length a.fails ≤ t.area.high - t.area.low) (sym st.moves)
         (subst (λ (l : List ℕ). length (moved_by [] st.so.events) + length l ≤ t.area.high - t.area.low) (sym st.fails)
-            (bounded t v (alone a.worker) st.so).settled);
+        (bounded t v (alone a.worker) st.so).settled);
   }
 
   -- whatever a call for a next step sees, a step comes next

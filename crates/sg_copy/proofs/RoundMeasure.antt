@@ -340,10 +340,11 @@ module _ (area : Area) (most k : ℕ) where
   -- steps within a turn
   eased-more : (es : List Step) (a b : Teller) (v : Words) → FollowsBy (TellsOn seat) a es b → IsLegal v es → IsAlone area v a.worker →
       IsAlone area (replayed v es) b.worker × (owed area (replayed v es) b.worker + 125 * found_by a ≤ owed area v a.worker + 125 * found_by b)
-  eased-more [] a b v f legal al =
-      (subst (λ (x : Teller). IsAlone area v x.worker) (sym f) al,
-          subst (λ (x : Teller). owed area v x.worker + 125 * found_by a ≤ owed area v a.worker + 125 * found_by x) (sym f)
-          (omega arith))
+  eased-more [] a b v f legal al = (
+    subst (λ (x : Teller). IsAlone area v x.worker) (sym f) al,
+    subst (λ (x : Teller). owed area v x.worker + 125 * found_by a ≤ owed area v a.worker + 125 * found_by x) (sym f)
+        (omega arith),
+  )
   eased-more (e ∷ es) a b v f legal al =
       let t = f.1.1 in
       let s = eased area v k a.worker e t.0 f.0.worker t.1 legal.0 al in

@@ -57,7 +57,7 @@ module _ (tells : TellsSoFar) (bounded : BoundedLaw) (always : GoesAlways) (from
       is_sane = stood-sane tells bounded always start refl (words_with port.space.now port.cells) a st;
       allows = λ es q b s c led follows sane next.
           may-call from.space.now q.space.now q.cells is (still_then from.space.now port.space.now q.space.now still led.1.still)
-              (led.1.as_many ∙ as_many) (length items)
+          (led.1.as_many ∙ as_many) (length items)
           b.worker s next.0 c.worker next.1 sane.worker;
       goes = λ es q b s c t led follows sane next e saw.
           stood-next tells bounded always start refl (words_with q.space.now q.cells) b s c t
@@ -96,10 +96,10 @@ module _ (tells : TellsSoFar) (bounded : BoundedLaw) (always : GoesAlways) (from
           (left (area_of from.space.now) v' (teller_of d) < left (area_of from.space.now) v (teller_of c))
       eased = let st = turn.started in
           subst (λ (u : Words). IsAlone (area_of from.space.now) u (worker_of d) ×
-              (left (area_of from.space.now) u (teller_of d) < left (area_of from.space.now) v (teller_of c)))
+          (left (area_of from.space.now) u (teller_of d) < left (area_of from.space.now) v (teller_of c)))
           (sym st.led.1.words)
           (eased-turn (area_of from.space.now) (length items) 0 st.first st.more (teller_of c) st.then
-              (teller_of d) v mid.rests st.begins st.goes st.led.1.legal mid.knows
+          (teller_of d) v mid.rests st.begins st.goes st.led.1.legal mid.knows
           (stood-sane tells bounded always start refl v (teller_of c) mid.stood).few st.is_sane.few)
 
       pub goes-on : IsMidst from slots wholes items zone port' d

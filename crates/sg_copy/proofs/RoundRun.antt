@@ -49,7 +49,7 @@ module _ (port : PlainRound) (slots wholes : List ℕ) where
         seat = refl;
         stood = subst (λ (cells : List ℕ). Stood t (words_with port.space.now cells) (teller_of fresh)) (sym empty)
             (subst (λ (w : Worker). Stood t (words_with port.space.now no_cells) (record { worker = w; moves = []; fails = [] }))
-                (fresh-worker ready.items) first);
+            (fresh-worker ready.items) first);
         still = still_none port.space.now;
         as_many = ap length empty;
         knows = subst (λ (cells : List ℕ). IsAlone (area_of port.space.now) (words_with port.space.now cells) (worker_of fresh)) (sym empty)
@@ -72,7 +72,7 @@ module _ (port : PlainRound) (slots wholes : List ℕ) where
       let over : (alone (worker_of d) 0).mid ≡ Over = ap (λ (a : Worker). a.mid) (alone-first (worker_of d)) ∙ ap mid_of ended in
       let done = law t v (alone (worker_of d)) so refl over in
       let args = has-copied port.space.now slots wholes ready.items ready.can ready.items_are port'.space.now port'.cells mid.still so.events
-          (alone (worker_of d)) done in
+      (alone (worker_of d)) done in
       record {
         moves = map (told_by done.done.m) (moved_by [] so.events);
         fails = map byte_at (failed_by [] so.events);

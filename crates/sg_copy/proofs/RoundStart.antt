@@ -52,8 +52,15 @@ cells-empty (suc n) (suc i) = cells-empty n i
 pub is-area : (layout : Layout) (shapes : List Shape) → IsLayout layout → IsArea (area_by layout shapes) 1
 is-area layout shapes h =
     let a = h.nursery_most in let b = h.blocks_most in let c = h.pages in
-    record { above = omega arith; nursery = omega arith; heap = omega arith; sections = omega arith; small = omega arith; some = omega arith;
-        most = omega arith }
+    record {
+      above = omega arith;
+      nursery = omega arith;
+      heap = omega arith;
+      sections = omega arith;
+      small = omega arith;
+      some = omega arith;
+      most = omega arith;
+    }
 
 module _ (s : Contents) (slots wholes : List ℕ) (items : List Gray) (can : CanCopy s slots wholes) (are : AreItems slots wholes items) where
   abbrev t : Start

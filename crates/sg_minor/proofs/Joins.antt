@@ -143,7 +143,7 @@ module _ (p : Program) (s : Contents) (g : Graph) (b : Book) (ambiguous pins : L
       (λ a i j.
       let from = globals-above a (in-filter (holds_young (area_of s) (word s)) a (global_slots s.layout 64) i).0 in
       let q = in-filter (holds_young (area_of s) (word s)) a (flat_map (slots_of_name p g b) (old_names p s g b begun.heap.0 owner heap begun.contents settled))
-          (subst (λ (l : List ℕ). In a l) (found_are p s g b begun.heap.0 owner heap begun.contents settled found of-owner) j) in
+      (subst (λ (l : List ℕ). In a l) (found_are p s g b begun.heap.0 owner heap begun.contents settled found of-owner) j) in
       let n = in-flat (slots_of_name p g b) a (old_names p s g b begun.heap.0 owner heap begun.contents settled) q.0 in
       let f = slots-are (λ k. is_strong_by (kind_of p (g.class n.0)) k (g.size n.0)) (b.address n.0) 0 (g.size n.0) a n.2 in
       let o = old_named p s g b begun.heap.0 owner heap begun.contents settled n.0 n.1 in
@@ -323,12 +323,12 @@ module _ (p : Program) (s : Contents) (g : Graph) (b : Book) (ambiguous pins : L
           let place = in-old p (word s) g b owner heap n st d o in
           let above = place.0 in
           let still : copied.m (b.address n) ≡ b.address n = picture_for.others (b.address n)
-              (out (b.address n) copied.went (λ h. let yo = (young-of (b.address n) (image_for.moved (b.address n) h).0).1 in omega arith)) in
+          (out (b.address n) copied.went (λ h. let yo = (young-of (b.address n) (image_for.moved (b.address n) h).0).1 in omega arith)) in
           let len = length-of p (word s) g b owner heap n st d in
           let now : word v x ≡ byte_at (copied.m (b.address k.0)) =
-              ap (word v) (at ∙ ap (λ (z : ℕ). z + 2 + i) (sym still)) ∙ (picture_for.old n d st o).fields i (omega arith)
-              ∙ ap (λ (z : Bool). cond z (sent copied.m (word s (b.address n + 2 + i))) (word s (b.address n + 2 + i))) (strong-of p (word s) g b owner heap n i st d ∙ e)
-              ∙ sent-at copied.m (word s (b.address n + 2 + i)) (b.address k.0) k.2 in
+          ap (word v) (at ∙ ap (λ (z : ℕ). z + 2 + i) (sym still)) ∙ (picture_for.old n d st o).fields i (omega arith)
+          ∙ ap (λ (z : Bool). cond z (sent copied.m (word s (b.address n + 2 + i))) (word s (b.address n + 2 + i))) (strong-of p (word s) g b owner heap n i st d ∙ e)
+          ∙ sent-at copied.m (word s (b.address n + 2 + i)) (b.address k.0) k.2 in
           let target : copied.m (b.address k.0) ≡ y = byte-same (copied.m (b.address k.0)) y (sym now ∙ refers) in
           elim (young-or (b.address k.0)) [
             | inl yes_young ↦ begins.all x (b.address k.0) (AtField n i d st (inl o) l e at) (ap (word s) at ∙ k.2) yes_young
@@ -353,8 +353,8 @@ module _ (p : Program) (s : Contents) (g : Graph) (b : Book) (ambiguous pins : L
           let n = traced-named a tr in
           let length = length-back a tr in
           let strong-same : is_strong (area_for p) (word tagged) a i ≡ is_strong (area_for p) (word s) a i =
-              ap (λ (z : ℕ). is_strong (area_for p) (word tagged) z i) (sym n.3) ∙ strong p (word s) g b owner heap ambiguous pins begun.pinned (word tagged) begun.tags n.0 i n.2 n.1
-              ∙ sym (strong-of p (word s) g b owner heap n.0 i n.2 n.1) ∙ ap (λ (z : ℕ). is_strong (area_for p) (word s) z i) n.3 in
+          ap (λ (z : ℕ). is_strong (area_for p) (word tagged) z i) (sym n.3) ∙ strong p (word s) g b owner heap ambiguous pins begun.pinned (word tagged) begun.tags n.0 i n.2 n.1
+          ∙ sym (strong-of p (word s) g b owner heap n.0 i n.2 n.1) ∙ ap (λ (z : ℕ). is_strong (area_for p) (word s) z i) n.3 in
           Copied a i h (omega arith) (strong-same ∙ e) at
 
       field-high : (x : ℕ) → IsOldField p (area_for p) (word s) g b copied.went copied.m x → (nursery_end p ≤ x) × (x < globals_base (layout_of p))

@@ -116,9 +116,9 @@ strict-rises lo (x ∷ []) up l = (l x (in-here x x [] refl), tt)
 strict-rises lo (x ∷ y ∷ ys) up l = (
   l x (in-here x x (y ∷ ys) refl),
   let first : x < y = up 0 (omega arith) in
-  let more = strict-rises 0 (y ∷ ys) (λ k u. subst (λ (z : ℕ). get_or (x ∷ y ∷ ys) (suc k) 0 < get_or (x ∷ y ∷ ys) z 0) (let e : suc k + 1 ≡ suc (k + 1) = omega arith in e) (up (suc k) (omega arith)))
+      let more = strict-rises 0 (y ∷ ys) (λ k u. subst (λ (z : ℕ). get_or (x ∷ y ∷ ys) (suc k) 0 < get_or (x ∷ y ∷ ys) z 0) (let e : suc k + 1 ≡ suc (k + 1) = omega arith in e) (up (suc k) (omega arith)))
       (λ a i. omega arith) in
-  (omega arith, more.1),
+      (omega arith, more.1),
 )
 
 pub rises-distinct : (lo : ℕ) (xs : List ℕ) → Rises lo xs → AreDistinct xs

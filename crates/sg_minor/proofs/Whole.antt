@@ -132,13 +132,23 @@ module _ (p : Program) (s : Contents) (g : Graph) (b : Book) (heap : HoldsHeap p
             f.fitted ∙ ap (λ (z : Contents). record z { next = fronts_of report.pieces; ends = ends_of report.pieces }) f.still.0
             ∙ ap (λ (z : Contents). record z { words = f.swept.words; next = fronts_of report.pieces; ends = ends_of report.pieces }) copied.still.same
             ∙ ap (λ (z : Contents). record z {
-              words = f.swept.words; next = fronts_of report.pieces; ends = ends_of report.pieces; blocks = round.blocks; used = round.used; cards = round.cards;
+              words = f.swept.words;
+              next = fronts_of report.pieces;
+              ends = ends_of report.pieces;
+              blocks = round.blocks;
+              used = round.used;
+              cards = round.cards;
             }) still.0
 
         pub refitted : IsRefitted s final report.pieces
         refitted = record {
           same = after ∙ ap (λ (z : Contents). record s {
-            words = z.words; next = fronts_of report.pieces; ends = ends_of report.pieces; blocks = z.blocks; used = z.used; cards = z.cards;
+            words = z.words;
+            next = fronts_of report.pieces;
+            ends = ends_of report.pieces;
+            blocks = z.blocks;
+            used = z.used;
+            cards = z.cards;
           }) (sym after);
           words = ap (λ (l : List ℕ). length l) words_is ∙ f.still.1 ∙ copied.still.words ∙ still.1;
         }
@@ -172,5 +182,10 @@ same_after s final ambiguous pins found told round report t f =
     f.fitted ∙ ap (λ (z : Contents). record z { next = fronts_of report.pieces; ends = ends_of report.pieces }) f.still.0
     ∙ ap (λ (z : Contents). record z { words = f.swept.words; next = fronts_of report.pieces; ends = ends_of report.pieces }) t.copied.still.same
     ∙ ap (λ (z : Contents). record z {
-      words = f.swept.words; next = fronts_of report.pieces; ends = ends_of report.pieces; blocks = round.blocks; used = round.used; cards = round.cards;
+      words = f.swept.words;
+      next = fronts_of report.pieces;
+      ends = ends_of report.pieces;
+      blocks = round.blocks;
+      used = round.used;
+      cards = round.cards;
     }) t.still.0

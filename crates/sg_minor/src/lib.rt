@@ -11,8 +11,8 @@ pub use found::found_in;
 pub use join::join_law;
 pub use law::{heap_law, pause_law};
 pub use pause::minor;
-pub use slots::first_slots;
 pub use sg_nursery::build;
+pub use slots::first_slots;
 
 #[cfg(test)]
 mod tests;
