@@ -160,6 +160,9 @@ four_zero a b c d e =
     let one = or_zero a b two.0 in
     (one.0, one.1, two.1, three.1)
 
+pub zero_four : (a b c d : ℕ) → a ≡ 0 → b ≡ 0 → c ≡ 0 → d ≡ 0 → bit_or (bit_or (bit_or a b) c) d ≡ 0
+zero_four a b c d x y z w = rw x (rw y (rw z (rw w refl)))
+
 -- a seed is a word of a block or of a page
 pub seed_below : (s : Contents) (owner : ℕ → Option ℕ) → IsSoundBy s owner → (z : ℕ) → IsSeedAt s owner z → z < card_base s.layout (cards_in s.layout)
 seed_below s owner sound z q =

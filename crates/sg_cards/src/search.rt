@@ -1,4 +1,4 @@
-ghost use Rattle.std.specs.Prelude.{◌≡◌, ◌+◌, ◌*◌, ◌<◌, ◌≤◌, ℕ, Option, IfOk};
+ghost use Rattle.std.specs.Prelude.{◌≡◌, ◌+◌, ◌*◌, ◌<◌, ◌≤◌, ℕ, Option, IfOk, slice_index};
 ghost use Rattle.sg_words.specs.Sections.{old_base};
 ghost use Rattle.sg_space.specs.Space.{Contents, cards_in};
 ghost use Rattle.sg_space.specs.Standing.{IsSoundBy};
@@ -16,8 +16,9 @@ use std::alloc::{AllocError, Global};
 use std::sync::ledger::Ledger;
 
 /// The strong fields of standing old and large objects that hold young references, by address, each with what it holds. The words are those of a
-/// sound space, and each such field has a dirty card. Reads the words of the cards in the range of the dirty ones, each once, and of a dirty card's
-/// words each at most once, beside at most 5 others.
+/// sound space, and each such field has a dirty card. Asks once for the range of the dirty cards; reads the word of each card in it once, and of a
+/// dirty card's words each at most once, beside at most 5 others. So where every card is clean these are at most as many steps as there are cards,
+/// and one.
 pub fn seeds<W: Words, L: Ledger>(
     alloc: Global,
     words: &W,
@@ -26,7 +27,9 @@ pub fn seeds<W: Words, L: Ledger>(
     steps: &mut Steps<L>,
 ) -> Result<Seeds, AllocError>
     requires { (s : Contents) × AreSoundWords layout.now shapes.now (W.count words.now) (W.word_of words.now) s × AreCarded s }
-    ensures { IfOk result (λ seeds. (s : Contents) (owner : ℕ → Option ℕ) → AreSoundWords layout.now shapes.now (W.count words.now) (W.word_of words.now) s → AreCarded s → IsSoundBy s owner → AreSeeds s owner seeds) }
+    ensures exact { IfOk result (λ seeds. (s : Contents) (owner : ℕ → Option ℕ) → AreSoundWords layout.now shapes.now (W.count words.now) (W.word_of words.now) s → AreCarded s → IsSoundBy s owner → AreSeeds s owner seeds) }
+    ensures clean { IfOk result (λ _. ((c : ℕ) → c < cards_in layout.now → W.word_of words.now (cards_from layout.now + c) ≡ 0) →
+        steps.new ≤ steps.old + cards_in layout.now + 1) }
 {
     let mut items = Vec::new(alloc);
     let cards = cards_of(layout);
@@ -57,7 +60,9 @@ fn add_block<W: Words, L: Ledger>(
 ) -> Result<(), AllocError>
     requires sound { (s : Contents) × AreSoundWords layout.now shapes.now (W.count words.now) (W.word_of words.now) s × AreCarded s }
     requires there { block < layout.now.blocks }
-    ensures { IfOk result (λ _. (s : Contents) → AreSoundWords layout.now shapes.now (W.count words.now) (W.word_of words.now) s → AreCarded s → AreSeedsTo s items.old.items (card_base layout.now (4 * block)) →
+    ensures clean { IfOk result (λ _. ((c : ℕ) → c < cards_in layout.now → W.word_of words.now (cards_from layout.now + c) ≡ 0) →
+        steps.new ≡ steps.old + 4) }
+    ensures seeds { IfOk result (λ _. (s : Contents) → AreSoundWords layout.now shapes.now (W.count words.now) (W.word_of words.now) s → AreCarded s → AreSeedsTo s items.old.items (card_base layout.now (4 * block)) →
         AreSeedsTo s items.new.items (card_base layout.now (4 * (block + 1)))) }
 {
     let card = 4 * block;
@@ -69,10 +74,38 @@ fn add_block<W: Words, L: Ledger>(
     if first | second | third | fourth == 0 {
         return Ok(());
     }
-    add_dirty(words, layout, shapes, card, first, items, steps)?;
-    add_dirty(words, layout, shapes, card + 1, second, items, steps)?;
-    add_dirty(words, layout, shapes, card + 2, third, items, steps)?;
-    add_dirty(words, layout, shapes, card + 3, fourth, items, steps)?;
+    add_four(
+        words,
+        layout,
+        shapes,
+        card,
+        [first, second, third, fourth],
+        items,
+        steps,
+    )?;
+    Ok(())
+}
+
+// Adds the seeds of four cards with these words.
+fn add_four<W: Words, L: Ledger>(
+    words: &W,
+    layout: &Layout,
+    shapes: &[Shape],
+    card: u32,
+    four: [u64; 4],
+    items: &mut Vec<Seed>,
+    steps: &mut Steps<L>,
+) -> Result<(), AllocError>
+    requires sound { (s : Contents) × AreSoundWords layout.now shapes.now (W.count words.now) (W.word_of words.now) s × AreCarded s }
+    requires there { card + 4 ≤ cards_in layout.now }
+    requires words { (i : ℕ) → i < 4 → slice_index four i ≡ W.word_of words.now (cards_from layout.now + (card + i)) }
+    ensures { IfOk result (λ _. (s : Contents) → AreSoundWords layout.now shapes.now (W.count words.now) (W.word_of words.now) s → AreCarded s →
+        AreSeedsTo s items.old.items (card_base layout.now card) → AreSeedsTo s items.new.items (card_base layout.now (card + 4))) }
+{
+    add_dirty(words, layout, shapes, card, four[0], items, steps)?;
+    add_dirty(words, layout, shapes, card + 1, four[1], items, steps)?;
+    add_dirty(words, layout, shapes, card + 2, four[2], items, steps)?;
+    add_dirty(words, layout, shapes, card + 3, four[3], items, steps)?;
     Ok(())
 }
 
@@ -90,7 +123,8 @@ fn add_dirty<W: Words, L: Ledger>(
     requires sound { (s : Contents) × AreSoundWords layout.now shapes.now (W.count words.now) (W.word_of words.now) s × AreCarded s }
     requires card { card < cards_in layout.now }
     requires word { word ≡ W.word_of words.now (cards_from layout.now + card) }
-    ensures { IfOk result (λ _. (s : Contents) → AreSoundWords layout.now shapes.now (W.count words.now) (W.word_of words.now) s → AreCarded s → AreSeedsTo s items.old.items (card_base layout.now card) →
+    ensures clean { word ≡ 0 → steps.new ≡ steps.old }
+    ensures seeds { IfOk result (λ _. (s : Contents) → AreSoundWords layout.now shapes.now (W.count words.now) (W.word_of words.now) s → AreCarded s → AreSeedsTo s items.old.items (card_base layout.now card) →
         AreSeedsTo s items.new.items (card_base layout.now (card + 1))) }
 {
     if word != 0 {

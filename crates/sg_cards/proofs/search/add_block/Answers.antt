@@ -1,12 +1,12 @@
-use Rattle.std.proofs.Common.{◌≡◌, ℕ, ◌+◌, ◌*◌, sym, ap, ◌∙◌, subst, arith}
+use Rattle.std.proofs.Common.{◌≡◌, ℕ, ◌+◌, ◌*◌, ◌<◌, sym, ap, ◌∙◌, subst, arith}
 use Rattle.sg_space.specs.Space.{cards_in}
 use Rattle.sg_cards.specs.Numbering.{cards_from}
 use Rattle.sg_cards.specs.Scanned.{card_base, AreSeedsTo}
-use Rattle.sg_cards.proofs.Seeding.{seeds_over, four_zero}
+use Rattle.sg_cards.proofs.Seeding.{seeds_over, four_zero, zero_four}
 use Rattle.sg_cards.proofs.search.add_block.Goals as goal
 
-pub returns-then-first-second-eq0 : goal.returns-then-first-second-eq0
-returns-then-first-second-eq0 g c = λ s are carded h.
+pub returns-then-first-second-eq0-clause-seeds : goal.returns-then-first-second-eq0-clause-seeds
+returns-then-first-second-eq0-clause-seeds g c = λ s are carded h.
     let f = g.W.Words.word_of c.args.words.now in
     let card = 4 * c.args.block in
     let items = c.args.items.now.items in
@@ -24,3 +24,16 @@ returns-then-first-second-eq0 g c = λ s are carded h.
     (over (card + 1 + 1) (omega arith) (sym (ap f third) ∙ sym c.word-third.ensures.value ∙ zero.2)
     (over (card + 1) (omega arith) (sym (ap f second) ∙ sym c.word-second.ensures.value ∙ zero.1)
     (over card (omega arith) (sym (ap f first) ∙ sym c.word-first.ensures.value ∙ zero.0) h))))
+
+pub returns-clause-clean : goal.returns-clause-clean
+returns-clause-clean g c = λ clean.
+    let f = g.W.Words.word_of c.args.words.now in
+    let there = c.requires.there in
+    let number = c.cards_number.ensures in
+    let zero : (n i : ℕ) → i < 4 → n ≡ cards_from c.args.layout.now + (4 * c.args.block + i) → f n ≡ 0 = λ n i l e.
+    ap f e ∙ clean (4 * c.args.block + i) (omega arith) in
+    let n = c.cards_number.result + 4 * c.args.block in
+    let all = zero_four c.word-first.result c.word-second.result c.word-third.result c.word-fourth.result
+    (c.word-first.ensures.value ∙ zero n 0 (omega arith) (omega arith)) (c.word-second.ensures.value ∙ zero (n + 1) 1 (omega arith) (omega arith))
+    (c.word-third.ensures.value ∙ zero (n + 2) 2 (omega arith) (omega arith)) (c.word-fourth.ensures.value ∙ zero (n + 3) 3 (omega arith) (omega arith)) in
+    absurd (c.if-first-second-eq0.false all)
