@@ -1,6 +1,6 @@
 -- The book after a pause: what is kept, where it stands, and whose word each word is.
 use Rattle.std.proofs.Common.{◌≡◌, ◌≢◌, ℕ, ◌+◌, ◌-◌, ◌≤◌, ◌<◌, ◌⊎◌, cond, Bool, true, false, List, length, sym, ap, ◌∙◌, subst, inl, inr, arith, le_refl}
-use Rattle.std.proofs.lemmas.Bool.{cond-true, cond-false, cases_eq, cases_lt, cases_Bool}
+use Rattle.std.proofs.lemmas.Bool.{cond-true, cond-false, cases_eq, cases_Bool}
 use Rattle.sg_words.specs.declared.pieces.Piece.{Piece}
 use Rattle.sg_words.specs.Pieces.{fronts_of}
 use Rattle.sg_program.specs.declared.program.Program.{Program}

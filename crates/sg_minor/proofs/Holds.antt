@@ -1,6 +1,6 @@
 -- After a pause the words hold the graph by the new book.
 use Rattle.std.proofs.Common.{◌≡◌, ◌≢◌, ℕ, ◌+◌, ◌≤◌, ◌<◌, ◌⊎◌, cond, Bool, true, false, sym, refl, ap, ◌∙◌, subst, inl, inr, arith}
-use Rattle.std.proofs.lemmas.Bool.{cases_eq, cases_lt}
+use Rattle.std.proofs.lemmas.Bool.{cases_eq}
 use Rattle.sg_words.specs.Address.{byte_at}
 use Rattle.sg_desc.specs.Shapes.{holds_reference}
 use Rattle.sg_program.specs.Scripts.{kind_of, words_for}

@@ -5,7 +5,7 @@ use Rattle.std.specs.Int.Bits.{bit_or}
 use Rattle.std.proofs.lemmas.Bool.{cases_eq}
 use Rattle.std.proofs.lemmas.Nat.Bits.{bit_at-zero}
 use Rattle.sg_words.specs.Words.{put}
-use Rattle.sg_words.specs.Blocks.{IsSizeClass, slot_size, slots}
+use Rattle.sg_words.specs.Blocks.{IsSizeClass, slots}
 use Rattle.sg_words.specs.declared.steps.BlockWord.{BlockWord}
 use Rattle.sg_words.specs.declared.steps.BlockWord.TheVariants.{Free, Swept}
 use Rattle.sg_words.proofs.Blocks.{slot_size-class, slot_size-holds, class_bounds, slot_fits, slot_once, bit_set, bit_same, bit_kept}
@@ -13,9 +13,8 @@ use Rattle.sg_words.proofs.Puts.{put-at, put-same, put-other}
 use Rattle.sg_program.specs.declared.program.Program.{Program}
 use Rattle.sg_program.specs.Scripts.{words_for}
 use Rattle.sg_graph.specs.Graph.{Graph}
-use Rattle.sg_graph.specs.Book.{Book, Old, nursery_end, block_at, slot_at, slot_words, IsWordOf, IsInBlock, IsInSlot, IsEmptySlot, IsOfSize, IsOpenSlot, IsShut, IsFirstSlot}
+use Rattle.sg_graph.specs.Book.{Book, Old, nursery_end, slot_at, slot_words, IsWordOf, IsInBlock, IsInSlot, IsEmptySlot, IsOfSize, IsShut, IsFirstSlot}
 use Rattle.sg_graph.specs.Copies.{moved_to_slot}
-use Rattle.sg_round.specs.Area.{Area}
 use Rattle.sg_round.specs.Order.{IsLowest}
 use Rattle.sg_round.specs.Round.{IsPassed, IsClear}
 use Rattle.sg_minor.proofs.Areas.{area_for}

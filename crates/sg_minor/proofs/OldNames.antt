@@ -1,5 +1,5 @@
 -- The old objects by address, and the seeds as their strong fields.
-use Rattle.std.proofs.Common.{◌≡◌, ◌≢◌, ℕ, zero, suc, ◌+◌, ◌*◌, ◌-◌, ◌<◌, ◌≤◌, ◌⊎◌, inl, inr, eqb, cond, Bool, true, List, [], ◌∷◌, ◌++◌, map, filter, length, get_or, Some, sym, refl, ap, ◌∙◌, subst, arith, le_refl}
+use Rattle.std.proofs.Common.{◌≡◌, ◌≢◌, ℕ, zero, suc, ◌+◌, ◌*◌, ◌<◌, ◌≤◌, inl, inr, eqb, cond, true, List, [], ◌∷◌, ◌++◌, map, filter, get_or, sym, refl, ap, ◌∙◌, subst, arith}
 use Rattle.std.specs.List.{flat_map}
 use Rattle.std.specs.List.Sorted.{IsStrictlyIncreasing}
 use Rattle.std.proofs.lemmas.Bool.{cases_eq, cases_lt, cond-true, cond-false, eq-eqb, ne_eqb}
@@ -10,14 +10,14 @@ use Rattle.std.specs.List.{Contains}
 use Rattle.sg_words.specs.Address.{byte_at, word_at}
 use Rattle.sg_words.specs.Lists.{In}
 use Rattle.sg_words.specs.Sections.{IsYoung}
-use Rattle.sg_words.proofs.Members.{has-cases, in-here, in-left, in-right, in-cases, in_map, map_in, in-filter, filter-in, in-flat, flat-in, contains_in, in_contains}
+use Rattle.sg_words.proofs.Members.{has-cases, in-here, in-left, in-right, in-cases, map_in, in-filter, filter-in, in-flat, flat-in, in_contains}
 use Rattle.sg_words.proofs.Numbers.{word_at-byte_at}
 use Rattle.sg_words.proofs.Objects.{slots-in, slots-are}
 use Rattle.sg_desc.specs.Shapes.{is_strong as is_strong_by}
 use Rattle.sg_program.specs.declared.program.Program.{Program}
 use Rattle.sg_program.specs.Scripts.{kind_of}
 use Rattle.sg_graph.specs.Graph.{Graph}
-use Rattle.sg_graph.specs.Book.{Book, Old, nursery_end, old_end}
+use Rattle.sg_graph.specs.Book.{Book, nursery_end}
 use Rattle.sg_graph.specs.Blocks.{AreSettled}
 use Rattle.sg_graph.specs.Copies.{StandsOld, AreByAddress}
 use Rattle.sg_graph.specs.Heap.{Owner, Of, Frag, Buf, Nobody, IsHeap, layout_of}
@@ -28,8 +28,8 @@ use Rattle.sg_cards.specs.Seeds.{AreSeeds}
 use Rattle.sg_copy.specs.Copying.{area_of}
 use Rattle.sg_minor.specs.Holding.{IsSpaceOf}
 use Rattle.sg_minor.specs.Joined.{global_slots, holds_young, slots_from}
-use Rattle.sg_minor.proofs.Added.{slots_of_name, slots_outside, AreSlots, young-word, young-word-is}
-use Rattle.sg_minor.proofs.Rises.{Rises, rises-from, rises-lower, rises-append, rises-filter, rises-slots, rises-flat, rises-one, rises-strict, strict-rises}
+use Rattle.sg_minor.proofs.Added.{slots_of_name, AreSlots, young-word, young-word-is}
+use Rattle.sg_minor.proofs.Rises.{Rises, rises-lower, rises-append, rises-filter, rises-slots, rises-flat, rises-one, rises-strict, strict-rises}
 use Rattle.sg_minor.proofs.Sound.{owner_of, owns, owns_first, owned, one_owner, old_inside, old_there, nursery_is, sound_by}
 use Rattle.sg_minor.proofs.Soundly.{IsSown, sown, seeded}
 

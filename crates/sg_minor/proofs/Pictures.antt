@@ -1,5 +1,5 @@
 -- The words after the round and the sweep are the picture of those before the pause.
-use Rattle.std.proofs.Common.{◌≡◌, ◌≢◌, ℕ, ◌+◌, ◌≤◌, ◌<◌, cond, Bool, true, false, List, [], ◌∷◌, ◌++◌, sym, refl, ap, ◌∙◌, subst, inl, inr, arith, le_refl}
+use Rattle.std.proofs.Common.{◌≡◌, ◌≢◌, ℕ, ◌+◌, ◌≤◌, ◌<◌, cond, Bool, true, false, List, ◌++◌, sym, refl, ap, ◌∙◌, subst, inl, inr, arith, le_refl}
 use Rattle.sg_program.specs.declared.program.Program.{Program}
 use Rattle.sg_graph.specs.Graph.{Graph}
 use Rattle.sg_graph.specs.Book.{Book, Old, nursery_end, old_end, IsWordOf}
@@ -9,7 +9,7 @@ use Rattle.sg_round.specs.Area.{IsYoung, is_strong, Traces}
 use Rattle.sg_words.specs.Lists.{In, has}
 use Rattle.sg_words.specs.Objects.{size_of, sent}
 use Rattle.sg_round.specs.Image.{IsImage}
-use Rattle.sg_words.proofs.Members.{in-here, in-there, in-left, in-right, in-cases, out}
+use Rattle.sg_words.proofs.Members.{in-left, in-right, in-cases, out}
 use Rattle.sg_words.specs.Blocks.{slot_size}
 use Rattle.sg_words.proofs.Blocks.{slot_size-holds, slot_fits}
 use Rattle.sg_minor.specs.Joined.{ArePins, IsHome, IsUncopied, IsPictured, IsPicture, HasSwept}

@@ -1,25 +1,21 @@
 -- After a pause blocks and cards are settled.
-use Rattle.std.proofs.Common.{◌≡◌, ◌≢◌, ℕ, ◌+◌, ◌*◌, ◌<◌, ◌≤◌, inl, inr, Bool, true, false, refl, sym, ap, ◌∙◌, subst, arith, ◌⊎◌}
-use Rattle.std.specs.Int.{bit_at}
-use Rattle.std.proofs.lemmas.Bool.{cases_eq, false≢true}
+use Rattle.std.proofs.Common.{◌≡◌, ◌≢◌, ℕ, ◌+◌, ◌<◌, ◌≤◌, inl, inr, true, false, refl, sym, ap, ◌∙◌, subst, arith, ◌⊎◌}
+use Rattle.std.proofs.lemmas.Bool.{false≢true}
 use Rattle.sg_words.specs.Address.{byte_at}
-use Rattle.sg_words.specs.Blocks.{IsSizeClass, IsOf, IsOwing, is_taken, slots, card_of}
-use Rattle.sg_words.specs.Lists.{In}
-use Rattle.sg_words.specs.Objects.{size_of}
+use Rattle.sg_words.specs.Blocks.{IsSizeClass, IsOf, IsOwing, is_taken, card_of}
 use Rattle.sg_words.specs.Words.{Words}
 use Rattle.sg_words.specs.declared.steps.BlockWord.{BlockWord}
 use Rattle.sg_words.specs.declared.steps.BlockWord.TheVariants.{Free, Swept, Sweeping}
 use Rattle.sg_desc.specs.Shapes.{is_strong as is_strong_by}
-use Rattle.sg_program.specs.Scripts.{kind_of, words_for}
-use Rattle.sg_graph.specs.Graph.{Ref}
-use Rattle.sg_graph.specs.Book.{Young, Old, nursery_end, old_end, block_at, slot_at, slot_words, word_of, IsWordOf}
-use Rattle.sg_graph.specs.Blocks.{IsOldAt, IsTakenAt, IsBlock, IsClear, AreBlocks, AreCarded, AreSettled}
+use Rattle.sg_program.specs.Scripts.{kind_of}
+use Rattle.sg_graph.specs.Book.{Young, Old, nursery_end, old_end, slot_words, word_of, IsWordOf}
+use Rattle.sg_graph.specs.Blocks.{IsClear, AreBlocks, AreSettled}
 use Rattle.sg_graph.specs.Heap.{Of, layout_of}
 use Rattle.sg_round.specs.Area.{IsYoung}
 use Rattle.sg_minor.specs.Joined.{IsOldField, OfOld, OfCopy, IsUncopied}
 use Rattle.sg_minor.proofs.Mirrors.{AreBlocksBy}
 use Rattle.sg_minor.proofs.Names.{some-name, name-some, size-is, strong-of}
-use Rattle.sg_minor.proofs.After.{Ended, lies, sizes, names, stood, stands_on, stands-kept, address_of, section_of, booked, at-sent, old-still, home-in, Place, Stayed, Moved, Older, place, owner3, old-out, owns, copied-owner}
+use Rattle.sg_minor.proofs.After.{Ended, lies, names, stood, stands_on, stands-kept, address_of, section_of, booked, at-sent, old-still, Place, Stayed, Moved, Older, place, owner3, owns, copied-owner}
 use Rattle.sg_minor.proofs.Holds.{fields-hold, target-stands}
 
 no-of : (state : BlockWord) (z : ℕ) → state ≡ Free → IsOf state z → ⊥

@@ -19,7 +19,7 @@ use Rattle.sg_graph.specs.Graph.{Graph}
 use Rattle.sg_graph.specs.Book.{Book, Young, Old, nursery_end, old_end}
 use Rattle.sg_graph.specs.Blocks.{IsDirty, AreSettled}
 use Rattle.sg_space.specs.Space.{Contents, IsContents, words_of}
-use Rattle.sg_space.specs.Standing.{word, block_in, used_in, marks_in, page_in, size_at, IsObject, IsInSlot, IsPlaced, IsSoundBlock, IsSoundBy, IsSound}
+use Rattle.sg_space.specs.Standing.{word, block_in, used_in, marks_in, size_at, IsObject, IsInSlot, IsPlaced, IsSoundBlock, IsSoundBy, IsSound}
 use Rattle.sg_graph.specs.Heap.{Owner, Of, Frag, Buf, Nobody, IsHeap}
 use Rattle.sg_minor.specs.Holding.{IsSpaceOf, HoldsHeap}
 use Rattle.sg_minor.proofs.Names.{of-same}

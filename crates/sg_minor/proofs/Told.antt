@@ -4,7 +4,6 @@ use Rattle.std.proofs.lemmas.Bool.{cond-true, cond-false, cases_eq, eq-eqb, ne_e
 use Rattle.sg_words.specs.Address.{byte_at}
 use Rattle.sg_words.specs.declared.pieces.Move.{Move}
 use Rattle.sg_graph.specs.declared.reports.MinorReport.{MinorReport}
-use Rattle.sg_program.specs.Scripts.{words_for}
 use Rattle.sg_graph.specs.Book.{Young, Old, nursery_end, slot_at, slot_words, IsWordOf, IsApart, IsInBlock, IsInSlot, IsEmptySlot, IsShut}
 use Rattle.sg_words.specs.Sections.{nursery_base}
 use Rattle.sg_graph.specs.Pause.{IsPinned, StandsYoung}
@@ -25,7 +24,7 @@ use Rattle.sg_minor.specs.Joined.{ArePins, IsKept}
 use Rattle.sg_minor.specs.Law.{IsReportOf}
 use Rattle.sg_minor.proofs.Names.{of-same, some-name, name-some, exactly}
 use Rattle.sg_minor.proofs.Tiles.{next-beyond, limit-beyond}
-use Rattle.sg_minor.proofs.After.{Ended, lies, sizes, one-name, names, kept-young, section-young, stands_on, stood, is-kept, stands-nothing, stands-kept, address_of, section_of, booked, at-sent, moved-section, gone-still, stays-still, old-still, Place, Stayed, Moved, Older, place, nil-still, nil-at, tile-of, taken, owns}
+use Rattle.sg_minor.proofs.After.{Ended, lies, sizes, one-name, names, kept-young, section-young, stands_on, stood, is-kept, stands-nothing, stands-kept, address_of, section_of, booked, at-sent, moved-section, gone-still, stays-still, old-still, Place, Stayed, Moved, Older, place, nil-still, tile-of, taken, owns}
 
 module _ (c : Ended) where
   young-not-old : (n : ℕ) → section_of c n ≡ Old → section_of c n ≡ Young → ⊥

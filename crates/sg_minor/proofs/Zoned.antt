@@ -1,14 +1,14 @@
 -- The blocks of a space that holds a graph by a book, and the words of its major heap that are no object's.
-use Rattle.std.proofs.Common.{◌≡◌, ◌≢◌, ℕ, ◌+◌, ◌*◌, ◌<◌, ◌≤◌, ◌⊎◌, inl, inr, cond, leb, ltb, Bool, true, false, refl, sym, ap, ◌∙◌, subst, arith}
+use Rattle.std.proofs.Common.{◌≡◌, ◌≢◌, ℕ, ◌<◌, ◌≤◌, ◌⊎◌, inl, inr, cond, leb, ltb, Bool, true, false, refl, sym, ap, ◌∙◌, subst, arith}
 use Rattle.std.specs.Int.{bit_at}
-use Rattle.std.proofs.lemmas.Bool.{cases_Bool, cases_lt, cond-true, cond-false, le-leb, lt-ltb, lt-leb, le-ltb, leb-true, ltb-true, false≢true}
-use Rattle.sg_words.specs.Blocks.{IsSizeClass, IsOf, is_taken, slots}
+use Rattle.std.proofs.lemmas.Bool.{cases_Bool, cond-true, cond-false, le-leb, lt-ltb, leb-true, ltb-true, false≢true}
+use Rattle.sg_words.specs.Blocks.{IsSizeClass, IsOf, is_taken}
 use Rattle.sg_words.specs.declared.steps.BlockWord.{BlockWord}
 use Rattle.sg_words.specs.declared.steps.BlockWord.TheVariants.{Free, Swept, Need, Sweeping}
 use Rattle.sg_words.proofs.Blocks.{slot_fits}
 use Rattle.sg_program.specs.declared.program.Program.{Program}
 use Rattle.sg_graph.specs.Graph.{Graph}
-use Rattle.sg_graph.specs.Book.{Book, Old, nursery_end, old_end, slot_words, IsInSlot}
+use Rattle.sg_graph.specs.Book.{Book, nursery_end, old_end, slot_words}
 use Rattle.sg_graph.specs.Blocks.{AreSettled}
 use Rattle.sg_graph.specs.Heap.{Owner, Of, Frag, Buf, Nobody, IsHeap}
 use Rattle.sg_space.specs.Space.{Contents, IsContents, words_of}
@@ -16,7 +16,7 @@ use Rattle.sg_space.specs.Standing.{word, block_in, used_in, marks_in}
 use Rattle.sg_round.specs.Round.{AreZoned}
 use Rattle.sg_minor.specs.Holding.{IsSpaceOf}
 use Rattle.sg_minor.proofs.Areas.{area_for}
-use Rattle.sg_minor.proofs.Mirrors.{AreBlocksBy, IsSeated, clear_empty}
+use Rattle.sg_minor.proofs.Mirrors.{AreBlocksBy, clear_empty}
 use Rattle.sg_minor.proofs.Sound.{owned_block, not_owing, few_fields, inside, old_there, owned, no_dirty, block_of}
 
 -- whether a word with this owner is no object's

@@ -1,6 +1,5 @@
-use Rattle.std.proofs.Common.{List, sym, ap, ◌∙◌, subst}
+use Rattle.std.proofs.Common.{sym, ap, ◌∙◌, subst}
 use Rattle.sg_space.specs.Space.{Contents}
-use Rattle.sg_cards.specs.declared.found.Seed.{Seed}
 use Rattle.sg_minor.specs.Joined.{AreFound}
 use Rattle.sg_minor.proofs.Sound.{sound_of_heap}
 use Rattle.sg_minor.proofs.Whole.{is_rounded, is_staying, is_paused, round_contents, same_after}

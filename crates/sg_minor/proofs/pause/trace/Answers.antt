@@ -5,7 +5,6 @@ use Rattle.sg_space.specs.declared.objects.Object.{Object}
 use Rattle.sg_space.specs.Standing.{word}
 use Rattle.sg_copy.specs.Copying.{CanCopy, HasCopiedTo}
 use Rattle.sg_nursery.specs.Parts.{HasTagged, ArePlain}
-use Rattle.sg_minor.specs.Joined.{slots_from}
 use Rattle.sg_minor.proofs.Sound.{sound_of_heap}
 use Rattle.sg_minor.proofs.Whole.{plain_pins, can_copy, pins_told}
 use Rattle.sg_minor.proofs.pause.trace.Goals as goal

@@ -1,4 +1,4 @@
-use Rattle.std.proofs.Common.{◌≡◌, ℕ, ◌+◌, ◌∷◌, [], ◌++◌, List, length, map, take, sym, ap, ◌∙◌, arith}
+use Rattle.std.proofs.Common.{ℕ, ◌∷◌, [], ◌++◌, List, map, take, sym, ap, ◌∙◌}
 use Rattle.std.proofs.lemmas.List.{append_assoc, append-nil, map-append, map_push, take_more, take_all}
 use Rattle.sg_words.specs.Address.{word_at}
 use Rattle.sg_cards.specs.declared.found.Seed.{Seed}
