@@ -192,7 +192,8 @@ module _ (c : Ended) where
   -- where a kept object stands
   pub data Place (n : ℕ) : Type 0 where
     Stayed : Lies n → In (c.b.address n) c.stays → section_of n ≡ Young → address_of n ≡ c.b.address n → Place n
-    Moved : Lies n → In (c.b.address n) c.moves → section_of n ≡ Old → nursery_end c.p ≤ address_of n → address_of n + words_for (c.g.size n) ≤ old_end c.p → Place n
+    Moved : Lies n → In (c.b.address n) c.moves → section_of n ≡ Old → nursery_end c.p ≤ address_of n → address_of n + words_for (c.g.size n) ≤ old_end c.p →
+        Place n
     Older : LiesOld n → section_of n ≡ Old → address_of n ≡ c.b.address n → Place n
 
   pub place : (n : ℕ) → n ≢ 0 → stands_on n ≡ true → Place n

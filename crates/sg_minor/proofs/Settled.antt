@@ -63,7 +63,8 @@ module _ (c : Ended) (w : Words) (is : (x : ℕ) → w.word x ≡ c.v x) (by : A
       is x ∙ c.picture.same x (omega arith) (λ k l e. omega arith) (λ n o. none n (old-word n x (omega arith) o)) (uncopied x none)
       ∙ clear x (omega arith) (omega arith) (λ n e.
       let o = c.heap.laid.objects.owned n x e in
-      let some : n ≢ 0 = λ z. (let nil = ap c.b.address z ∙ c.heap.laid.nothing.at_nil in let size = ap c.g.size z ∙ c.heap.laid.nothing.no_size in let end = o.2 in absurd (omega arith)) in
+      let some : n ≢ 0 = λ z. (let nil = ap c.b.address z ∙ c.heap.laid.nothing.at_nil in let size = ap c.g.size z ∙ c.heap.laid.nothing.no_size in let end =
+          o.2 in absurd (omega arith)) in
       none n (old-word n x (omega arith) (record { some = some-name n some; stands = o.0; above = o.1; below = o.2 })))
 
   are-blocks : AreBlocks c.p w.marks w.block w.used w.word c.g.size (stands_on c) (address_of c) (section_of c) c.b.owed (owner3 c)
@@ -91,14 +92,16 @@ module _ (c : Ended) (w : Words) (is : (x : ℕ) → w.word x ≡ c.v x) (by : A
   }
 
   -- a strong field of an old object
-  old-field : (n i : ℕ) → 1 ≤ n → stands_on c n ≡ true → section_of c n ≡ Old → i < c.g.size n → is_strong_by (kind_of c.p (c.g.class n)) i (c.g.size n) ≡ true →
+  old-field : (n i : ℕ) → 1 ≤ n → stands_on c n ≡ true → section_of c n ≡ Old → i < c.g.size n → is_strong_by (kind_of c.p (c.g.class n)) i (c.g.size n) ≡
+      true →
       Place c n → IsOldField c.p c.area c.w c.g c.b c.moves c.m (address_of c n + 2 + i)
   old-field n i l s o within strong (Stayed inside h q e) = absurd (let z : Young ≡ Old = sym q ∙ o in cc)
   old-field n i l s o within strong (Moved inside h q from to) =
       let here = stood c n s in
       let d = name-some n l in
       let size = size-is c.p c.area c.tie c.w c.g c.b c.ambiguous c.owner c.heap n d here in
-      OfCopy (c.b.address n) i h (omega arith) (strong-of c.p c.area c.tie c.w c.g c.b c.ambiguous c.owner c.heap n i here d ∙ strong) (ap (λ (z : ℕ). z + 2 + i) (at-sent c n here))
+      OfCopy (c.b.address n) i h (omega arith) (strong-of c.p c.area c.tie c.w c.g c.b c.ambiguous c.owner c.heap n i here d ∙ strong)
+          (ap (λ (z : ℕ). z + 2 + i) (at-sent c n here))
   old-field n i l s o within strong (Older old q e) = OfOld n i (name-some n l) (stood c n s) old.section within strong (ap (λ (z : ℕ). z + 2 + i) e)
 
   young-at : (n : ℕ) → section_of c n ≡ Young → Place c n → IsYoung c.area (address_of c n)
@@ -106,7 +109,8 @@ module _ (c : Ended) (w : Words) (is : (x : ℕ) → w.word x ≡ c.v x) (by : A
   young-at n y (Moved inside h q from to) = absurd (let z : Young ≡ Old = sym y ∙ q in cc)
   young-at n y (Older old q e) = absurd (let z : Young ≡ Old = sym y ∙ q in cc)
 
-  module _ (carded : (x y : ℕ) → IsOldField c.p c.area c.w c.g c.b c.moves c.m x → c.v x ≡ byte_at y → IsYoung c.area y → w.card (card_of (layout_of c.p) x) ≡ 1)
+  module _ (carded : (x y : ℕ) → IsOldField c.p c.area c.w c.g c.b c.moves c.m x → c.v x ≡ byte_at y → IsYoung c.area y → w.card (card_of (layout_of c.p) x) ≡
+      1)
       (unowed : (j : ℕ) → j < c.p.config.blocks → c.b.owed j ≡ false) where
     pub is-settled : AreSettled c.p w c.g (booked c) (owner3 c)
     is-settled = record {
