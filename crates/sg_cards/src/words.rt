@@ -89,7 +89,12 @@ impl Words for Space {
     }
 
     // By the range that the space keeps.
-    fn range_of_dirty<L: Ledger>(&self, first: u64, cards: u32, steps: &mut Steps<L>) -> (u32, u32) {
+    fn range_of_dirty<L: Ledger>(
+        &self,
+        first: u64,
+        cards: u32,
+        steps: &mut Steps<L>,
+    ) -> (u32, u32) {
         steps.tick();
         let layout = self.layout();
         if first == cards_number(&layout) && cards == cards_of(&layout) {

@@ -1,14 +1,12 @@
 -- How a worker goes from item to item, over any port.
-use Rattle.std.proofs.Common.{◌≡◌, ◌≢◌, ℕ, ◌+◌, ◌-◌, ◌*◌, ◌<◌, ◌≤◌, ◌⊎◌, Bool, List, [], ◌∷◌, map, inl, inr, refl, sym, ap, ◌∙◌, subst, arith}
+use Rattle.std.proofs.Common.{◌≡◌, ℕ, ◌+◌, ◌-◌, ◌<◌, ◌≤◌, Bool, List, [], ◌∷◌, map, refl, sym, ap, ◌∙◌, subst, arith}
 use Rattle.std.proofs.Math.Path.{fun_ext}
 use Rattle.sg_words.specs.Address.{byte_at, word_at}
-use Rattle.sg_words.specs.Lists.{In}
 use Rattle.sg_words.specs.Objects.{strong_slots}
 use Rattle.sg_words.proofs.Members.{in-here}
 use Rattle.sg_words.specs.declared.steps.Place.TheVariants.{Word}
 use Rattle.sg_words.specs.declared.steps.Step.TheVariants.{Load}
 use Rattle.sg_words.specs.declared.steps.Call.TheVariants.{Loads}
-use Rattle.sg_desc.specs.Shapes.{is_strong}
 use Rattle.sg_round.specs.Area.{Area, class_of}
 use Rattle.sg_round.specs.Items.{Item, SlotOf, WholeOf, slots_by}
 use Rattle.sg_round.specs.Worker.{Worker, Idle, Count}
@@ -20,7 +18,7 @@ use Rattle.sg_copy.specs.declared.gray.Gray.{Gray}
 use Rattle.sg_copy.specs.Grays.{item_of}
 use Rattle.sg_copy.specs.Copying.{area_by}
 use Rattle.sg_copy.specs.Telling.{Seat, Teller, Tells, at}
-use Rattle.sg_copy.specs.State.{Copying, slots_in_hand, teller_of, worker_of, seat_of, IsKindOf, TakesInHand, IsSameCopier}
+use Rattle.sg_copy.specs.State.{Copying, slots_in_hand, teller_of, worker_of, seat_of, TakesInHand, IsSameCopier}
 use Rattle.sg_copy.specs.Turning.{IsNextOf, HasBegun}
 use Rattle.sg_copy.specs.declared.copier.Stage.TheVariants.{Between}
 use Rattle.sg_copy.proofs.Handled.{seat_same, same_then, idle_is, on_as}
@@ -62,7 +60,7 @@ listed : (w : Worker) (item : Item) (rest : List Item) → w.list ≡ item ∷ r
 listed w item rest e f =
     subst (λ (hand : List ℕ). IsNext (record w { hand = hand; mid = Idle }) item (record w { list = rest; hand = hand; mid = Idle })) (sym f)
     (subst (λ (list : List Item). IsNext (record w { list = list; hand = []; mid = Idle }) item (record w { list = rest; hand = []; mid = Idle }))
-        (sym e) (Of_list w item rest))
+    (sym e) (Of_list w item rest))
 
 -- the oldest item of the list is the next one
 pub next_listed : (c d : Copying) (item : Gray) → c.queue ≡ item ∷ d.queue → d ≡ record c { queue = d.queue } → slots_in_hand c.hand ≡ [] →
@@ -127,7 +125,7 @@ module _ {P : Type 0} (o : Ports P) (seat : Seat) (t : Teller) (whole : ℕ) (a 
       pub count_short : n ≤ 62
       count_short =
           let next = saw_now o seat (counting v) (handed 0) q on_count (Load (Word (whole + 1)) 0) (count_next 0 (omega arith))
-              (Load (Word (whole + 1)) n) refl did_count.0 in
+          (Load (Word (whole + 1)) n) refl did_count.0 in
           saw_at seat.area seat.team seat.number (counting v).worker (Load (Word (whole + 1)) n) next.0.1.0 next.0.0.worker next.0.1.1
 
       pub opened : Started o seat a p (handed n) r
@@ -159,7 +157,7 @@ module _ {P : Type 0} (o : Ports P) (m s k : Copying) (slot : ℕ) (x y : P) (on
       gone_then o (seat_of m) (teller_of m) (teller_of s) (teller_of d) x y z gone
           (subst (λ (a : Teller). Gone o (seat_of m) a y (teller_of d) z) (idle_is s between)
           (gone_started o (seat_of m) (at (teller_of s) Idle) (teller_of d) y z not_over
-              (subst (λ (h : Seat). Started o h (at (teller_of s) Idle) y (teller_of d) z) (seat_same m k same_put) h.started))),
+          (subst (λ (h : Seat). Started o h (at (teller_of s) Idle) y (teller_of d) z) (seat_same m k same_put) h.started))),
       same_then m k d same_put h.same.copier,
     )
 

@@ -5,8 +5,6 @@ use Rattle.sg_words.specs.Address.{byte_at, word_at}
 use Rattle.sg_words.specs.Sections.{nursery_base, old_base}
 use Rattle.sg_words.proofs.Numbers.{word_at-byte_at}
 use Rattle.sg_words.specs.declared.pieces.Move.{Move}
-use Rattle.sg_words.specs.declared.steps.Step.{Step}
-use Rattle.sg_words.specs.declared.steps.Call.{Call}
 use Rattle.sg_words.specs.declared.layout.Layout.{Layout}
 use Rattle.sg_desc.specs.declared.shapes.Shape.{Shape}
 use Rattle.sg_words.specs.Words.{put}
@@ -18,7 +16,7 @@ use Rattle.sg_copy.specs.Grays.{item_of}
 use Rattle.sg_copy.specs.declared.copier.Stage.{Stage}
 use Rattle.sg_copy.specs.declared.copier.Stage.TheVariants.{Between}
 use Rattle.sg_copy.specs.Copying.{area_by}
-use Rattle.sg_copy.specs.Telling.{Seat, Teller, IsOn, HasGoneOn, HasStarted, at}
+use Rattle.sg_copy.specs.Telling.{Seat, Teller, at}
 use Rattle.sg_copy.specs.State.{Copying, mid_of, worker_of, teller_of, seat_of, IsSameCopier, IsSameHanded, IsOnSlot, move_of}
 use Rattle.sg_copy.specs.Turning.{HasHandled, HasBegun, HasSetOut}
 use Rattle.sg_copy.proofs.Ports.{Ports, On, Gone, Started, gone_then, started_then}
@@ -39,8 +37,14 @@ pub same_handed : (c : Copying) → IsSameHanded c c
 same_handed c = record { copier = same_self c; hand = refl }
 
 pub same_then : (c d e : Copying) → IsSameCopier c d → IsSameCopier d e → IsSameCopier c e
-same_then c d e h k = record { layout = k.layout ∙ h.layout; shapes = k.shapes ∙ h.shapes; number = k.number ∙ h.number; team =
-    k.team ∙ h.team; most = k.most ∙ h.most }
+same_then c d e h k = record {
+  layout = k.layout ∙ h.layout;
+  shapes = k.shapes ∙ h.shapes;
+  number = k.number ∙ h.number;
+  team =
+      k.team ∙ h.team;
+  most = k.most ∙ h.most;
+}
 
 pub handed_then : (c d e : Copying) → IsSameHanded c d → IsSameHanded d e → IsSameHanded c e
 handed_then c d e h k = record { copier = same_then c d e h.copier k.copier; hand = k.hand ∙ h.hand }
@@ -79,15 +83,21 @@ at_passed c d size z v mid e is l =
 -- an object has moved
 pub at_moved : (c d : Copying) (from to : ℕ) (mid : Mid) →
     d ≡ record c { moves = c.moves ++ move_of from to ∷ []; queue = c.queue ++ Whole (byte_at to) ∷ [] } →
-    at (teller_of d) mid ≡ record (teller_of c) { worker = record (worker_of c) { list = (worker_of c).list ++ WholeOf to ∷ []; mid = mid }; moves =
-        (teller_of c).moves ++ from ∷ [] }
+    at (teller_of d) mid ≡ record (teller_of c) {
+      worker = record (worker_of c) { list = (worker_of c).list ++ WholeOf to ∷ []; mid = mid };
+      moves =
+          (teller_of c).moves ++ from ∷ [];
+    }
 at_moved c d from to mid e =
     ap (λ (k : Copying). at (teller_of k) mid) e
-    ∙ ap (λ (list : List Item). record (teller_of c) { worker = record (worker_of c) { list = list; mid = mid }; moves =
-        map (λ (m : Move). word_at m.from) (c.moves ++ move_of from to ∷ []) })
-        (map_push item_of c.queue (Whole (byte_at to)) ∙ ap (λ n. (worker_of c).list ++ WholeOf n ∷ []) (word_at-byte_at to))
+    ∙ ap (λ (list : List Item). record (teller_of c) {
+      worker = record (worker_of c) { list = list; mid = mid };
+      moves =
+          map (λ (m : Move). word_at m.from) (c.moves ++ move_of from to ∷ []);
+    })
+    (map_push item_of c.queue (Whole (byte_at to)) ∙ ap (λ n. (worker_of c).list ++ WholeOf n ∷ []) (word_at-byte_at to))
     ∙ ap (λ ms. record (teller_of c) { worker = record (worker_of c) { list = (worker_of c).list ++ WholeOf to ∷ []; mid = mid }; moves = ms })
-        (map_push (λ (m : Move). word_at m.from) c.moves (move_of from to) ∙ ap (λ n. (teller_of c).moves ++ n ∷ []) (word_at-byte_at from))
+    (map_push (λ (m : Move). word_at m.from) c.moves (move_of from to) ∙ ap (λ n. (teller_of c).moves ++ n ∷ []) (word_at-byte_at from))
 
 pub same_moved : (c d : Copying) (moves : List Move) (queue : List Gray) → d ≡ record c { moves = moves; queue = queue } → IsSameHanded c d
 same_moved c d moves queue e =
@@ -96,7 +106,7 @@ same_moved c d moves queue e =
 -- an object has failed, and no block can take its size
 pub at_failed : (c d k : Copying) (x size z v : ℕ) (mid : Mid) →
     d ≡ record c { fails = c.fails ++ byte_at x ∷ []; queue = c.queue ++ Whole (byte_at x) ∷ [] } →
-        k ≡ record d { passed = slice_set d.passed size v } → size ≡ z → size < length d.passed →
+    k ≡ record d { passed = slice_set d.passed size v } → size ≡ z → size < length d.passed →
     at (teller_of k) mid ≡ record (teller_of c) {
       worker = record (worker_of c) { list = (worker_of c).list ++ WholeOf x ∷ []; passed = put (worker_of c).passed z v; mid = mid };
       fails = (teller_of c).fails ++ x ∷ [];
@@ -105,11 +115,11 @@ at_failed c d k x size z v mid e f is l =
     at_passed d k size z v mid f is l
     ∙ ap (λ (b : Copying). record (teller_of b) { worker = record (worker_of b) { passed = put (worker_of b).passed z v; mid = mid } }) e
     ∙ ap (λ (list : List Item). record (teller_of c)
-        { worker = record (worker_of c) { list = list; passed = put (worker_of c).passed z v; mid = mid }; fails = map word_at (c.fails ++ byte_at x ∷ []) })
-        (map_push item_of c.queue (Whole (byte_at x)) ∙ ap (λ n. (worker_of c).list ++ WholeOf n ∷ []) (word_at-byte_at x))
+    { worker = record (worker_of c) { list = list; passed = put (worker_of c).passed z v; mid = mid }; fails = map word_at (c.fails ++ byte_at x ∷ []) })
+    (map_push item_of c.queue (Whole (byte_at x)) ∙ ap (λ n. (worker_of c).list ++ WholeOf n ∷ []) (word_at-byte_at x))
     ∙ ap (λ ms. record (teller_of c)
-        { worker = record (worker_of c) { list = (worker_of c).list ++ WholeOf x ∷ []; passed = put (worker_of c).passed z v; mid = mid }; fails = ms })
-        (map_push word_at c.fails (byte_at x) ∙ ap (λ n. (teller_of c).fails ++ n ∷ []) (word_at-byte_at x))
+    { worker = record (worker_of c) { list = (worker_of c).list ++ WholeOf x ∷ []; passed = put (worker_of c).passed z v; mid = mid }; fails = ms })
+    (map_push word_at c.fails (byte_at x) ∙ ap (λ n. (teller_of c).fails ++ n ∷ []) (word_at-byte_at x))
 
 pub same_failed : (c d : Copying) (fails : List ℕ) (queue : List Gray) → d ≡ record c { fails = fails; queue = queue } → IsSameHanded c d
 same_failed c d fails queue e =
@@ -118,14 +128,14 @@ same_failed c d fails queue e =
 -- there is room to tell of one more object
 pub moves_room : (layout : Layout) (moves : List Move) (fails : List ℕ) (x : ℕ) →
     length (map (λ (m : Move). word_at m.from) moves ++ x ∷ []) + length (map word_at fails) ≤ old_base layout - nursery_base →
-        length moves + length fails < layout.nursery
+    length moves + length fails < layout.nursery
 moves_room layout moves fails x few =
     let n = length-map moves (λ (m : Move). word_at m.from) in let k = length-map fails word_at in
     omega (arith, few, length-append (map (λ (m : Move). word_at m.from) moves) (x ∷ []), n, k)
 
 pub fails_room : (layout : Layout) (moves : List Move) (fails : List ℕ) (x : ℕ) →
     length (map (λ (m : Move). word_at m.from) moves) + length (map word_at fails ++ x ∷ []) ≤ old_base layout - nursery_base →
-        length moves + length fails < layout.nursery
+    length moves + length fails < layout.nursery
 fails_room layout moves fails x few =
     let n = length-map moves (λ (m : Move). word_at m.from) in let k = length-map fails word_at in
     omega (arith, few, length-append (map word_at fails) (x ∷ []), n, k)

@@ -10,6 +10,7 @@ pub mod Cells
 pub mod Items
 pub mod Handled
 pub mod Changes
+pub mod One
 pub mod RoundLists
 pub mod RoundMeasure
 pub mod RoundGuided

@@ -1,18 +1,16 @@
 -- The search for a slot, over any port.
-use Rattle.std.proofs.Common.{◌≡◌, ◌≢◌, ℕ, zero, suc, ◌+◌, ◌-◌, ◌<◌, ◌≤◌, nat_lt, if◌then◌else◌, Bool, true, false, List, [], ◌∷◌, ◌++◌, refl, sym}
-use Rattle.std.proofs.Common.{ap, ◌∙◌, subst, arith}
+use Rattle.std.proofs.Common.{◌≡◌, ℕ, zero, suc, ◌+◌, ◌<◌, ◌≤◌, nat_lt, if◌then◌else◌, Bool, true, false, List, [], ◌∷◌, ◌++◌, refl, sym}
+use Rattle.std.proofs.Common.{ap, subst, arith}
 use Rattle.std.proofs.lemmas.Bool.{cond-true, cond-false, lt-ltb, le-ltb}
-use Rattle.sg_words.specs.declared.steps.BlockWord.{BlockWord}
 use Rattle.sg_words.specs.declared.steps.BlockWord.TheVariants.{Free, Swept}
 use Rattle.sg_words.specs.declared.steps.BlockStep.TheVariants.{LoadBlock, LoadUsed}
 use Rattle.sg_words.specs.declared.steps.Step.{Step}
 use Rattle.sg_words.specs.declared.steps.Step.TheVariants.{OnBlock}
 use Rattle.sg_words.specs.declared.steps.Call.TheVariants.{OnBlocks}
 use Rattle.sg_words.specs.declared.steps.BlockCall.TheVariants.{LoadsBlock, LoadsUsed}
-use Rattle.sg_words.specs.Blocks.{slots}
 use Rattle.sg_words.proofs.Blocks.{has_slots}
 use Rattle.sg_cells.specs.Made.{Makes}
-use Rattle.sg_slots.specs.Looks.{IsFull, IsLowest, PassesOver, PassesOther, PassesFull, ArePassed, Finds, FindsFree, FindsSlot, AreLooks, PassesAll}
+use Rattle.sg_slots.specs.Looks.{PassesOver, PassesOther, PassesFull, ArePassed, Finds, FindsFree, FindsSlot, AreLooks, PassesAll}
 use Rattle.sg_slots.specs.Looks.{PassesTo, MayLook}
 use Rattle.sg_slots.specs.declared.search.Found.{Found}
 use Rattle.sg_slots.specs.declared.search.Found.TheVariants.{Free as IsFree, Slot as HasSlot, None as NoSlot}
@@ -80,15 +78,19 @@ module _ {P : Type 0} (o : Ports P) where
       passes : (ts : List Step) (q : P) → PassesOver (size_for x) b ts → Makes o.leads o.sees p ts q → Gone o seat (room b) p (look_at (b + 1)) q
       passes _ q (PassesOther state free swept) h =
           subst (λ (r : P). Gone o seat (room b) p (look_at (b + 1)) r) (sym h.3)
-          (one_step o seat (room b) (look_at (b + 1)) p on (OnBlock (LoadBlock b state)) (Nothing, finds_other t.worker s x b state free swept, refl,
-              refl) h.0 (h.2, h.1) (λ k. k))
+          (one_step o seat (room b) (look_at (b + 1)) p on (OnBlock (LoadBlock b state)) (
+            Nothing,
+            finds_other t.worker s x b state free swept,
+            refl,
+            refl,
+          ) h.0 (h.2, h.1) (λ k. k))
       passes _ q (PassesFull used full) h =
           let did : Did o seat p (OnBlock (LoadBlock b (Swept (size_for x)))) h.0 = (h.2, h.1) in
           let more = h.3 in
           subst (λ (r : P). Gone o seat (room b) p (look_at (b + 1)) r) (sym more.3)
           (gone_then o seat (room b) (slots_of b) (look_at (b + 1)) p h.0 more.0 (swept_gone h.0 did)
           (one_step o seat (slots_of b) (look_at (b + 1)) h.0 (swept_on h.0 did) (OnBlock (LoadUsed b used))
-              (Nothing, finds_full t.worker s x b used full, refl, refl) more.0 (more.2, more.1) (λ k. k)))
+          (Nothing, finds_full t.worker s x b used full, refl, refl) more.0 (more.2, more.1) (λ k. k)))
 
       -- or it has a slot
       finds : (ts : List Step) (found : Found) (q : P) → Finds (size_for x) b ts found → Makes o.leads o.sees p ts q →
@@ -96,7 +98,7 @@ module _ {P : Type 0} (o : Ports P) where
       finds _ _ q FindsFree h =
           subst (λ (r : P). Gone o seat (room b) p (at t (OnSlot s (Take x b))) r) (sym h.3)
           (one_step o seat (room b) (at t (OnSlot s (Take x b))) p on (OnBlock (LoadBlock b Free)) (Nothing, finds_free t.worker s x b, refl, refl)
-              h.0 (h.2, h.1) (λ k. k))
+          h.0 (h.2, h.1) (λ k. k))
       finds _ _ q (FindsSlot used i low) h =
           let did : Did o seat p (OnBlock (LoadBlock b (Swept (size_for x)))) h.0 = (h.2, h.1) in
           let more = h.3 in
@@ -104,7 +106,7 @@ module _ {P : Type 0} (o : Ports P) where
           subst (λ (r : P). Gone o seat (room b) p there r) (sym more.3)
           (gone_then o seat (room b) (slots_of b) there p h.0 more.0 (swept_gone h.0 did)
           (one_step o seat (slots_of b) there h.0 (swept_on h.0 did) (OnBlock (LoadUsed b used))
-              (Nothing, finds_clear t.worker s x b i used low.within low.clear low.below, refl, refl) more.0 (more.2, more.1) (λ k. k)))
+          (Nothing, finds_clear t.worker s x b i used low.within low.clear low.below, refl, refl) more.0 (more.2, more.1) (λ k. k)))
 
     module _ (from : ℕ) (p : P) (on : On o seat p (look_at from)) where
       next_block : (n : ℕ) → from + n + 1 ≡ from + suc n

@@ -1,17 +1,14 @@
 -- A port's members, and the steps of a turn over any port.
-use Rattle.std.proofs.Common.{◌≡◌, ℕ, List, [], ◌∷◌, ◌++◌, inl, refl, sym, ap, ◌∙◌, subst}
+use Rattle.std.proofs.Common.{◌≡◌, ℕ, List, [], ◌∷◌, ◌++◌, inl, refl, sym, ◌∙◌, subst}
 use Rattle.sg_words.specs.Address.{byte_at, word_at}
 use Rattle.sg_words.proofs.Numbers.{word_at-byte_at}
 use Rattle.sg_words.specs.declared.steps.Step.{Step}
 use Rattle.sg_words.specs.declared.steps.Call.{Call}
-use Rattle.sg_words.specs.declared.steps.Place.TheVariants.{Word}
-use Rattle.sg_words.specs.declared.steps.Step.TheVariants.{Load, Store}
-use Rattle.sg_words.specs.declared.steps.Call.TheVariants.{Loads, Stores}
 use Rattle.sg_words.specs.Calls.{call_of}
 use Rattle.sg_words.specs.Programs.{FollowsBy, SeesNext, Goes}
 use Rattle.sg_words.proofs.Programs.{going, goes_on, may_do, sees_it, guided, follows-append, goes_then}
 use Rattle.sg_round.specs.Acting.{RestsAt}
-use Rattle.sg_copy.specs.Telling.{Seat, Teller, Tells, TellsOn, IsSaneTeller, IsOn, HasGoneOn, HasStarted, HasTurned}
+use Rattle.sg_copy.specs.Telling.{Seat, Teller, Tells, TellsOn, IsSaneTeller, IsOn, HasGoneOn, HasStarted}
 
 -- what a port says of itself
 pub record Ports (P : Type 0) : Type 1 where

@@ -1,5 +1,6 @@
 -- What a round of one worker leaves.
-use Rattle.std.proofs.Common.{◌≡◌, ◌≢◌, ℕ, zero, suc, ◌+◌, ◌-◌, ◌*◌, ◌/◌, ◌%◌, ◌<◌, ◌≤◌, ◌^◌, ◌⊎◌, Bool, true, false, List, [], ◌∷◌, ◌++◌, length, map, slice_index, inl, inr, refl, sym, ap, ◌∙◌, subst, arith}
+use Rattle.std.proofs.Common.{◌≡◌, ◌≢◌, ℕ, zero, suc, ◌+◌, ◌-◌, ◌*◌, ◌/◌, ◌%◌, ◌<◌, ◌≤◌, ◌^◌, ◌⊎◌, Bool, true}
+use Rattle.std.proofs.Common.{false, List, [], ◌∷◌, ◌++◌, length, map, slice_index, inl, inr, refl, sym, ap, ◌∙◌, subst, arith}
 use Rattle.std.proofs.lemmas.Bool.{cases_Bool}
 use Rattle.std.specs.Int.{bit_at}
 use Rattle.sg_words.specs.Address.{byte_at, word_at}
@@ -80,10 +81,17 @@ module _ (s : Contents) (slots wholes : List ℕ) (items : List Gray) (can : Can
     opened = b.opened;
     risen = b.risen;
     homes = b.homes;
-    bits = λ k i set clear. let h = b.bits k i set clear in (h.0, h.1, h.2, h.3, h.4, elim h.5 [
-      | inl a ↦ a
-      | inr w ↦ absurd (spare-not w.0 k h.0 i w.1)
-    ]);
+    bits = λ k i set clear. let h = b.bits k i set clear in (
+      h.0,
+      h.1,
+      h.2,
+      h.3,
+      h.4,
+      elim h.5 [
+        | inl a ↦ a
+        | inr w ↦ absurd (spare-not w.0 k h.0 i w.1)
+      ],
+    );
   }
 
   order : IsInOrder (area_of s) (word s) (items_of s slots wholes) m (block_in s) (used_in s) went stayed (block_in new) (used_in new)

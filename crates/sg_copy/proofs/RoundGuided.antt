@@ -1,5 +1,6 @@
 -- The worker of a round of one is guided over the plain space.
-use Rattle.std.proofs.Common.{◌≡◌, ◌≢◌, ℕ, zero, suc, ◌+◌, ◌-◌, ◌*◌, ◌/◌, ◌%◌, ◌<◌, ◌≤◌, ◌^◌, ◌⊎◌, List, [], ◌∷◌, ◌++◌, length, inl, inr, refl, sym, ap, ◌∙◌, subst, arith}
+use Rattle.std.proofs.Common.{◌≡◌, ◌≢◌, ℕ, zero, suc, ◌+◌, ◌-◌, ◌*◌, ◌/◌, ◌%◌, ◌<◌, ◌≤◌, ◌^◌}
+use Rattle.std.proofs.Common.{◌⊎◌, List, [], ◌∷◌, ◌++◌, length, inl, inr, refl, sym, ap, ◌∙◌, subst, arith}
 use Rattle.std.proofs.lemmas.Bool.{cases_eq}
 use Rattle.std.proofs.lemmas.List.{append-nil, append_assoc}
 use Rattle.std.proofs.Math.Path.{fun_ext}
@@ -17,7 +18,8 @@ use Rattle.sg_space.specs.Space.{Contents, IsContents}
 use Rattle.sg_round.specs.Area.{Area, HasCard, card_at}
 use Rattle.sg_round.specs.Items.{Item, SlotOf, WholeOf}
 use Rattle.sg_round.specs.Worker.{Object, Mid, Idle, Took, Worker, size_for}
-use Rattle.sg_round.specs.Rules.{Effect, Nothing, Ends, Moves, Fails, FailsEnding, IsNext, Comes, Deed, WorkEvent, by_one, Follows, moved, failed, moved_by, failed_by}
+use Rattle.sg_round.specs.Rules.{Effect, Nothing, Ends, Moves, Fails, FailsEnding, IsNext, Comes}
+use Rattle.sg_round.specs.Rules.{Deed, WorkEvent, by_one, Follows, moved, failed, moved_by, failed_by}
 use Rattle.sg_round.specs.Rules.IsNext.{Of_hand, Of_list, Of_cell}
 use Rattle.sg_round.specs.Rules.Comes.{opens, counts, sees_none, sees, looks_forwarded, looks_fixed, looks_bare, looks_plain, has_spare, has_none, finds_free}
 use Rattle.sg_round.specs.Rules.Comes.{finds_swept, finds_other, takes, takes_not, finds_clear, finds_full, marks, marks_not, reads, writes, clears, heads}
@@ -57,12 +59,14 @@ module _ (s0 s : Contents) (cells : List ℕ) (is : IsContents s0) (still : IsSt
   young-there : (x : ℕ) → ((area_of s0).low ≤ x) × (x < (area_of s0).high) → IsWordIn s x
   young-there x h = word-there x (h.0, (let l = h.1 in omega arith))
 
-  slot-next : (most k : ℕ) (a : Worker) (item : Item) (z : ℕ) (b : Worker) → item ≡ SlotOf z → IsNext a item b → IsSane (area_of s0) 1 most k a → IsWord (area_of s0) z
+  slot-next : (most k : ℕ) (a : Worker) (item : Item) (z : ℕ) (b : Worker) → item ≡ SlotOf z → IsNext a item b → IsSane (area_of s0) 1 most k a →
+      IsWord (area_of s0) z
   slot-next most k _ _ z _ e (Of_hand a s rest) sane = sane.hand z (in-here z s rest (let f : SlotOf s ≡ SlotOf z = e in cc))
   slot-next most k _ _ z _ e (Of_list a item rest) sane = subst (IsSaneItem (area_of s0)) e sane.list.0
   slot-next most k _ _ z _ e (Of_cell a item) sane = subst (IsSaneItem (area_of s0)) e sane.at.0
 
-  whole-next : (most k : ℕ) (a : Worker) (item : Item) (z : ℕ) (b : Worker) → item ≡ WholeOf z → IsNext a item b → IsSane (area_of s0) 1 most k a → IsSaneItem (area_of s0) (WholeOf z)
+  whole-next : (most k : ℕ) (a : Worker) (item : Item) (z : ℕ) (b : Worker) → item ≡ WholeOf z → IsNext a item b → IsSane (area_of s0) 1 most k a →
+      IsSaneItem (area_of s0) (WholeOf z)
   whole-next most k _ _ z _ e (Of_hand a s rest) sane = absurd (let f : SlotOf s ≡ WholeOf z = e in cc)
   whole-next most k _ _ z _ e (Of_list a item rest) sane = subst (IsSaneItem (area_of s0)) e sane.list.0
   whole-next most k _ _ z _ e (Of_cell a item) sane = subst (IsSaneItem (area_of s0)) e sane.at.0
@@ -73,7 +77,8 @@ module _ (s0 s : Contents) (cells : List ℕ) (is : IsContents s0) (still : IsSt
   cell-there : (c : ℕ) → c < 8 → c < length cells
   cell-there c l = omega arith
 
-  pub may-call : (most : ℕ) (a : Worker) (step : Step) (effect : Effect) (b : Worker) → Comes (area_of s0) 1 0 a step effect b → IsSane (area_of s0) 1 most 0 a →
+  pub may-call : (most : ℕ) (a : Worker) (step : Step) (effect : Effect) (b : Worker) → Comes (area_of s0) 1 0 a step effect b → IsSane
+      (area_of s0) 1 most 0 a →
       Allows s cells (call_of step)
   may-call most _ _ _ _ (opens a b t u nx) sane = let h = whole-next most 0 a (WholeOf t) t b refl nx sane in let l = h.1 in word-there t (h.0, omega arith)
   may-call most _ _ _ _ (counts a t class n l) sane = let h = sane.at.0 in let m = h.0 in let l = h.1 in word-there (t + 1) (omega arith, omega arith)
@@ -92,9 +97,12 @@ module _ (s0 s : Contents) (cells : List ℕ) (is : IsContents s0) (still : IsSt
   may-call most _ _ _ _ (takes_not a s o b u) sane = block-there b sane.at.1.1
   may-call most _ _ _ _ (finds_clear a s o b i u l clear set) sane = used-there b sane.at.1.1
   may-call most _ _ _ _ (finds_full a s o b u set) sane = used-there b sane.at.1.1
-  may-call most _ _ _ _ (marks a s o b i u clear) sane = (used-there b sane.at.1.1, (let h = sane.at.1.2 in let m = (class_slots (size_for o) (slot_size-class (o.n + 2))).1 in omega arith))
-  may-call most _ _ _ _ (marks_not a s o b i u set) sane = (used-there b sane.at.1.1, (let h = sane.at.1.2 in let m = (class_slots (size_for o) (slot_size-class (o.n + 2))).1 in omega arith))
-  may-call most _ _ _ _ (reads a s o at j u less) sane = let h = sane.at.1.0 in let y = h.young.0 in let l = h.inside in young-there (o.x + j) (omega arith, omega arith)
+  may-call most _ _ _ _ (marks a s o b i u clear) sane =
+      (used-there b sane.at.1.1, (let h = sane.at.1.2 in let m = (class_slots (size_for o) (slot_size-class (o.n + 2))).1 in omega arith))
+  may-call most _ _ _ _ (marks_not a s o b i u set) sane =
+      (used-there b sane.at.1.1, (let h = sane.at.1.2 in let m = (class_slots (size_for o) (slot_size-class (o.n + 2))).1 in omega arith))
+  may-call most _ _ _ _ (reads a s o at j u less) sane = let h = sane.at.1.0 in let y = h.young.0 in let l = h.inside in young-there (o.x + j)
+      (omega arith, omega arith)
   may-call most _ _ _ _ (writes a s o at j u) sane =
       let h = sane.at.1 in let short = h.0.short in let l = h.3 in let room = slot_size-holds (o.n + 2) (omega arith) in
       copy-word o at j h.1.0 h.1.1 (omega arith)
@@ -193,7 +201,8 @@ module _ (tells : TellsSoFar) (bounded : BoundedLaw) (always : GoesAlways) (t : 
   stood-at v b workers e = subst (λ (ws : ℕ → Worker). (so : IsSoFar t v ws) → b.moves ≡ moved_by [] so.events → b.fails ≡ failed_by [] so.events → Stood t v b)
       (sym e) (λ so m f. record { so = so; moves = m; fails = f })
 
-  pub stood-later : (v : Words) (steps : List Step) (a b : Teller) → Stood t v a → FollowsBy (Tells its_seat) a steps b → IsLegal v steps → Stood t (replayed v steps) b
+  pub stood-later : (v : Words) (steps : List Step) (a b : Teller) → Stood t v a → FollowsBy (Tells its_seat) a steps b → IsLegal v steps → Stood t
+      (replayed v steps) b
   stood-later v steps a b st follows legal =
       let d = told its_seat steps a b follows in
       let went : Went t.area t.team 0 (alone a.worker 0) v b.worker (replayed v steps) = record {
@@ -213,7 +222,8 @@ module _ (tells : TellsSoFar) (bounded : BoundedLaw) (always : GoesAlways) (t : 
   stood-sane v a st = record {
     worker = subst (IsSane t.area t.team t.most 0) (alone-first a.worker) ((always t v (alone a.worker) st.so).sane 0);
     few = subst (λ (l : List ℕ). length l + length a.fails ≤ t.area.high - t.area.low) (sym st.moves)
-        (subst (λ (l : List ℕ). length (moved_by [] st.so.events) + length l ≤ t.area.high - t.area.low) (sym st.fails) (bounded t v (alone a.worker) st.so).settled);
+        (subst (λ (l : List ℕ). length (moved_by [] st.so.events) + length l ≤ t.area.high - t.area.low) (sym st.fails)
+        (bounded t v (alone a.worker) st.so).settled);
   }
 
   -- whatever a call for a next step sees, a step comes next

@@ -1,5 +1,6 @@
 -- Each turn of one worker alone leaves it less to do.
-use Rattle.std.proofs.Common.{◌≡◌, ◌≢◌, ℕ, zero, suc, ◌+◌, ◌-◌, ◌*◌, ◌<◌, ◌≤◌, ◌⊎◌, nat_lt, if◌then◌else◌, Bool, true, false, List, [], ◌∷◌, ◌++◌, length, inl, inr, refl, sym, ap, ◌∙◌, subst, arith}
+use Rattle.std.proofs.Common.{◌≡◌, ◌≢◌, ℕ, zero, suc, ◌+◌, ◌-◌, ◌*◌, ◌<◌, ◌≤◌, ◌⊎◌, nat_lt, if◌then◌else◌, Bool}
+use Rattle.std.proofs.Common.{true, false, List, [], ◌∷◌, ◌++◌, length, inl, inr, refl, sym, ap, ◌∙◌, subst, arith}
 use Rattle.std.proofs.lemmas.Bool.{cases_eq, cases_lt, cases_Bool, cond-true, cond-false, lt-ltb, le-ltb}
 use Rattle.std.proofs.lemmas.List.{length-append}
 use Rattle.std.specs.Int.{bit_at}
@@ -112,16 +113,16 @@ unfolding free_below
 free-put f b z zero l e = absurd (omega arith)
 free-put f b z (suc n) l e = elim (cases_eq n b) [
   | inl same ↦ (
-    let here : put f b (Swept z) n ≡ Swept z = subst (λ (k : ℕ). put f b (Swept z) k ≡ Swept z) (sym same) (put-same f b (Swept z)) in
-    let there : f n ≡ Free = subst (λ (k : ℕ). f k ≡ Free) (sym same) e in
-    let x : free_one (put f b (Swept z) n) ≡ 0 = ap free_one here in
-    let y : free_one (f n) ≡ 1 = ap free_one there in
-    let rest = free-put-out f b z n (omega arith) in
-    omega arith)
+      let here : put f b (Swept z) n ≡ Swept z = subst (λ (k : ℕ). put f b (Swept z) k ≡ Swept z) (sym same) (put-same f b (Swept z)) in
+      let there : f n ≡ Free = subst (λ (k : ℕ). f k ≡ Free) (sym same) e in
+      let x : free_one (put f b (Swept z) n) ≡ 0 = ap free_one here in
+      let y : free_one (f n) ≡ 1 = ap free_one there in
+      let rest = free-put-out f b z n (omega arith) in
+      omega arith)
   | inr other ↦ (
-    let x : free_one (put f b (Swept z) n) ≡ free_one (f n) = ap free_one (put-other f b (Swept z) n other) in
-    let rest = free-put f b z n (omega arith) e in
-    omega arith)
+      let x : free_one (put f b (Swept z) n) ≡ free_one (f n) = ap free_one (put-other f b (Swept z) n other) in
+      let rest = free-put f b z n (omega arith) e in
+      omega arith)
 ]
 
 -- how many objects an effect finds
@@ -180,7 +181,8 @@ module _ (area : Area) (v : Words) where
     strict : RestsAt a → owed area v b + 3 ≤ owed area v a
 
   without-slot : (a : Worker) (item : Item) (b : Worker) → IsNext a item b → IsAlone area v a → WithoutSlot a b
-  without-slot _ _ _ (Of_hand a s rest) al = record { spares = al.spares; mid = refl; less = omega arith; strict = λ e. absurd (let z : s ∷ rest ≡ [] = e in cc) }
+  without-slot _ _ _ (Of_hand a s rest) al =
+      record { spares = al.spares; mid = refl; less = omega arith; strict = λ e. absurd (let z : s ∷ rest ≡ [] = e in cc) }
   without-slot _ _ _ (Of_list a item rest) al = record { spares = al.spares; mid = refl; less = omega arith; strict = λ e. omega arith }
   without-slot _ _ _ (Of_cell a item) al = absurd (al.at)
 
@@ -319,7 +321,8 @@ module _ (area : Area) (v : Words) where
 abbrev found_by : Teller → ℕ
 found_by a = length a.moves + length a.fails
 
-found-more : (a b : Teller) (effect : Effect) → b.moves ≡ moves_with a.moves effect → b.fails ≡ fails_with a.fails effect → found_by b ≡ found_by a + found effect
+found-more : (a b : Teller) (effect : Effect) → b.moves ≡ moves_with a.moves effect → b.fails ≡ fails_with a.fails effect →
+    found_by b ≡ found_by a + found effect
 found-more a b Nothing m f = let x = ap length m in let y = ap length f in omega arith
 found-more a b (Ends s) m f = let x = ap length m in let y = ap length f in omega arith
 found-more a b (Moves z) m f = let x = ap length m in let y = ap length f in let l = length-append a.moves (z ∷ []) in omega arith
@@ -337,7 +340,11 @@ module _ (area : Area) (most k : ℕ) where
   -- steps within a turn
   eased-more : (es : List Step) (a b : Teller) (v : Words) → FollowsBy (TellsOn seat) a es b → IsLegal v es → IsAlone area v a.worker →
       IsAlone area (replayed v es) b.worker × (owed area (replayed v es) b.worker + 125 * found_by a ≤ owed area v a.worker + 125 * found_by b)
-  eased-more [] a b v f legal al = (subst (λ (x : Teller). IsAlone area v x.worker) (sym f) al, subst (λ (x : Teller). owed area v x.worker + 125 * found_by a ≤ owed area v a.worker + 125 * found_by x) (sym f) (omega arith))
+  eased-more [] a b v f legal al = (
+    subst (λ (x : Teller). IsAlone area v x.worker) (sym f) al,
+    subst (λ (x : Teller). owed area v x.worker + 125 * found_by a ≤ owed area v a.worker + 125 * found_by x) (sym f)
+        (omega arith),
+  )
   eased-more (e ∷ es) a b v f legal al =
       let t = f.1.1 in
       let s = eased area v k a.worker e t.0 f.0.worker t.1 legal.0 al in

@@ -1,5 +1,6 @@
 -- A round of one worker over a plain space, in its midst.
-use Rattle.std.proofs.Common.{◌≡◌, ◌≢◌, ℕ, ◌+◌, ◌-◌, ◌*◌, ◌<◌, ◌≤◌, Bool, List, [], ◌∷◌, ◌++◌, length, map, slice_index, replicate, refl, sym, ap, ◌∙◌, subst, arith}
+use Rattle.std.proofs.Common.{◌≡◌, ◌≢◌, ℕ, ◌+◌, ◌-◌, ◌*◌, ◌<◌, ◌≤◌, Bool, List, []}
+use Rattle.std.proofs.Common.{◌∷◌, ◌++◌, length, map, slice_index, replicate, refl, sym, ap, ◌∙◌, subst, arith}
 use Rattle.sg_words.specs.Words.{Words, Saw, replayed, IsLegal}
 use Rattle.sg_words.specs.Programs.{FollowsBy, Guides}
 use Rattle.sg_words.specs.declared.steps.Step.{Step}
@@ -39,7 +40,8 @@ May p call = Allows p.space.now p.cells call
 abbrev pub Sees : PlainRound → Step → Type 0
 Sees p s = Saw (words_with p.space.now p.cells) s
 
-module _ (tells : TellsSoFar) (bounded : BoundedLaw) (always : GoesAlways) (from : PlainRound) (is : IsContents from.space.now) (slots wholes : List ℕ) (items : List Gray)
+module _ (tells : TellsSoFar) (bounded : BoundedLaw) (always : GoesAlways) (from : PlainRound) (is : IsContents from.space.now)
+    (slots wholes : List ℕ) (items : List Gray)
     (zone : ℕ → Bool) where
   abbrev start : Start
   start = start_of from.space.now slots wholes items zone
@@ -54,7 +56,8 @@ module _ (tells : TellsSoFar) (bounded : BoundedLaw) (always : GoesAlways) (from
     guided = record {
       is_sane = stood-sane tells bounded always start refl (words_with port.space.now port.cells) a st;
       allows = λ es q b s c led follows sane next.
-          may-call from.space.now q.space.now q.cells is (still_then from.space.now port.space.now q.space.now still led.1.still) (led.1.as_many ∙ as_many) (length items)
+          may-call from.space.now q.space.now q.cells is (still_then from.space.now port.space.now q.space.now still led.1.still)
+          (led.1.as_many ∙ as_many) (length items)
           b.worker s next.0 c.worker next.1 sane.worker;
       goes = λ es q b s c t led follows sane next e saw.
           stood-next tells bounded always start refl (words_with q.space.now q.cells) b s c t
@@ -89,11 +92,14 @@ module _ (tells : TellsSoFar) (bounded : BoundedLaw) (always : GoesAlways) (from
       abbrev steps : List Step
       steps = turn.started.first ∷ turn.started.more
 
-      eased : IsAlone (area_of from.space.now) v' (worker_of d) × (left (area_of from.space.now) v' (teller_of d) < left (area_of from.space.now) v (teller_of c))
+      eased : IsAlone (area_of from.space.now) v' (worker_of d) ×
+          (left (area_of from.space.now) v' (teller_of d) < left (area_of from.space.now) v (teller_of c))
       eased = let st = turn.started in
-          subst (λ (u : Words). IsAlone (area_of from.space.now) u (worker_of d) × (left (area_of from.space.now) u (teller_of d) < left (area_of from.space.now) v (teller_of c)))
+          subst (λ (u : Words). IsAlone (area_of from.space.now) u (worker_of d) ×
+          (left (area_of from.space.now) u (teller_of d) < left (area_of from.space.now) v (teller_of c)))
           (sym st.led.1.words)
-          (eased-turn (area_of from.space.now) (length items) 0 st.first st.more (teller_of c) st.then (teller_of d) v mid.rests st.begins st.goes st.led.1.legal mid.knows
+          (eased-turn (area_of from.space.now) (length items) 0 st.first st.more (teller_of c) st.then
+          (teller_of d) v mid.rests st.begins st.goes st.led.1.legal mid.knows
           (stood-sane tells bounded always start refl v (teller_of c) mid.stood).few st.is_sane.few)
 
       pub goes-on : IsMidst from slots wholes items zone port' d

@@ -1,5 +1,6 @@
 -- A round of one worker over a plain space, from its begin to its end.
-use Rattle.std.proofs.Common.{◌≡◌, ◌≢◌, ℕ, ◌+◌, ◌-◌, ◌*◌, ◌<◌, ◌≤◌, Bool, List, [], ◌∷◌, ◌++◌, length, map, slice_index, replicate, refl, sym, ap, ◌∙◌, subst, arith}
+use Rattle.std.proofs.Common.{◌≡◌, ◌≢◌, ℕ, ◌+◌, ◌-◌, ◌*◌, ◌<◌, ◌≤◌, Bool, List, []}
+use Rattle.std.proofs.Common.{◌∷◌, ◌++◌, length, map, slice_index, replicate, refl, sym, ap, ◌∙◌, subst, arith}
 use Rattle.std.proofs.Math.Path.{fun_ext}
 use Rattle.sg_words.specs.Address.{byte_at, word_at}
 use Rattle.sg_words.specs.Words.{Words}
@@ -47,7 +48,8 @@ module _ (port : PlainRound) (slots wholes : List ℕ) where
         same = refl;
         seat = refl;
         stood = subst (λ (cells : List ℕ). Stood t (words_with port.space.now cells) (teller_of fresh)) (sym empty)
-            (subst (λ (w : Worker). Stood t (words_with port.space.now no_cells) (record { worker = w; moves = []; fails = [] })) (fresh-worker ready.items) first);
+            (subst (λ (w : Worker). Stood t (words_with port.space.now no_cells) (record { worker = w; moves = []; fails = [] }))
+            (fresh-worker ready.items) first);
         still = still_none port.space.now;
         as_many = ap length empty;
         knows = subst (λ (cells : List ℕ). IsAlone (area_of port.space.now) (words_with port.space.now cells) (worker_of fresh)) (sym empty)
@@ -69,11 +71,16 @@ module _ (port : PlainRound) (slots wholes : List ℕ) where
       let so = mid.stood.so in
       let over : (alone (worker_of d) 0).mid ≡ Over = ap (λ (a : Worker). a.mid) (alone-first (worker_of d)) ∙ ap mid_of ended in
       let done = law t v (alone (worker_of d)) so refl over in
-      let args = has-copied port.space.now slots wholes ready.items ready.can ready.items_are port'.space.now port'.cells mid.still so.events (alone (worker_of d)) done in
+      let args = has-copied port.space.now slots wholes ready.items ready.can ready.items_are port'.space.now port'.cells mid.still so.events
+      (alone (worker_of d)) done in
       record {
         moves = map (told_by done.done.m) (moved_by [] so.events);
         fails = map byte_at (failed_by [] so.events);
         copied = args (map (told_by done.done.m) (moved_by [] so.events)) (map byte_at (failed_by [] so.events)) refl refl;
-        told_moves = mid.stood.moves ∙ sym (its-went port.space.now slots wholes ready.items ready.can ready.items_are port'.space.now port'.cells mid.still so.events (alone (worker_of d)) done);
-        told_fails = mid.stood.fails ∙ sym (its-stayed port.space.now slots wholes ready.items ready.can ready.items_are port'.space.now port'.cells mid.still so.events (alone (worker_of d)) done);
+        told_moves = mid.stood.moves ∙ sym
+            (its-went port.space.now slots wholes ready.items ready.can ready.items_are port'.space.now port'.cells mid.still so.events
+            (alone (worker_of d)) done);
+        told_fails = mid.stood.fails ∙ sym
+            (its-stayed port.space.now slots wholes ready.items ready.can ready.items_are port'.space.now port'.cells mid.still so.events
+            (alone (worker_of d)) done);
       }

@@ -1,5 +1,6 @@
 -- A round of one worker opens where its space can be copied.
-use Rattle.std.proofs.Common.{◌≡◌, ◌≢◌, ℕ, zero, suc, ◌+◌, ◌-◌, ◌*◌, ◌<◌, ◌≤◌, ◌^◌, ◌⊎◌, Bool, List, [], ◌∷◌, ◌++◌, length, map, slice_index, replicate, inl, inr, refl, sym, ap, ◌∙◌, subst, arith}
+use Rattle.std.proofs.Common.{◌≡◌, ◌≢◌, ℕ, zero, suc, ◌+◌, ◌-◌, ◌*◌, ◌<◌, ◌≤◌, ◌^◌, ◌⊎◌, Bool, List}
+use Rattle.std.proofs.Common.{[], ◌∷◌, ◌++◌, length, map, slice_index, replicate, inl, inr, refl, sym, ap, ◌∙◌, subst, arith}
 use Rattle.std.proofs.lemmas.Bool.{cases_eq}
 use Rattle.std.proofs.lemmas.List.{length-map}
 use Rattle.sg_words.specs.Lists.{In}
@@ -51,7 +52,15 @@ cells-empty (suc n) (suc i) = cells-empty n i
 pub is-area : (layout : Layout) (shapes : List Shape) → IsLayout layout → IsArea (area_by layout shapes) 1
 is-area layout shapes h =
     let a = h.nursery_most in let b = h.blocks_most in let c = h.pages in
-    record { above = omega arith; nursery = omega arith; heap = omega arith; sections = omega arith; small = omega arith; some = omega arith; most = omega arith }
+    record {
+      above = omega arith;
+      nursery = omega arith;
+      heap = omega arith;
+      sections = omega arith;
+      small = omega arith;
+      some = omega arith;
+      most = omega arith;
+    }
 
 module _ (s : Contents) (slots wholes : List ℕ) (items : List Gray) (can : CanCopy s slots wholes) (are : AreItems slots wholes items) where
   abbrev t : Start
@@ -75,8 +84,11 @@ module _ (s : Contents) (slots wholes : List ℕ) (items : List Gray) (can : Can
 
   are-dealt : AreDealt t
   are-dealt = record {
-    given = λ z h. (0, subst (λ (a : Worker). In z (dealt_to a)) (sym (put-same (λ _. resting) 0 (starting (map item_of items))))
-        (subst (λ (l : List ℕ). In z l) (sym first-slots) h));
+    given = λ z h. (
+      0,
+      subst (λ (a : Worker). In z (dealt_to a)) (sym (put-same (λ _. resting) 0 (starting (map item_of items))))
+          (subst (λ (l : List ℕ). In z l) (sym first-slots) h),
+    );
     only = each (λ k a. (z : ℕ) → In z (dealt_to a) → In z (items_of s slots wholes)) (λ z h. subst (λ (l : List ℕ). In z l) first-slots h)
         (λ k n z h. absurd (none-in z h));
     wholes = each (λ k a. (x : ℕ) → HasWhole x a.list → In x wholes)

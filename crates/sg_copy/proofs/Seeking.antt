@@ -1,17 +1,17 @@
 -- How a worker with nothing to do looks at the offer cells, over any port.
-use Rattle.std.proofs.Common.{◌≡◌, ℕ, ◌+◌, ◌*◌, ◌<◌, ◌≤◌, ◌⊎◌, nat_lt, if◌then◌else◌, List, [], ◌∷◌, inl, inr, refl, sym, ap, ◌∙◌, subst, arith}
+use Rattle.std.proofs.Common.{◌≡◌, ℕ, ◌+◌, ◌*◌, ◌<◌, ◌≤◌, ◌⊎◌, nat_lt, if◌then◌else◌, inl, inr, refl, sym, ap, subst, arith}
 use Rattle.std.proofs.lemmas.Bool.{cases_lt, cond-true, cond-false, lt-ltb, le-ltb}
 use Rattle.sg_words.specs.declared.steps.Place.TheVariants.{Cell}
 use Rattle.sg_words.specs.declared.steps.Step.{Step}
 use Rattle.sg_words.specs.declared.steps.Step.TheVariants.{Load}
 use Rattle.sg_words.specs.declared.steps.Call.TheVariants.{Loads}
 use Rattle.sg_round.specs.Items.{Item, cell_word, looked_cell}
-use Rattle.sg_round.specs.Worker.{Worker, Mid, Idle, Seek, Grab, Over}
+use Rattle.sg_round.specs.Worker.{Mid, Idle, Seek, Grab, Over}
 use Rattle.sg_round.specs.Rules.{Nothing, IsLooking}
 use Rattle.sg_round.specs.Rules.Comes.{seeks, ends, finds}
 use Rattle.sg_copy.specs.Telling.{Seat, Teller, Tells, at}
 use Rattle.sg_copy.specs.Turning.{LooksAt}
-use Rattle.sg_copy.proofs.Ports.{Ports, On, Gone, Started, Did, may_now, saw_now, on_now, started, on_started, started_then, gone_started}
+use Rattle.sg_copy.proofs.Ports.{Ports, On, Started, Did, may_now, saw_now, on_now, started, on_started, started_then, gone_started}
 use Rattle.sg_copy.proofs.Seen.{SawAt, HoldsItem, saw_at}
 
 -- where a worker stands that has seen the first i cells empty
@@ -76,9 +76,10 @@ module _ {P : Type 0} (o : Ports P) (seat : Seat) (t : Teller) where
 
         pub cell_full : (item : Item) → v ≡ cell_word item → On o seat q (at t (Grab i item)) × Started o seat a p (at t (Grab i item)) q
         cell_full item e =
-            let here : Did o seat p (Load (Cell cell) (cell_word item)) q = subst (λ u. Did o seat p (Load (Cell cell) u) q) e did in
-            (on_now o seat a (at t (Grab i item)) p on (Load (Cell cell) (cell_word item)) (found_next item) q here,
-            started o seat a (at t (Grab i item)) p on (Load (Cell cell) (cell_word item)) (found_next item) q here)
+            let here : Did o seat p (Load (Cell cell) (cell_word item)) q = subst (λ u. Did o seat p (Load (Cell cell) u) q) e did in (
+              on_now o seat a (at t (Grab i item)) p on (Load (Cell cell) (cell_word item)) (found_next item) q here,
+              started o seat a (at t (Grab i item)) p on (Load (Cell cell) (cell_word item)) (found_next item) q here,
+            )
 
   -- from the worker a on the cells from the place `from` to before i were seen empty
   abbrev pub HasSought : ℕ → Teller → P → ℕ → P → Type 0
@@ -95,11 +96,11 @@ module _ {P : Type 0} (o : Ports P) (seat : Seat) (t : Teller) where
       HasSought from a x i y → SeeksHere a x i y
   seeks_here from a x is on i y l h = elim h [
     | inl e ↦ record {
-        here = a;
-        looks = subst (λ k. LooksAt a k (at t Idle)) (sym e.0) is;
-        on = subst (λ (z : P). On o seat z a) (sym e.1) on;
-        started_by = λ b z s. subst (λ (w : P). Started o seat a w b z) e.1 s;
-      }
+      here = a;
+      looks = subst (λ k. LooksAt a k (at t Idle)) (sym e.0) is;
+      on = subst (λ (z : P). On o seat z a) (sym e.1) on;
+      started_by = λ b z s. subst (λ (w : P). Started o seat a w b z) e.1 s;
+    }
     | inr s ↦ (
         let there : Started o seat a x (at t (Seek i)) y = subst (λ (mid : Mid). Started o seat a x (at t mid) y) (sought_more seat.team i l) s in record {
           here = at t (Seek i);

@@ -1,5 +1,5 @@
 -- The exchanges with which a turn begins, over any port.
-use Rattle.std.proofs.Common.{◌≡◌, ◌≢◌, ℕ, ◌+◌, ◌*◌, ◌<◌, ◌≤◌, ◌^◌, Result, Ok, Err, [], ◌∷◌, ◌++◌, inl, inr, refl, sym, ap, ◌∙◌, subst, arith}
+use Rattle.std.proofs.Common.{◌≡◌, ℕ, ◌+◌, ◌<◌, [], ◌∷◌, ◌++◌, inl, inr, refl, sym, ap, ◌∙◌, subst, arith}
 use Rattle.std.specs.Int.{bit_at}
 use Rattle.std.proofs.lemmas.Nat.Bits.{bit_at-zero}
 use Rattle.sg_words.specs.Address.{byte_at, word_at}
@@ -17,15 +17,15 @@ use Rattle.sg_words.specs.declared.steps.Step.{Step}
 use Rattle.sg_words.specs.declared.steps.Step.TheVariants.{Won, Lost, OnBlock}
 use Rattle.sg_words.specs.declared.steps.Call.TheVariants.{Swaps, OnBlocks}
 use Rattle.sg_words.specs.declared.steps.BlockCall.TheVariants.{SwapsBlock, OrsUsed}
-use Rattle.sg_round.specs.Area.{Area, HasCard, place}
+use Rattle.sg_round.specs.Area.{place}
 use Rattle.sg_round.specs.Items.{Item, WholeOf, cell_word, looked_cell}
-use Rattle.sg_round.specs.Worker.{Object, Worker, Mid, Idle, Seek, Grab, Took, On as OnSlot, Look, Take, Mark, Room, Body, Swap, Pin, Send, Dirty}
-use Rattle.sg_round.specs.Worker.{size_for, looking}
-use Rattle.sg_round.specs.Rules.{Nothing, Moves, Fails, FailsEnding, Comes}
+use Rattle.sg_round.specs.Worker.{Object, Mid, Seek, Grab, Took, On as OnSlot, Look, Take, Mark, Room, Body, Swap, Pin, Send}
+use Rattle.sg_round.specs.Worker.{size_for}
+use Rattle.sg_round.specs.Rules.{Nothing, Moves, Fails, FailsEnding}
 use Rattle.sg_round.specs.Rules.Comes.{takes, takes_not, marks, marks_not, forwards, loses, fails as has_failed, fails_bare, fails_not, grabs, grabs_not}
 use Rattle.sg_copy.specs.Telling.{Seat, Teller, Tells, at}
 use Rattle.sg_copy.specs.State.{staying}
-use Rattle.sg_copy.proofs.Ports.{Ports, On, Gone, Started, Did, may_now, on_now, started}
+use Rattle.sg_copy.proofs.Ports.{Ports, On, Started, Did, may_now, on_now, started}
 use Rattle.sg_copy.proofs.Places.{look_at, room_left}
 use Rattle.sg_copy.proofs.Looks.{cards}
 
@@ -53,17 +53,19 @@ module _ {P : Type 0} (o : Ports P) (seat : Seat) where
 
     pub grabbed : (q : P) → Did o seat p (Won (Cell (looked_cell seat.team seat.number i)) (cell_word item) 0) q →
         On o seat q (at t (Took item)) × Started o seat (at t (Grab i item)) p (at t (Took item)) q
-    grabbed q did = (on_now o seat (at t (Grab i item)) (at t (Took item)) p on (Won (Cell (looked_cell seat.team seat.number i)) (cell_word item) 0)
-        grab_next q did,
-        started o seat (at t (Grab i item)) (at t (Took item)) p on (Won (Cell (looked_cell seat.team seat.number i)) (cell_word item) 0) grab_next q did)
+    grabbed q did = (
+      on_now o seat (at t (Grab i item)) (at t (Took item)) p on (Won (Cell (looked_cell seat.team seat.number i)) (cell_word item) 0)
+          grab_next q did,
+      started o seat (at t (Grab i item)) (at t (Took item)) p on (Won (Cell (looked_cell seat.team seat.number i)) (cell_word item) 0) grab_next q did,
+    )
 
     pub grab_lost : (found : ℕ) (q : P) → Did o seat p (Lost (Cell (looked_cell seat.team seat.number i)) (cell_word item) 0 found) q →
         On o seat q (at t (Seek i)) × Started o seat (at t (Grab i item)) p (at t (Seek i)) q
     grab_lost found q did = (
-        on_now o seat (at t (Grab i item)) (at t (Seek i)) p on (Lost (Cell (looked_cell seat.team seat.number i)) (cell_word item) 0 found)
-            (Nothing, grabs_not t.worker i item found, refl, refl) q did,
-        started o seat (at t (Grab i item)) (at t (Seek i)) p on (Lost (Cell (looked_cell seat.team seat.number i)) (cell_word item) 0 found)
-            (Nothing, grabs_not t.worker i item found, refl, refl) q did,
+      on_now o seat (at t (Grab i item)) (at t (Seek i)) p on (Lost (Cell (looked_cell seat.team seat.number i)) (cell_word item) 0 found)
+          (Nothing, grabs_not t.worker i item found, refl, refl) q did,
+      started o seat (at t (Grab i item)) (at t (Seek i)) p on (Lost (Cell (looked_cell seat.team seat.number i)) (cell_word item) 0 found)
+          (Nothing, grabs_not t.worker i item found, refl, refl) q did,
     )
 
 module _ {P : Type 0} (o : Ports P) (seat : Seat) (t : Teller) (s : ℕ) (x : Object) where
@@ -105,8 +107,10 @@ module _ {P : Type 0} (o : Ports P) (seat : Seat) (t : Teller) (s : ℕ) (x : Ob
     marking = at t (OnSlot s (Mark x b i))
 
     abbrev pub marked : Teller
-    marked = record t { worker =
-        record (t.worker) { passed = put t.worker.passed (size_for x) b; mid = OnSlot s (Body x (place seat.area b (size_for x) i) 1) } }
+    marked = record t {
+      worker =
+          record (t.worker) { passed = put t.worker.passed (size_for x) b; mid = OnSlot s (Body x (place seat.area b (size_for x) i) 1) };
+    }
 
     as_marked : look_at o seat t s x b ≡ at t (OnSlot s (Room x b))
     as_marked = ap (λ stage. at t (OnSlot s stage)) (room_left seat.area x b (on.guided.is_sane.worker.at.1.1))

@@ -1,5 +1,5 @@
 -- What a round of copying by one worker asks of a space, and what it makes of it.
-use Rattle.std.specs.Prelude.{◌≡◌, ◌≢◌, ℕ, ◌+◌, ◌*◌, ◌<◌, ◌≤◌, ◌⊎◌, Bool, true, false, Option, Some, None, List, ◌++◌, map, length, slice_index, slice_get}
+use Rattle.std.specs.Prelude.{◌≡◌, ◌≢◌, ℕ, ◌<◌, ◌⊎◌, Bool, true, false, Option, Some, None, List, ◌++◌, map, length, slice_index, slice_get}
 use Rattle.std.specs.Int.{bit_at}
 use Rattle.sg_words.specs.Address.{byte_at}
 use Rattle.sg_words.specs.Lists.{In}

@@ -1,5 +1,5 @@
 -- The items of a worker's list as the rules see them.
-use Rattle.std.specs.Prelude.{ℕ, ◌^◌, ◌<◌, ◌≤◌}
+use Rattle.std.specs.Prelude.{◌^◌, ◌<◌, ◌≤◌}
 use Rattle.sg_words.specs.Address.{word_at}
 use Rattle.sg_round.specs.Items.{Item, SlotOf, WholeOf}
 use Rattle.sg_copy.specs.declared.gray.Gray.{Gray}

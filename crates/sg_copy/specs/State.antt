@@ -1,5 +1,5 @@
 -- What a contract sees of a worker.
-use Rattle.std.specs.Prelude.{◌≡◌, ℕ, ◌+◌, ◌-◌, ◌^◌, ◌<◌, ◌≤◌, nat_le, nat_lt, if◌then◌else◌, Bool, List, [], length, replicate, map, slice_index, slice_get}
+use Rattle.std.specs.Prelude.{◌≡◌, ℕ, ◌+◌, ◌-◌, ◌^◌, ◌<◌, ◌≤◌, nat_le, nat_lt, if◌then◌else◌, List, [], length, replicate, map, slice_index, slice_get}
 use Rattle.sg_words.specs.Address.{byte_at, word_at}
 use Rattle.sg_words.specs.Objects.{strong_slots}
 use Rattle.sg_words.specs.Sections.{IsLayout}
@@ -11,7 +11,7 @@ use Rattle.sg_desc.specs.declared.shapes.Descriptor.{Descriptor}
 use Rattle.sg_desc.specs.declared.shapes.Descriptor.TheVariants.{PtrFree}
 use Rattle.sg_desc.specs.Shapes.{is_strong}
 use Rattle.sg_round.specs.Area.{Area, class_of}
-use Rattle.sg_round.specs.Worker.{Object, Take, Mark, Swap, Pin, Dirty, Mid, Idle, On, Grab, Over, Worker, looking, size_for}
+use Rattle.sg_round.specs.Worker.{Object, Take, Mark, Swap, Pin, Dirty, Mid, Idle, On, Grab, Over, Worker}
 use Rattle.sg_copy.specs.Copying.{is_strong_in, area_by}
 use Rattle.sg_copy.specs.Telling.{Seat, Teller}
 use Rattle.sg_copy.specs.declared.gray.Gray.{Gray}

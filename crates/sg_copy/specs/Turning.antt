@@ -1,15 +1,13 @@
 -- What a worker does on a port.
-use Rattle.std.specs.Prelude.{◌≡◌, ◌≢◌, ℕ, ◌+◌, ◌<◌, ◌≤◌, ◌^◌, ◌⊎◌, List, []}
+use Rattle.std.specs.Prelude.{◌≡◌, ℕ, ◌<◌, ◌≤◌, ◌^◌, ◌⊎◌, List, []}
 use Rattle.sg_words.specs.Address.{byte_at}
 use Rattle.sg_words.specs.Tags.{plain_word, forward_word}
 use Rattle.sg_words.specs.declared.steps.Step.{Step}
 use Rattle.sg_round.specs.Items.{Item}
-use Rattle.sg_round.specs.Worker.{Idle, Seek}
+use Rattle.sg_round.specs.Worker.{Seek}
 use Rattle.sg_round.specs.Rules.{IsNext}
-use Rattle.sg_copy.specs.Telling.{Seat, Teller, HasGoneOn, HasStarted, at}
-use Rattle.sg_copy.specs.State.{Copying, worker_of, teller_of, seat_of, IsSameCopier, IsSameHanded, IsOnSlot}
-use Rattle.sg_copy.specs.declared.copier.Stage.{Stage}
-use Rattle.sg_copy.specs.declared.copier.Stage.TheVariants.{Between}
+use Rattle.sg_copy.specs.Telling.{Teller, HasGoneOn, HasStarted, at}
+use Rattle.sg_copy.specs.State.{Copying, teller_of, seat_of, IsSameCopier, IsSameHanded, IsOnSlot}
 use Rattle.sg_copy.specs.declared.handling.First.{First}
 use Rattle.sg_copy.specs.declared.handling.First.TheVariants.{Plain, Staying, Forwarded}
 

@@ -30,8 +30,12 @@ impl Gray {
         ensures none { IfNone result ((item : Item) → IsCellItem item → w ≡ cell_word item → ⊥) }
     {
         match w % 8 {
-            1 => Some(Gray::Slot { at: Addr::of(w - 1)? }),
-            2 => Some(Gray::Whole { at: Addr::of(w - 2)? }),
+            1 => Some(Gray::Slot {
+                at: Addr::of(w - 1)?,
+            }),
+            2 => Some(Gray::Whole {
+                at: Addr::of(w - 2)?,
+            }),
             _ => None,
         }
     }

@@ -4,7 +4,8 @@ use sg_space::{Layout, Space};
 use sg_words::Addr;
 use std::test::Fail;
 
-// Worked values from outside: an object of one plain field at the nursery's front, to which one global refers.
+// Worked values from outside: an object of one plain field at the nursery's front, to which one global refers, goes to the first slot
+// of the first block.
 #[test]
 fn one_object_moves(rt: HostRuntime) -> Result<(), Fail> {
     let layout = Layout {
@@ -17,7 +18,7 @@ fn one_object_moves(rt: HostRuntime) -> Result<(), Fail> {
         kind: Descriptor::PtrFree,
     }];
     let mut space = Space::new(rt.alloc(), layout, shapes.as_slice())?;
-    let object = Addr::of(4096).ok_or("an address")?;
+    let object = Addr::at_word(512);
     let slot = layout.global(0);
     space.write(object, 8);
     space.write(object.plus(1), 1);
@@ -25,9 +26,11 @@ fn one_object_moves(rt: HostRuntime) -> Result<(), Fail> {
     let slots = [slot];
     let wholes = [];
     let round = copy_one(rt.alloc(), space, slots.as_slice(), wholes.as_slice())?;
+    let copy = Addr::at_word(768);
     assert_eq!(rt; round.moves.len(), 1);
-    assert_eq!(rt; round.moves[0].from.get(), 4096);
-    assert_eq!(rt; round.moves[0].to.get(), 6144);
+    assert_eq!(rt; round.moves[0].from, object);
+    assert_eq!(rt; round.moves[0].to, copy);
     assert_eq!(rt; round.fails.len(), 0);
+    assert_eq!(rt; round.spares, 0);
     Ok(())
 }

@@ -1,5 +1,5 @@
 -- The objects that are found move or fail in turn, and so the block words and the occupancies become those of the new book.
-use Rattle.std.proofs.Common.{◌≡◌, ◌≢◌, ℕ, ◌+◌, ◌^◌, ◌≤◌, ◌⊎◌, true, List, [], ◌∷◌, map, sym, refl, ap, ◌∙◌, subst, inl, inr, arith}
+use Rattle.std.proofs.Common.{◌≡◌, ◌≢◌, ℕ, ◌+◌, ◌^◌, ◌<◌, ◌≤◌, ◌⊎◌, true, false, List, [], ◌∷◌, ◌++◌, map, sym, refl, ap, ◌∙◌, subst, inl, inr, arith}
 use Rattle.std.specs.Int.Bits.{bit_or}
 use Rattle.std.proofs.lemmas.Bool.{cases_Bool, cases_eq, false≢true}
 use Rattle.sg_words.specs.Words.{put}
@@ -144,16 +144,16 @@ module _ (c : Ended) where
               let old = moved-section c n o.1 in_moves in
               let rest = copied-all (moved_to_slot d n (slot_at c.p q.0 (slot_words (c.g.size n)) q.1)) (put block q.0 (Swept (slot_words (c.g.size n))))
                   (put used q.0 (bit_or (used q.0) (2 ^ q.1)))
-                  q.2 fails names q.6
-                  (moved_by c.p c.g d block used by n q.0 q.1 (some-name n o.0) (a.stands n ∙ o.1) not_old q.3)
-                  (moved-on d n names (slot_at c.p q.0 (slot_words (c.g.size n)) q.1) a once.0 at old) once.1
-                  (λ z i. moved z (subst (λ (l : List ℕ). In z l) (sym q.5) (in-there z x q.2 i))) failed more in
+              q.2 fails names q.6
+              (moved_by c.p c.g d block used by n q.0 q.1 (some-name n o.0) (a.stands n ∙ o.1) not_old q.3)
+              (moved-on d n names (slot_at c.p q.0 (slot_words (c.g.size n)) q.1) a once.0 at old) once.1
+              (λ z i. moved z (subst (λ (l : List ℕ). In z l) (sym q.5) (in-there z x q.2 i))) failed more in
               (inl (q.0, q.1, first_slot c.p c.g d block used by (slot_words (c.g.size n)) q.0 q.1 q.3, at, old, rest.0), rest.1)
           | inr q ↦
               let stays = failed x (subst (λ (l : List ℕ). In x l) (sym q.2) (in-here x x q.0 refl)) in
               let still = stays-still c n stays in
               let rest = copied-all d block used moves q.0 names q.3 by (failed-on d n names a still) once.1 moved
-                  (λ z i. failed z (subst (λ (l : List ℕ). In z l) (sym q.2) (in-there z x q.0 i))) more in
+              (λ z i. failed z (subst (λ (l : List ℕ). In z l) (sym q.2) (in-there z x q.0 i))) more in
               (inr ((λ j there. passed_shut c.p c.g d block used by (slot_words (c.g.size n)) j there
                   (subst (λ (z : ℕ). IsPassed block used z j) size (q.1 j there))), still, rest.0), rest.1)
         ]

@@ -412,10 +412,16 @@ fits-same area w v m block block' used used' moves fails (x ∷ found) same f =
     elim f [
       | inl first ↦
           let q = first in
-          inl (subst (FirstFits area v m block used x moves fails found block' used') size
-          (q.0, q.1, q.2, q.3, q.4, q.5,
-          fits-same area w v m (put block q.0 (Swept (slot_size (size_of w x)))) block' (put used q.0 (bit_or (used q.0) (2 ^ q.1))) used' q.2 fails found more
-              q.6))
+          inl (subst (FirstFits area v m block used x moves fails found block' used') size (
+            q.0,
+            q.1,
+            q.2,
+            q.3,
+            q.4,
+            q.5,
+            fits-same area w v m (put block q.0 (Swept (slot_size (size_of w x)))) block' (put used q.0 (bit_or (used q.0) (2 ^ q.1))) used' q.2 fails found
+                more q.6,
+          ))
       | inr q ↦ inr (
         q.0,
         λ c there. subst (λ (z : ℕ). IsPassed block used z c) size (q.1 c there),

@@ -1,5 +1,5 @@
 -- How the parts of a pause meet.
-use Rattle.std.proofs.Common.{◌≡◌, ◌≢◌, ℕ, zero, suc, ◌+◌, ◌*◌, ◌<◌, ◌≤◌, ◌⊎◌, Bool, true, false, List, [], ◌∷◌, ◌++◌, map, filter, length, slice_index, slice_index_or, cond, sym, ap, ◌∙◌, subst, inl, inr, arith}
+use Rattle.std.proofs.Common.{◌≡◌, ◌≢◌, ℕ, zero, suc, ◌+◌, ◌*◌, ◌<◌, ◌≤◌, ◌⊎◌, Bool, true, false, List, [], ◌∷◌, ◌++◌, map, filter, length, slice_index, slice_index_or, cond, sym, refl, ap, ◌∙◌, subst, inl, inr, arith}
 use Rattle.std.specs.List.{flat_map}
 use Rattle.std.specs.List.Sorted.{IsStrictlyIncreasing}
 use Rattle.std.specs.Int.{bit_at}
@@ -7,48 +7,50 @@ use Rattle.std.proofs.lemmas.List.{map-append}
 use Rattle.sg_words.specs.Address.{byte_at}
 use Rattle.sg_words.specs.Blocks.{slot_size, slots, card_of, card_from}
 use Rattle.sg_words.specs.Found.{IsSearched}
-use Rattle.sg_words.specs.Lists.{In}
+use Rattle.sg_words.specs.Lists.{In, has}
 use Rattle.sg_words.specs.Objects.{size_of, sent}
 use Rattle.sg_words.specs.Reach.{AreDistinct}
 use Rattle.sg_words.specs.Sections.{globals_base}
 use Rattle.sg_words.specs.declared.layout.Layout.{Layout}
 use Rattle.sg_words.specs.declared.pieces.Move.{Move}
 use Rattle.sg_words.specs.declared.steps.BlockWord.TheVariants.{Free, Swept}
-use Rattle.sg_words.proofs.Members.{map_in, in-filter, in-flat, last-cases, out}
+use Rattle.sg_words.proofs.Members.{map_in, in-left, in-right, in-cases, in-filter, in-flat, last-cases, out}
 use Rattle.sg_words.proofs.Blocks.{slot_size-holds, slot_fits}
 use Rattle.std.proofs.lemmas.Bool.{cases_lt}
 use Rattle.sg_words.proofs.Objects.{sent-at, slots-are}
+use Rattle.sg_program.specs.declared.program.Class.{Class}
 use Rattle.sg_program.specs.declared.program.Program.{Program}
 use Rattle.sg_program.specs.Scripts.{kind_of}
-use Rattle.sg_desc.specs.Shapes.{is_strong as is_strong_by}
+use Rattle.sg_desc.specs.Shapes.{is_strong as is_strong_by, strong_holds}
 use Rattle.sg_graph.specs.Graph.{Graph}
 use Rattle.sg_graph.specs.Book.{Book, Old, nursery_end, old_end, IsEmptySlot}
 use Rattle.sg_graph.specs.Epoch.{numbers_below}
 use Rattle.sg_graph.specs.Heap.{Owner, layout_of, IsHeap}
 use Rattle.sg_graph.specs.Blocks.{AreSettled}
 use Rattle.sg_graph.specs.Pause.{IsPinned}
-use Rattle.sg_space.specs.Space.{Contents, words_of}
+use Rattle.sg_space.specs.Space.{Contents, IsContents, words_of}
 use Rattle.sg_space.specs.Standing.{word, block_in, used_in}
 use Rattle.sg_space.specs.Changes.{contents_still}
 use Rattle.sg_cards.specs.declared.found.Seed.{Seed}
 use Rattle.sg_cards.specs.Seeds.{AreSeeds}
 use Rattle.sg_round.specs.Area.{Area, IsYoung, is_strong, Traces, card_at}
 use Rattle.sg_round.specs.Image.{IsImage}
-use Rattle.sg_round.specs.Order.{strong_of, leads, Fits}
+use Rattle.sg_round.specs.Order.{strong_of, leads, Fits, IsInOrder}
 use Rattle.sg_round.specs.Round.{IsOpening, AreZoned, IsPassed, IsClear, Slot, Given, Copied}
-use Rattle.sg_copy.specs.Copying.{area_of, items_of, card_in, CanCopy, HasCopiedTo}
-use Rattle.sg_minor.specs.Joined.{global_slots, holds_young, slots_from, IsHome, IsPicture, IsTraced, HasSwept, HasBlocksOf, IsBegun, IsOrdered, IsOldField, OfOld, OfCopy, IsEnded, JoinLaw}
+use Rattle.sg_copy.specs.Copying.{area_of, items_of, card_in, CanCopy, AreFilled, AreMarked, HasCopiedTo}
+use Rattle.sg_minor.specs.Holding.{IsSpaceOf}
+use Rattle.sg_minor.specs.Joined.{ArePins, global_slots, holds_young, slots_from, IsHome, IsPicture, IsTraced, HasSwept, HasBlocksOf, IsBegun, IsOrdered, IsOldField, OfOld, OfCopy, IsEnded, JoinLaw}
 use Rattle.sg_minor.proofs.Areas.{area_for, area_is, classes_are}
 use Rattle.sg_minor.proofs.Added.{AreSlots, slots_of_name, slots_outside, IsSeed, Global, Field, outside-is, seeds-each}
 use Rattle.sg_minor.proofs.InOrder.{IsNamedSearch, named-search, names-of, slots-named, in-names, fits-same}
 use Rattle.sg_minor.proofs.Keeps.{fail-loose, traced}
 use Rattle.sg_minor.proofs.Mirrors.{clear_empty}
-use Rattle.sg_minor.proofs.Named.{byte-same, field-name, inner, inner-field, outer, in-nursery, in-old, length as length-of, size-at, strong, strong-of}
+use Rattle.sg_minor.proofs.Named.{field_refers, byte-same, field-name, inner, inner-field, outer, in-nursery, in-old, length as length-of, nursery, size-at, strong, strong-of}
 use Rattle.sg_minor.proofs.OldNames.{old_names, old_named, are_slots, found_slots, found_are, found_rise, fields_rise}
 use Rattle.sg_minor.proofs.Opens.{named, traced-young, opening}
 use Rattle.sg_minor.proofs.Pictures.{picture}
 use Rattle.sg_minor.proofs.Rises.{Rises, rises-append, rises-filter, rises-distinct, strict-rises, distinct-append}
-use Rattle.sg_minor.proofs.Starts.{AtField, AreStarts, starts}
+use Rattle.sg_minor.proofs.Starts.{IsStart, AtGlobal, AtField, AreStarts, starts}
 use Rattle.sg_minor.proofs.Sound.{owner_of, sound_by}
 use Rattle.sg_minor.proofs.Zoned.{zone_in, zone_zero, zoned, blocks_by}
 
@@ -146,7 +148,7 @@ module _ (p : Program) (s : Contents) (g : Graph) (b : Book) (ambiguous pins : L
       (λ a i j.
       let from = globals-above a (in-filter (holds_young (area_of s) (word s)) a (global_slots s.layout 64) i).0 in
       let q = in-filter (holds_young (area_of s) (word s)) a (flat_map (slots_of_name p g b) (old_names p s g b begun.heap.0 owner heap begun.contents settled))
-          (subst (λ (l : List ℕ). In a l) (found_are p s g b begun.heap.0 owner heap begun.contents settled found of-owner) j) in
+      (subst (λ (l : List ℕ). In a l) (found_are p s g b begun.heap.0 owner heap begun.contents settled found of-owner) j) in
       let n = in-flat (slots_of_name p g b) a (old_names p s g b begun.heap.0 owner heap begun.contents settled) q.0 in
       let f = slots-are (λ k. is_strong_by (kind_of p (g.class n.0)) k (g.size n.0)) (b.address n.0) 0 (g.size n.0) a n.2 in
       let o = old_named p s g b begun.heap.0 owner heap begun.contents settled n.0 n.1 in
@@ -343,13 +345,13 @@ module _ (p : Program) (s : Contents) (g : Graph) (b : Book) (ambiguous pins : L
           let place = in-old p (word s) g b owner heap n st d o in
           let above = place.0 in
           let still : copied.m (b.address n) ≡ b.address n = picture_for.others (b.address n)
-              (out (b.address n) copied.went (λ h. let yo = (young-of (b.address n) (image_for.moved (b.address n) h).0).1 in omega arith)) in
+          (out (b.address n) copied.went (λ h. let yo = (young-of (b.address n) (image_for.moved (b.address n) h).0).1 in omega arith)) in
           let len = length-of p (word s) g b owner heap n st d in
           let now : word v x ≡ byte_at (copied.m (b.address k.0)) =
-              ap (word v) (at ∙ ap (λ (z : ℕ). z + 2 + i) (sym still)) ∙ (picture_for.old n d st o).fields i (omega arith)
-              ∙ ap (λ (z : Bool). cond z (sent copied.m (word s (b.address n + 2 + i))) (word s (b.address n + 2 + i)))
-                  (strong-of p (word s) g b owner heap n i st d ∙ e)
-              ∙ sent-at copied.m (word s (b.address n + 2 + i)) (b.address k.0) k.2 in
+          ap (word v) (at ∙ ap (λ (z : ℕ). z + 2 + i) (sym still)) ∙ (picture_for.old n d st o).fields i (omega arith)
+          ∙ ap (λ (z : Bool). cond z (sent copied.m (word s (b.address n + 2 + i))) (word s (b.address n + 2 + i)))
+              (strong-of p (word s) g b owner heap n i st d ∙ e)
+          ∙ sent-at copied.m (word s (b.address n + 2 + i)) (b.address k.0) k.2 in
           let target : copied.m (b.address k.0) ≡ y = byte-same (copied.m (b.address k.0)) y (sym now ∙ refers) in
           elim (young-or (b.address k.0)) [
             | inl yes_young ↦ begins.all x (b.address k.0) (AtField n i d st (inl o) l e at) (ap (word s) at ∙ k.2) yes_young
@@ -375,9 +377,9 @@ module _ (p : Program) (s : Contents) (g : Graph) (b : Book) (ambiguous pins : L
           let n = traced-named a tr in
           let length = length-back a tr in
           let strong-same : is_strong (area_for p) (word tagged) a i ≡ is_strong (area_for p) (word s) a i =
-              ap (λ (z : ℕ). is_strong (area_for p) (word tagged) z i) (sym n.3) ∙ strong p (word s) g b owner heap ambiguous pins begun.pinned (word tagged)
-                  begun.tags n.0 i n.2 n.1
-              ∙ sym (strong-of p (word s) g b owner heap n.0 i n.2 n.1) ∙ ap (λ (z : ℕ). is_strong (area_for p) (word s) z i) n.3 in
+          ap (λ (z : ℕ). is_strong (area_for p) (word tagged) z i) (sym n.3) ∙ strong p (word s) g b owner heap ambiguous pins begun.pinned (word tagged)
+              begun.tags n.0 i n.2 n.1
+          ∙ sym (strong-of p (word s) g b owner heap n.0 i n.2 n.1) ∙ ap (λ (z : ℕ). is_strong (area_for p) (word s) z i) n.3 in
           Copied a i h (omega arith) (strong-same ∙ e) at
 
       field-high : (x : ℕ) → IsOldField p (area_for p) (word s) g b copied.went copied.m x → (nursery_end p ≤ x) × (x < globals_base (layout_of p))

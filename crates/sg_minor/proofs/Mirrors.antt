@@ -70,11 +70,14 @@ module _ (p : Program) (g : Graph) (d : Book) (block : ℕ → BlockWord) (used 
       let fit = slot_fits z i l in
       elim (by.others n h.some h.stands) [
         | inr young ↦ absurd (omega arith)
-        | inl old ↦ (old, λ q.
-            let size = slot_size-holds (words_for (g.size n)) (by.small n h.some h.stands) in
-            let mine = slot_fits (slot_words (g.size n)) q.slot q.seat.fits in
-            let at = q.seat.at in
-            omega arith)
+        | inl old ↦ (
+          old,
+          λ q.
+              let size = slot_size-holds (words_for (g.size n)) (by.small n h.some h.stands) in
+              let mine = slot_fits (slot_words (g.size n)) q.slot q.seat.fits in
+              let at = q.seat.at in
+              omega arith,
+        )
       ]
 
   -- a slot that can be claimed is empty

@@ -117,7 +117,7 @@ module _ (p : Program) (s : Contents) (g : Graph) (b : Book) (is : IsSpaceOf p s
   apart m n standing stands below = elim (cases_lt (b.address n) (b.address m + (g.size m + 2))) [
     | inl over ↦
         let same = one_owner p s g b is owner heap contents m n (b.address n) (owns p s g b is owner heap contents m (b.address n) standing (omega arith) over)
-            (owns_first p s g b is owner heap contents n stands) in
+        (owns_first p s g b is owner heap contents n stands) in
         let at = ap b.address same in
         absurd (omega arith)
     | inr up ↦ up
@@ -225,7 +225,14 @@ module _ (p : Program) (s : Contents) (g : Graph) (b : Book) (is : IsSpaceOf p s
         let o = old_named n.0 n.1 in
         let y = young-word-is (area_of s) (word s a) q.1 in
         let k = seeds.all a (seeded p s g b is owner heap contents settled a (record {
-          name = n.0; field = f.0; some = o.0; stands = o.1; old = o.2; within = let l = f.1 in omega arith; strong = f.2; at = f.3;
+          name = n.0;
+          field = f.0;
+          some = o.0;
+          stands = o.1;
+          old = o.2;
+          within = let l = f.1 in omega arith;
+          strong = f.2;
+          at = f.3;
         }) y) in
         subst (λ (z : ℕ). In z found_slots) (ap word_at k.3 ∙ word_at-byte_at a)
         (slot_in found k.1 (k.0, slice_get_within found k.0 k.1 k.2, get_or_from_slice_get found k.0 k.1 k.1 k.2))

@@ -157,8 +157,9 @@ module _ (p : Program) (w : ℕ → ℕ) (g : Graph) (b : Book) (owner : ℕ →
       item_word = λ s i. start-inside s (sd.each s i);
       item_apart = λ s a i ta. (let n = met-named a ta in let en = n.3 in
           let y = subst (IsYoung (area_for p)) (sym en) (met-young a ta) in (
-          λ e. (let q = start-apart s n.0 (sd.each s i) n.2 n.1 y (omega arith) (omega arith) in let z = q.1.1 in absurd (omega arith)),
-          λ e. (let q = start-apart s n.0 (sd.each s i) n.2 n.1 y (omega arith) (omega arith) in let z = q.1.1 in absurd (omega arith))));
+            λ e. (let q = start-apart s n.0 (sd.each s i) n.2 n.1 y (omega arith) (omega arith) in let z = q.1.1 in absurd (omega arith)),
+            λ e. (let q = start-apart s n.0 (sd.each s i) n.2 n.1 y (omega arith) (omega arith) in let z = q.1.1 in absurd (omega arith)),
+          ));
       item_out = λ s a c i ta e u v. (let n = named a ta in let en = n.3 in let z = size-is a n.0 n.2 n.1 en in
           let q = start-apart s n.0 (sd.each s i) n.2 n.1 (subst (IsYoung (area_for p)) (sym en) (traced-young a ta)) (omega arith) (omega arith) in
           let tp = tg.tagged (b.address n.0) q.0 in let f = first p w g b owner t n.0 n.2 n.1 in let e2 : w1 a ≡ w1 (b.address n.0) = ap w1 (sym en) in absurd

@@ -140,7 +140,6 @@ module _ (p : Program) (w : ℕ → ℕ) (g : Graph) (b : Book) (owner : ℕ →
       let mv = cp.moved a h in
       let n = name-of a mv.0 in let e = n.3 in
       let at0 = (copy-in a 0 h (omega arith)).0 in
-     
       let sb = size-back a n.0 n.2 n.1 e in
       let nt : w1 a ≡ w a = tg.same a (out a pins (λ i. pin-tag p w g b owner t ambiguous pins ps w1 tg items sd moves fails m round cp a mv.1.0 i mv.1.1)) in
       record {

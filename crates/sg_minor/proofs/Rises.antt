@@ -1,12 +1,12 @@
 -- Lists of numbers in increasing order from some number on: what keeps them so, and that there is one of the same members.
-use Rattle.std.proofs.Common.{◌≡◌, ℕ, zero, suc, ◌+◌, ◌<◌, ◌≤◌, Bool, inl, inr, List, [], ◌∷◌, ◌++◌, map, filter, get_or, sym, refl, ap, ◌∙◌, subst, arith}
+use Rattle.std.proofs.Common.{◌≡◌, ◌≢◌, ℕ, zero, suc, ◌+◌, ◌<◌, ◌≤◌, Bool, inl, inr, List, [], ◌∷◌, ◌++◌, map, filter, length, get_or, sym, refl, ap, ◌∙◌, subst, arith, add-one}
 use Rattle.std.specs.List.{flat_map}
 use Rattle.std.specs.List.Sorted.{IsStrictlyIncreasing}
 use Rattle.std.proofs.lemmas.Bool.{cases_Bool, cond-true, cond-false}
 use Rattle.sg_words.specs.Lists.{In}
 use Rattle.sg_words.specs.Objects.{strong_slots}
 use Rattle.sg_words.specs.Reach.{AreDistinct, IsFreshIn}
-use Rattle.sg_words.proofs.Members.{has-cases, in-here, in-there, in-cases, fresh-out}
+use Rattle.sg_words.proofs.Members.{has-cases, in-here, in-there, in-left, in-right, in-cases, fresh-out}
 
 -- each number is at least `lo`, and above the one before it
 abbrev pub Rises : ℕ → List ℕ → Type 0
@@ -119,10 +119,10 @@ strict-rises lo (x ∷ []) up l = (l x (in-here x x [] refl), tt)
 strict-rises lo (x ∷ y ∷ ys) up l = (
   l x (in-here x x (y ∷ ys) refl),
   let first : x < y = up 0 (omega arith) in
-  let more = strict-rises 0 (y ∷ ys) (λ k u. subst (λ (z : ℕ). get_or (x ∷ y ∷ ys) (suc k) 0 < get_or (x ∷ y ∷ ys) z 0)
-      (let e : suc k + 1 ≡ suc (k + 1) = omega arith in e) (up (suc k) (omega arith)))
+      let more = strict-rises 0 (y ∷ ys) (λ k u. subst (λ (z : ℕ). get_or (x ∷ y ∷ ys) (suc k) 0 < get_or (x ∷ y ∷ ys) z 0)
+          (let e : suc k + 1 ≡ suc (k + 1) = omega arith in e) (up (suc k) (omega arith)))
       (λ a i. omega arith) in
-  (omega arith, more.1),
+      (omega arith, more.1),
 )
 
 pub rises-distinct : (lo : ℕ) (xs : List ℕ) → Rises lo xs → AreDistinct xs

@@ -70,14 +70,17 @@ module _ (c : Ended) (w : Words) (is : (x : ℕ) → w.word x ≡ c.v x) (by : A
   are-blocks : AreBlocks c.p w.marks w.block w.used w.word c.g.size (stands_on c) (address_of c) (section_of c) c.b.owed (owner3 c)
   are-blocks = record {
     placed = λ n l s o.
-        let q = by.seated n l s o in
-        (q.block, q.seat.there, record {
-          slot = q.slot;
-          fits = q.seat.fits;
-          address = q.seat.at;
-          of = subst (λ (b : BlockWord). IsOf b (slot_words (c.g.size n))) (sym q.state) refl;
-          taken = ap (λ (b : BlockWord). is_taken b (w.used q.block) (w.marks q.block) q.slot) q.state ∙ q.bit;
-        });
+        let q = by.seated n l s o in (
+          q.block,
+          q.seat.there,
+          record {
+            slot = q.slot;
+            fits = q.seat.fits;
+            address = q.seat.at;
+            of = subst (λ (b : BlockWord). IsOf b (slot_words (c.g.size n))) (sym q.state) refl;
+            taken = ap (λ (b : BlockWord). is_taken b (w.used q.block) (w.marks q.block) q.slot) q.state ∙ q.bit;
+          },
+        );
     each = λ j there. record {
       filled = λ z i of l taken.
           let state = of-swept (w.block j) z (by.states j there) of in

@@ -1,26 +1,26 @@
 -- A space that holds a graph by a book refers soundly, and the fields that need a dirty card have one.
-use Rattle.std.proofs.Common.{◌≡◌, ◌≢◌, ℕ, ◌+◌, ◌<◌, ◌≤◌, inl, inr, Bool, length, Option, Some, true, sym, ap, ◌∙◌, subst, arith, slice_get, slice_index, le_refl}
-use Rattle.std.proofs.lemmas.Bool.{cases_eq}
+use Rattle.std.proofs.Common.{◌≡◌, ◌≢◌, ℕ, ◌+◌, ◌<◌, ◌≤◌, inl, inr, Bool, List, length, Option, Some, None, true, false, refl, sym, ap, ◌∙◌, subst, arith, slice_get, slice_index, le_refl}
+use Rattle.std.proofs.lemmas.Bool.{cases_eq, false≢true}
 use Rattle.std.proofs.lemmas.Option.{same_Some}
 use Rattle.sg_words.specs.Address.{byte_at}
-use Rattle.sg_words.specs.Blocks.{card_of, slot_size}
+use Rattle.sg_words.specs.Blocks.{card_of, slot_size, slot_base}
 use Rattle.sg_words.specs.Sections.{old_base, globals_base, ready_base, links_base, IsYoung}
 use Rattle.sg_words.specs.Tags.{plain_word}
 use Rattle.sg_desc.specs.declared.shapes.Shape.{Shape}
 use Rattle.sg_desc.specs.Shapes.{holds_reference, is_strong, strong_holds}
 use Rattle.sg_program.specs.declared.program.Program.{Program}
 use Rattle.sg_program.specs.Scripts.{shape_of, kind_of}
-use Rattle.sg_graph.specs.Graph.{Graph, Entry, Ref}
-use Rattle.sg_graph.specs.Book.{Book, Old, word_of}
+use Rattle.sg_graph.specs.Graph.{Graph, Entry, Ref, Int, Inner}
+use Rattle.sg_graph.specs.Book.{Book, Young, Old, nursery_end, word_of}
 use Rattle.sg_graph.specs.Blocks.{AreSettled}
 use Rattle.sg_graph.specs.Heap.{Owner, IsOfSort, IsKnownEntry, IsHeap, layout_of}
 use Rattle.sg_space.specs.Space.{Contents, IsContents, words_of}
-use Rattle.sg_space.specs.Standing.{word, size_at, IsSoundBy, Refers, RefersSoundly, AreRows}
+use Rattle.sg_space.specs.Standing.{word, page_in, page_base, size_at, IsInSlot, IsInPages, IsSoundBy, Refers, RefersSoundly, AreRows}
 use Rattle.sg_cards.specs.Seeds.{IsSeedAt, AreCarded}
 use Rattle.sg_minor.specs.Holding.{IsSpaceOf, HoldsHeap}
 use Rattle.sg_minor.specs.Laws.{IsSoundHeap}
 use Rattle.sg_minor.proofs.Names.{ref-of}
-use Rattle.sg_minor.proofs.Sound.{owner_of, named_front, is_owned, owns_first, owned, length_is, class_is, shape_is, old_inside, young_there, taken_named, nursery_is, sound_by}
+use Rattle.sg_minor.proofs.Sound.{owner_of, named_front, is_owned, owns_first, owned, length_is, class_is, shape_is, old_inside, young_there, taken_named, nursery_is, blocks_is, sound_by}
 
 module _ (p : Program) (s : Contents) (g : Graph) (b : Book) (is : IsSpaceOf p s b) (owner : ℕ → Owner) (heap : IsHeap p (word s) g b owner)
     (contents : IsContents s)
@@ -59,7 +59,7 @@ module _ (p : Program) (s : Contents) (g : Graph) (b : Book) (is : IsSpaceOf p s
       let first : word s f.front ≡ plain_word (g.class n.0) = ap (word s) (sym at) ∙ class_is p s g b is owner heap contents n.0 n.1 n.2 in
       let class : f.class ≡ g.class n.0 = omega arith in
       let shape : f.shape ≡ shape_of p (g.class n.0) =
-          same_Some _ _ (sym f.shape_is ∙ ap (λ c. slice_get s.shapes c) class ∙ shape_is p s g b is owner heap contents n.0 n.1 n.2) in
+      same_Some _ _ (sym f.shape_is ∙ ap (λ c. slice_get s.shapes c) class ∙ shape_is p s g b is owner heap contents n.0 n.1 n.2) in
       let within = f.within in
       let x_is = f.at in
       record {
@@ -102,9 +102,12 @@ module _ (p : Program) (s : Contents) (g : Graph) (b : Book) (is : IsSpaceOf p s
   pub reference : (n i : ℕ) → b.stands n ≡ true → i < g.size n → holds_reference (kind_of p (g.class n)) i (g.size n) ≡ true →
       (k : ℕ) × (g.field n i ≡ Ref k) × (b.stands k ≡ true) × (word s (b.address n + 2 + i) ≡ byte_at (b.address k))
   reference n i stands l holds =
-      let k = ref-of (g.field n i) (subst (λ (z : Bool). IsOfSort z (g.field n i)) holds (heap.laid.fields.sorted n i stands l)) in
-      (k.0, k.1, (subst (λ (z : Entry). IsKnownEntry (word s) g b z) k.1 (heap.laid.fields.known n i stands l)).0,
-      heap.laid.fields.holds n i stands l ∙ ap (λ (z : Entry). word_of b.address z) k.1)
+      let k = ref-of (g.field n i) (subst (λ (z : Bool). IsOfSort z (g.field n i)) holds (heap.laid.fields.sorted n i stands l)) in (
+        k.0,
+        k.1,
+        (subst (λ (z : Entry). IsKnownEntry (word s) g b z) k.1 (heap.laid.fields.known n i stands l)).0,
+        heap.laid.fields.holds n i stands l ∙ ap (λ (z : Entry). word_of b.address z) k.1,
+      )
 
   pub carded : AreCarded s
   carded o sound x seed =
@@ -144,10 +147,10 @@ module _ (p : Program) (s : Contents) (g : Graph) (b : Book) (is : IsSpaceOf p s
         let first : word s h ≡ plain_word (g.class n) = ap (word s) (sym at) ∙ class_is p s g b is owner heap contents n q.1 o.0 in
         let class_same : class ≡ g.class n = omega arith in
         let shape_same : shape ≡ shape_of p (g.class n) =
-            same_Some _ _ (sym shape_is_it ∙ ap (λ c. slice_get s.shapes c) class_same ∙ shape_is p s g b is owner heap contents n q.1 o.0) in
+        same_Some _ _ (sym shape_is_it ∙ ap (λ c. slice_get s.shapes c) class_same ∙ shape_is p s g b is owner heap contents n q.1 o.0) in
         let r = reference n i o.0 (omega arith)
-            (ap (λ (z : ℕ). holds_reference (kind_of p (g.class n)) i z) (sym length) ∙ ap (λ (z : Shape). holds_reference z.kind i (word s (h + 1)))
-                (sym shape_same) ∙ holds) in
+        (ap (λ (z : ℕ). holds_reference (kind_of p (g.class n)) i z) (sym length) ∙ ap (λ (z : Shape). holds_reference z.kind i (word s (h + 1)))
+            (sym shape_same) ∙ holds) in
         refers_to (word s (h + 2 + i)) r.0 (ap (λ z. word s (z + 2 + i)) (sym at) ∙ r.3) r.2;
     globals = λ x l. refers_to (word s (globals_base s.layout + x)) (g.global x) (ap (λ z. word s (z + x)) globals_are ∙ heap.laid.globals.holds x l)
         (heap.laid.globals.known x l).0;

@@ -222,8 +222,7 @@ module _ (c : Ended) where
         let e = (told.moves.exact move).0 h in
         let x = e.0 in
         let k = names c x (inr e.1) in
-        let here : In (c.b.address k.name) c.moves = subst (λ z. In z c.moves) (sym k.at) e.1 in
-        (
+        let here : In (c.b.address k.name) c.moves = subst (λ z. In z c.moves) (sym k.at) e.1 in (
           k.name,
           record { young = stands-young x (inr e.1); kept = named-stands x (inr e.1); loose = moved-loose k.name here },
           has-moved block used by k.name k.some k.stands here,
@@ -240,8 +239,8 @@ module _ (c : Ended) where
         let here : In (c.b.address k.name) fails = subst (λ z. In z fails) (sym k.at) e.1 in
         let size : slot_size (size_of c.w (c.b.address k.name)) ≡ slot_words (c.g.size k.name) = ap slot_size (sizes c k.name k.some k.stands) in
         let shut : (j : ℕ) → j < c.p.config.blocks → IsShut c.p c.g (booked c) j (slot_words (c.g.size k.name)) =
-            λ j there. passed_shut c.p c.g (booked c) block used by (slot_words (c.g.size k.name)) j there
-            (subst (λ (z : ℕ). IsPassed block used z j) size (full (c.b.address k.name) j here there)) in (
+        λ j there. passed_shut c.p c.g (booked c) block used by (slot_words (c.g.size k.name)) j there
+        (subst (λ (z : ℕ). IsPassed block used z j) size (full (c.b.address k.name) j here there)) in (
           k.name,
           record { young = stands-young x (inl s); kept = named-stands x (inl s); loose = failed-loose k.name here },
           record {

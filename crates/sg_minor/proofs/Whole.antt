@@ -1,5 +1,5 @@
 -- A pause as a whole: from its parts to the law.
-use Rattle.std.proofs.Common.{◌≡◌, ℕ, ◌≤◌, List, ◌++◌, map, length, slice_index, Option, inl, inr, refl, sym, ap, ◌∙◌, subst, arith}
+use Rattle.std.proofs.Common.{◌≡◌, ℕ, ◌+◌, ◌≤◌, List, ◌++◌, map, length, slice_index, Option, inl, inr, refl, sym, ap, ◌∙◌, subst, arith}
 use Rattle.sg_words.specs.Address.{word_at}
 use Rattle.sg_words.specs.Pieces.{fronts_of, ends_of}
 use Rattle.sg_words.specs.declared.pieces.Move.{Move}
@@ -14,7 +14,7 @@ use Rattle.sg_space.specs.Standing.{word, IsSoundBy, TellsYoung}
 use Rattle.sg_space.specs.Changes.{IsStill, contents_still}
 use Rattle.sg_cards.specs.declared.found.Seed.{Seed}
 use Rattle.sg_round.specs.Area.{Area}
-use Rattle.sg_copy.specs.Copying.{CanCopy, HasCopiedTo}
+use Rattle.sg_copy.specs.Copying.{area_of, CanCopy, HasCopiedTo}
 use Rattle.sg_pins.specs.Pins.{ArePinned}
 use Rattle.sg_nursery.specs.Parts.{HasTagged, AreRounded, AreStaying, AreKept, AreCleaned, ArePlain}
 use Rattle.sg_nursery.specs.Pieces.{ArePieces}
@@ -144,14 +144,23 @@ module _ (p : Program) (s : Contents) (g : Graph) (b : Book) (heap : HoldsHeap p
             f.fitted ∙ ap (λ (z : Contents). record z { next = fronts_of report.pieces; ends = ends_of report.pieces }) f.still.0
             ∙ ap (λ (z : Contents). record z { words = f.swept.words; next = fronts_of report.pieces; ends = ends_of report.pieces }) copied.still.same
             ∙ ap (λ (z : Contents). record z {
-              words = f.swept.words; next = fronts_of report.pieces; ends = ends_of report.pieces; blocks = round.blocks; used = round.used; cards =
-                  round.cards;
+              words = f.swept.words;
+              next = fronts_of report.pieces;
+              ends = ends_of report.pieces;
+              blocks = round.blocks;
+              used = round.used;
+              cards = round.cards;
             }) still.0
 
         pub refitted : IsRefitted s final report.pieces
         refitted = record {
           same = after ∙ ap (λ (z : Contents). record s {
-            words = z.words; next = fronts_of report.pieces; ends = ends_of report.pieces; blocks = z.blocks; used = z.used; cards = z.cards;
+            words = z.words;
+            next = fronts_of report.pieces;
+            ends = ends_of report.pieces;
+            blocks = z.blocks;
+            used = z.used;
+            cards = z.cards;
           }) (sym after);
           words = ap (λ (l : List ℕ). length l) words_is ∙ f.still.1 ∙ copied.still.words ∙ still.1;
         }
@@ -194,5 +203,10 @@ same_after s final ambiguous pins found told round report t f =
     f.fitted ∙ ap (λ (z : Contents). record z { next = fronts_of report.pieces; ends = ends_of report.pieces }) f.still.0
     ∙ ap (λ (z : Contents). record z { words = f.swept.words; next = fronts_of report.pieces; ends = ends_of report.pieces }) t.copied.still.same
     ∙ ap (λ (z : Contents). record z {
-      words = f.swept.words; next = fronts_of report.pieces; ends = ends_of report.pieces; blocks = round.blocks; used = round.used; cards = round.cards;
+      words = f.swept.words;
+      next = fronts_of report.pieces;
+      ends = ends_of report.pieces;
+      blocks = round.blocks;
+      used = round.used;
+      cards = round.cards;
     }) t.still.0

@@ -12,6 +12,7 @@ pub use join::join_law;
 pub use law::{heap_law, pause_law};
 pub use pause::minor;
 pub use sg_nursery::build;
+pub use slots::first_slots;
 
 #[cfg(test)]
 mod tests;

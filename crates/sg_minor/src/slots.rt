@@ -14,7 +14,7 @@ use std::alloc::{AllocError, Global};
 
 /// The slots with which a round begins: the globals that refer to young objects, by number, and then the fields of these seeds.
 /// Takes memory for them, and time linear in the globals and the seeds.
-pub(crate) fn first_slots(
+pub fn first_slots(
     alloc: Global,
     space: &Space,
     layout: Layout,

@@ -16,4 +16,6 @@ pub use sg_cells::{Gate, OpenGate};
 pub use top::run;
 
 #[cfg(test)]
+mod parts;
+#[cfg(test)]
 mod tests;

@@ -195,7 +195,7 @@ fn read_program<S: Source>(
 }
 
 // The program as which the bytes are accepted, or why they aren't.
-fn accept(alloc: Global, bytes: &[u8]) -> Result<Result<Program, Cause>, AllocError>
+pub(crate) fn accept(alloc: Global, bytes: &[u8]) -> Result<Result<Program, Cause>, AllocError>
     ensures found { IfOk result (λ read. IfOk read (IsAcceptedAs bytes.now)) }
     ensures cause { IfOk result (λ read. IfErr read (IsCause bytes.now)) }
     ensures told { IfOk result (λ read. IfErr read (λ cause. cause ≢ Refused AnyRefusal.Memory)) }

@@ -233,8 +233,7 @@ in_slot s owner sound c z i x h there of fits from to e =
     let is : IsIn s c z x = record { there = there; sized = of; some = omega arith; from = inside.0; to = inside.1 } in
     let at = at_slot s c z x is owner sound h e in
     let span = slot_from_to s c z x is in
-    let same : slot_with s c z x ≡ i = slot_once (old_base s.layout) c z (slot_with s c z x) i x span.0 span.1 from to in
-    (
+    let same : slot_with s c z x ≡ i = slot_once (old_base s.layout) c z (slot_with s c z x) i x span.0 span.1 from to in (
       at.0 ∙ ap (slot_base s.layout c z) same,
       subst (λ (k : ℕ). is_taken (block_in s c) (used_in s c) (marks_in s c) k ≡ 1) same at.1,
       at.2,

@@ -13,6 +13,7 @@ use Rattle.sg_graph.specs.Graph.{Mutator, Graph}
 use Rattle.sg_graph.specs.Book.{Book}
 use Rattle.sg_graph.specs.Invariants.{IsPlain}
 use Rattle.sg_minor.specs.Holding.{HoldsHeap}
+use Rattle.sg_minor.specs.Parts.{HoldsSome}
 use Rattle.sg_space.specs.Space.{Contents, words_of}
 use Rattle.sg_space.specs.Standing.{block_in}
 use Rattle.sg_frag.specs.Plain.{KeepsSections}
@@ -178,6 +179,9 @@ heap_stays p s t g b word e holds = subst (λ u. HoldsHeap p u g b) (sym e) (
     },
   ),
 )
+
+pub some_stays : (s t : Contents) (word : ℕ) → t ≡ record s { stop = word } → HoldsSome s → HoldsSome t
+some_stays s t word e h = (h.0, h.1, h.2, heap_stays h.0 s t h.1 h.2 word e h.3, h.4)
 
 -- a standing object with a name has an address in the heap
 pub high : (p : Program) (s : Contents) (g : Graph) (b : Book) → HoldsHeap p s g b → (n : ℕ) → 1 ≤ n → b.stands n ≡ true → nursery_base ≤ b.address n

@@ -1,4 +1,4 @@
-use Rattle.std.proofs.Common.{◌≡◌, ℕ, ◌+◌, ◌*◌, ◌%◌, ◌<◌, ◌≤◌, ◌^◌, sym, arith}
+use Rattle.std.proofs.Common.{ℕ, ◌<◌, ◌≤◌, ◌^◌, sym, arith}
 use Rattle.sg_words.specs.Address.{IsAddress, byte_at}
 use Rattle.sg_copy.proofs.handling.read_first.Goals as goal
 

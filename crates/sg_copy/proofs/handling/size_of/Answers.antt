@@ -1,4 +1,4 @@
-use Rattle.std.proofs.Common.{◌≡◌, ◌+◌, ◌≤◌, sym, subst, ◌∙◌}
+use Rattle.std.proofs.Common.{◌≡◌, ◌+◌, sym, subst}
 use Rattle.sg_words.specs.Blocks.{IsSizeClass, slot_size}
 use Rattle.sg_words.proofs.Blocks.{slot_size-class, class_bounds}
 use Rattle.sg_copy.proofs.handling.size_of.Goals as goal

@@ -22,7 +22,8 @@ loop-copier-smaller c =
 
 pub loop-copier-preserved : goal.loop-copier-preserved
 loop-copier-preserved c = λ slots wholes ready.
-    goes-on c.tells_so_far.ensures c.bounded.ensures c.goes_always.ensures c.args.port.now ready.can.contents slots wholes ready.items ready.can.zone c.loop-copier.port
+    goes-on c.tells_so_far.ensures c.bounded.ensures c.goes_always.ensures c.args.port.now ready.can.contents slots wholes ready.items ready.can.zone
+    c.loop-copier.port
     c.loop-copier.copier (c.loop-copier.invariant slots wholes ready) c.turn_on.new.port c.turn_on.new.self c.turn_on.ensures.turned c.turn_on.ensures.same
 
 pub returns-clause-same : goal.returns-clause-same

@@ -1,5 +1,6 @@
-use Rattle.std.proofs.Common.{sym, ap, ◌∙◌, subst}
+use Rattle.std.proofs.Common.{List, sym, ap, ◌∙◌, subst}
 use Rattle.sg_space.specs.Space.{Contents}
+use Rattle.sg_cards.specs.declared.found.Seed.{Seed}
 use Rattle.sg_minor.specs.Joined.{AreFound}
 use Rattle.sg_minor.proofs.Sound.{sound_of_heap}
 use Rattle.sg_minor.proofs.Whole.{is_rounded, is_staying, is_paused, round_contents, same_after}
@@ -47,7 +48,7 @@ clean-requires c =
     let found = subst (AreFound c.args.space) (sym c.all.ensures) c.requires.found in
     let paused = is_paused h.0 c.args.space h.1 h.2 h.3 c.in_ok-traced.ensures.before c.args.ambiguous.now r.pins t.pinned c.all.result.now found t.tagged
         t.still t.tags r.told t.tells r.space
-        t.moves t.fails t.copied c.in_ok-space.space c.in_ok-space.report c.in_ok-space.ensures.finished c.join_law.ensures c.pause_law.ensures h.4 in
+    t.moves t.fails t.copied c.in_ok-space.space c.in_ok-space.report c.in_ok-space.ensures.finished c.join_law.ensures c.pause_law.ensures h.4 in
     sound_of_heap h.0 c.in_ok-space.space h.1 paused.book paused.heap c.in_ok-space.ensures.contents
 
 pub returns : goal.returns

@@ -1,13 +1,15 @@
 use Rattle.std.proofs.Common.{List, ℕ, ◌∙◌, subst}
 use Rattle.sg_minor.specs.Law.{HasPaused}
-use Rattle.sg_world.proofs.Heaps.{heap_stays, some_stays}
+use Rattle.sg_world.proofs.Heaps.{heap_stays}
 use Rattle.sg_world.proofs.stop.pause.Goals as goal
 
 pub found_in-requires : goal.found_in-requires
-found_in-requires c = some_stays c.args.space c.set_stopping.new.self 0 c.set_stopping.ensures c.requires.some
+found_in-requires c =
+    let h = c.requires.some in (h.0, h.1, h.2, heap_stays h.0 c.args.space c.set_stopping.new.self h.1 h.2 0 c.set_stopping.ensures h.3, h.4)
 
 pub minor-requires-clause-some : goal.minor-requires-clause-some
-minor-requires-clause-some c = some_stays c.args.space c.set_stopping.new.self 0 c.set_stopping.ensures c.requires.some
+minor-requires-clause-some c =
+    let h = c.requires.some in (h.0, h.1, h.2, heap_stays h.0 c.args.space c.set_stopping.new.self h.1 h.2 0 c.set_stopping.ensures h.3, h.4)
 
 pub returns-clause-paused : goal.returns-clause-paused
 returns-clause-paused c p h b holds plain =

@@ -1,4 +1,4 @@
-use Rattle.std.proofs.Common.{◌≡◌, ◌≢◌, ℕ, ◌<◌, length, inl, inr, sym, ap, ◌∙◌, subst, arith}
+use Rattle.std.proofs.Common.{◌≡◌, ◌<◌, length, inl, inr, sym, ap, ◌∙◌, arith}
 use Rattle.std.specs.Int.{bit_at}
 use Rattle.std.proofs.lemmas.Nat.Bits.{shr_and_one}
 use Rattle.sg_words.proofs.Blocks.{bit_cases}
@@ -9,7 +9,7 @@ use Rattle.sg_copy.specs.Telling.{Seat, at}
 use Rattle.sg_copy.specs.State.{worker_of, teller_of, seat_of, object_of}
 use Rattle.sg_copy.proofs.Ports.{Ports}
 use Rattle.sg_copy.proofs.Places.{look_at}
-use Rattle.sg_copy.proofs.Swaps.{marked, mark_may, slot_there, slot_below, got_slot, lost_slot}
+use Rattle.sg_copy.proofs.Swaps.{marked, mark_may, slot_below, got_slot, lost_slot}
 use Rattle.sg_copy.proofs.Handled.{seat_same, same_passed, at_passed, on_as, handled_as, begun_then}
 use Rattle.sg_copy.proofs.copier.Copier.claim.Given.{Over}
 use Rattle.sg_copy.proofs.copier.Copier.claim.Goals as goal
@@ -27,8 +27,10 @@ ports g = record {
 
 pub take_slot-found-requires : goal.take_slot-found-requires
 take_slot-found-requires g c =
-    record { may = mark_may (ports g) (seat_of c.args.self.now) (teller_of c.args.self.now) c.args.job.slot (object_of c.args.job) c.args.block
-        c.args.slot c.args.port.now c.requires.on }
+    record {
+      may = mark_may (ports g) (seat_of c.args.self.now) (teller_of c.args.self.now) c.args.job.slot (object_of c.args.job) c.args.block
+          c.args.slot c.args.port.now c.requires.on;
+    }
 
 pub overflow_shr-found : goal.overflow_shr-found
 overflow_shr-found g c = slot_below (ports g) (seat_of c.args.self.now) (teller_of c.args.self.now) c.args.job.slot (object_of c.args.job)
@@ -53,12 +55,12 @@ write-requires-clause-on g c =
     let room : c.size_of-size.result < length m.passed = omega (arith, c.size_of-size.ensures.most, c.set_passed.ensures.length) in
     let here = marked o (seat_of m) (teller_of m) s x b i p c.requires.on in
     let to : c.place-to.result ≡ place (seat_of m).area b (size_for x) i =
-        c.place-to.ensures ∙ ap (λ (h : Seat). place h.area b c.size_of-size.result i) (seat_same m k same.copier) ∙ ap
-            (λ z. place (seat_of m).area b z i) size in
+    c.place-to.ensures ∙ ap (λ (h : Seat). place h.area b c.size_of-size.result i) (seat_same m k same.copier) ∙ ap
+    (λ z. place (seat_of m).area b z i) size in
     let is : at (teller_of k) (OnSlot s (Body x c.place-to.result 1)) ≡ here =
-        at_passed m k c.size_of-size.result (size_for x) b (OnSlot s (Body x c.place-to.result 1)) c.set_passed.ensures.value size room
-        ∙ ap (λ at. record (teller_of m)
-            { worker = record (worker_of m) { passed = put (worker_of m).passed (size_for x) b; mid = OnSlot s (Body x at 1) } }) to in
+    at_passed m k c.size_of-size.result (size_for x) b (OnSlot s (Body x c.place-to.result 1)) c.set_passed.ensures.value size room
+    ∙ ap (λ at. record (teller_of m)
+    { worker = record (worker_of m) { passed = put (worker_of m).passed (size_for x) b; mid = OnSlot s (Body x at 1) } }) to in
     on_as o (seat_of m) (seat_of k) here _ q (seat_same m k same.copier) is got.0
 
 pub search-requires-clause-on : goal.search-requires-clause-on
@@ -98,12 +100,12 @@ returns-then-found-slot-eq0 g c =
     let room : c.size_of-size.result < length m.passed = omega (arith, c.size_of-size.ensures.most, c.set_passed.ensures.length) in
     let here = marked o (seat_of m) (teller_of m) s x b i p c.requires.on in
     let to : c.place-to.result ≡ place (seat_of m).area b (size_for x) i =
-        c.place-to.ensures ∙ ap (λ (h : Seat). place h.area b c.size_of-size.result i) (seat_same m k same.copier) ∙ ap
-            (λ z. place (seat_of m).area b z i) size in
+    c.place-to.ensures ∙ ap (λ (h : Seat). place h.area b c.size_of-size.result i) (seat_same m k same.copier) ∙ ap
+    (λ z. place (seat_of m).area b z i) size in
     let is : at (teller_of k) (OnSlot s (Body x c.place-to.result 1)) ≡ here =
-        at_passed m k c.size_of-size.result (size_for x) b (OnSlot s (Body x c.place-to.result 1)) c.set_passed.ensures.value size room
-        ∙ ap (λ at. record (teller_of m)
-            { worker = record (worker_of m) { passed = put (worker_of m).passed (size_for x) b; mid = OnSlot s (Body x at 1) } }) to in
+    at_passed m k c.size_of-size.result (size_for x) b (OnSlot s (Body x c.place-to.result 1)) c.set_passed.ensures.value size room
+    ∙ ap (λ at. record (teller_of m)
+    { worker = record (worker_of m) { passed = put (worker_of m).passed (size_for x) b; mid = OnSlot s (Body x at 1) } }) to in
     begun_then o m c.write.new.self (at (teller_of m) (OnSlot s (Mark x b i))) here p q c.write.new.port got.1
     (handled_as o m k c.write.new.self here (at (teller_of k) (OnSlot s (Body x c.place-to.result 1))) q c.write.new.port same is c.write.ensures)
 
@@ -124,4 +126,4 @@ returns-else-found-slot-eq0 g c =
     ] in
     let lost = lost_slot o (seat_of m) (teller_of m) s x b i p c.requires.on found set q (c.take_slot-found.ensures.seen, c.take_slot-found.ensures.led) in
     begun_then o m c.search.new.self (at (teller_of m) (OnSlot s (Mark x b i))) (look_at o (seat_of m) (teller_of m) s x b) p q c.search.new.port
-        lost.1 c.search.ensures
+    lost.1 c.search.ensures

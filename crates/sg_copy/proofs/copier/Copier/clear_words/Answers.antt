@@ -1,5 +1,4 @@
-use Rattle.std.proofs.Common.{◌≡◌, ℕ, ◌+◌, ◌<◌, ◌≤◌, subst, sym, arith, rules}
-use Rattle.sg_words.specs.Blocks.{slot_size}
+use Rattle.std.proofs.Common.{◌≡◌, ◌+◌, ◌<◌, ◌≤◌, subst, arith}
 use Rattle.sg_words.proofs.Blocks.{slot_size-holds}
 use Rattle.sg_round.specs.Worker.{On, Body, size_for}
 use Rattle.sg_copy.specs.Telling.{at}
@@ -30,7 +29,7 @@ store-requires-clause-may g c =
     let x = object_of c.args.job in
     let n = c.args.job.fields + 2 in
     let on = on_then o (seat_of m) (at (teller_of m) (On c.args.job.slot (Body x c.args.to n)))
-        (at (teller_of m) (On c.args.job.slot (Body x c.args.to c.loop-j.j))) c.args.port.now c.loop-j.port
+    (at (teller_of m) (On c.args.job.slot (Body x c.args.to c.loop-j.j))) c.args.port.now c.loop-j.port
     c.requires c.loop-j.invariant in
     let size : c.size_of-j-end.result ≡ size_for x = c.size_of-j-end.ensures.size in
     let last : c.loop-j.j < size_for x = omega (arith, c.loop-j-test.true, size) in
@@ -48,7 +47,7 @@ loop-j-preserved g c =
     let last : c.loop-j.j < size_for x = omega (arith, c.loop-j-test.true, size) in
     gone_then o (seat_of m) start here _ c.args.port.now c.loop-j.port c.store.new.self c.loop-j.invariant
     (word_cleared o (seat_of m) (teller_of m) c.args.job.slot x c.args.to c.loop-j.j c.loop-j.port on c.loop-j.auto.j last c.store.new.self
-        c.store.ensures.seen c.store.ensures.led)
+    c.store.ensures.seen c.store.ensures.led)
 
 pub returns : goal.returns
 returns g c =
@@ -61,5 +60,5 @@ returns g c =
     let above : c.args.job.fields + 2 ≤ c.size_of-j-end.result = omega (arith, size, holds) in
     let last : c.loop-j.j ≡ size_for x = omega (arith, c.loop-j-test.false, c.loop-j.auto.j-end above, size) in
     subst (λ j. Gone o (seat_of m) (at (teller_of m) (On c.args.job.slot (Body x c.args.to (c.args.job.fields + 2)))) c.args.port.now
-        (at (teller_of m) (On c.args.job.slot (Body x c.args.to j))) c.loop-j.port)
+    (at (teller_of m) (On c.args.job.slot (Body x c.args.to j))) c.loop-j.port)
     last c.loop-j.invariant

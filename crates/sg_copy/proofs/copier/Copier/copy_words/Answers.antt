@@ -1,4 +1,3 @@
-use Rattle.std.proofs.Common.{◌≡◌, ℕ, ◌+◌, ◌<◌, arith, rules}
 use Rattle.sg_round.specs.Worker.{On, Body}
 use Rattle.sg_copy.specs.Telling.{at}
 use Rattle.sg_copy.specs.State.{teller_of, seat_of, object_of}
@@ -27,7 +26,7 @@ load-word-requires-clause-may g c =
     let m = c.args.self.now in
     let x = object_of c.args.job in
     let on = on_then o (seat_of m) (at (teller_of m) (On c.args.job.slot (Body x c.args.to 1)))
-        (at (teller_of m) (On c.args.job.slot (Body x c.args.to c.loop-j.j))) c.args.port.now c.loop-j.port
+    (at (teller_of m) (On c.args.job.slot (Body x c.args.to c.loop-j.j))) c.args.port.now c.loop-j.port
     c.requires c.loop-j.invariant in
     read_may o (seat_of m) (teller_of m) c.args.job.slot x c.args.to c.loop-j.j c.loop-j.port on c.loop-j-test.true
 
@@ -37,7 +36,7 @@ store-requires-clause-may g c =
     let m = c.args.self.now in
     let x = object_of c.args.job in
     let on = on_then o (seat_of m) (at (teller_of m) (On c.args.job.slot (Body x c.args.to 1)))
-        (at (teller_of m) (On c.args.job.slot (Body x c.args.to c.loop-j.j))) c.args.port.now c.loop-j.port
+    (at (teller_of m) (On c.args.job.slot (Body x c.args.to c.loop-j.j))) c.args.port.now c.loop-j.port
     c.requires c.loop-j.invariant in
     write_may o (seat_of m) (teller_of m) c.args.job.slot x c.args.to c.loop-j.j c.loop-j.port on c.loop-j-test.true c.load-word.result c.load-word.new.self
     c.load-word.ensures.seen c.load-word.ensures.led

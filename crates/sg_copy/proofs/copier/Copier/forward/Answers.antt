@@ -1,15 +1,14 @@
-use Rattle.std.proofs.Common.{◌≡◌, ℕ, ◌<◌, length, sym, ap, ◌∙◌, subst, arith}
-use Rattle.sg_words.specs.Address.{byte_at, word_at}
+use Rattle.std.proofs.Common.{◌≡◌, ◌<◌, length, ap, ◌∙◌, arith}
+use Rattle.sg_words.specs.Address.{byte_at}
 use Rattle.sg_words.specs.Tags.{plain_word, forward_word}
 use Rattle.sg_words.specs.declared.steps.Place.TheVariants.{Word}
 use Rattle.sg_words.specs.declared.steps.Step.TheVariants.{Won, Lost}
 use Rattle.sg_words.specs.declared.steps.Call.TheVariants.{Swaps}
-use Rattle.sg_copy.specs.declared.copier.Stage.{Stage}
 use Rattle.sg_copy.specs.declared.copier.Stage.TheVariants.{Between}
-use Rattle.sg_round.specs.Worker.{On as OnSlot, Swap, Send, Look, Idle, size_for}
+use Rattle.sg_round.specs.Worker.{On as OnSlot, Swap, Send, Look, size_for}
 use Rattle.sg_copy.specs.Telling.{at}
 use Rattle.sg_copy.specs.State.{Copying, teller_of, seat_of, object_of}
-use Rattle.sg_copy.proofs.Ports.{Ports, On, Did}
+use Rattle.sg_copy.proofs.Ports.{Ports, Did}
 use Rattle.sg_copy.proofs.Looks.{send_may, sent_on}
 use Rattle.sg_copy.proofs.Swaps.{swap_word_may, swapped, forwarded, lost_to, forward_may, has_forwarded, has_lost}
 use Rattle.sg_copy.proofs.Handled.{seat_same, same_moved, same_spares, at_moved, at_spare, moves_room, on_as, handled_idle, handled_as, begun_then}
@@ -32,9 +31,11 @@ swap_first-requires g c =
     let o = ports g in
     let m = c.args.self.now in
     let x = object_of c.args.job in
-    record { may = swap_word_may o (seat_of m) (λ w v. Swaps (Word w) v (forward_word (byte_at c.args.to))) x.x (plain_word x.class) c.at_word.result
-        c.write_tag-plain.result c.at_word.ensures c.write_tag-plain.ensures
-        c.args.port.now (forward_may o (seat_of m) (teller_of m) c.args.job.slot x c.args.to c.args.port.now c.requires.on) }
+    record {
+      may = swap_word_may o (seat_of m) (λ w v. Swaps (Word w) v (forward_word (byte_at c.args.to))) x.x (plain_word x.class) c.at_word.result
+          c.write_tag-plain.result c.at_word.ensures c.write_tag-plain.ensures
+          c.args.port.now (forward_may o (seat_of m) (teller_of m) c.args.job.slot x c.args.to c.args.port.now c.requires.on);
+    }
 
 pub tell_move-requires-clause-room : goal.tell_move-requires-clause-room
 tell_move-requires-clause-room g c =
@@ -46,9 +47,9 @@ tell_move-requires-clause-room g c =
     let x = object_of c.args.job in
     let to = c.args.to in
     let did : Did o (seat_of m) p (Won (Word x.x) (plain_word x.class) (forward_word (byte_at to))) q =
-        swapped o (seat_of m) (λ w v. Won (Word w) v (forward_word (byte_at to))) x.x (plain_word x.class) c.at_word.result c.write_tag-plain.result
-            c.at_word.ensures c.write_tag-plain.ensures p q
-        c.in-Ok.ensures.seen c.in-Ok.ensures.led in
+    swapped o (seat_of m) (λ w v. Won (Word w) v (forward_word (byte_at to))) x.x (plain_word x.class) c.at_word.result c.write_tag-plain.result
+    c.at_word.ensures c.write_tag-plain.ensures p q
+    c.in-Ok.ensures.seen c.in-Ok.ensures.led in
     let has = has_forwarded o (seat_of m) (teller_of m) s x to p c.requires.on q did in
     let here = forwarded o (seat_of m) (teller_of m) s x to p c.requires.on in
     moves_room m.layout m.moves m.fails x.x has.0.guided.is_sane.few
@@ -63,9 +64,9 @@ store-requires-clause-may g c =
     let x = object_of c.args.job in
     let to = c.args.to in
     let did : Did o (seat_of m) p (Won (Word x.x) (plain_word x.class) (forward_word (byte_at to))) q =
-        swapped o (seat_of m) (λ w v. Won (Word w) v (forward_word (byte_at to))) x.x (plain_word x.class) c.at_word.result c.write_tag-plain.result
-            c.at_word.ensures c.write_tag-plain.ensures p q
-        c.in-Ok.ensures.seen c.in-Ok.ensures.led in
+    swapped o (seat_of m) (λ w v. Won (Word w) v (forward_word (byte_at to))) x.x (plain_word x.class) c.at_word.result c.write_tag-plain.result
+    c.at_word.ensures c.write_tag-plain.ensures p q
+    c.in-Ok.ensures.seen c.in-Ok.ensures.led in
     let has = has_forwarded o (seat_of m) (teller_of m) s x to p c.requires.on q did in
     let here = forwarded o (seat_of m) (teller_of m) s x to p c.requires.on in
     let k = c.tell_move.new.self in
@@ -85,16 +86,16 @@ look-requires-clause-on g c =
     let to = c.args.to in
     let found = c.in-Err.field-0 in
     let did : Did o (seat_of m) p (Lost (Word x.x) (plain_word x.class) (forward_word (byte_at to)) found) q =
-        swapped o (seat_of m) (λ w v. Lost (Word w) v (forward_word (byte_at to)) found) x.x (plain_word x.class) c.at_word.result
-            c.write_tag-plain.result c.at_word.ensures c.write_tag-plain.ensures p q
-        c.in-Err.ensures.seen c.in-Err.ensures.led in
+    swapped o (seat_of m) (λ w v. Lost (Word w) v (forward_word (byte_at to)) found) x.x (plain_word x.class) c.at_word.result
+    c.write_tag-plain.result c.at_word.ensures c.write_tag-plain.ensures p q
+    c.in-Err.ensures.seen c.in-Err.ensures.led in
     let has = has_lost o (seat_of m) (teller_of m) s x to p c.requires.on found q did in
     let here = lost_to o (seat_of m) (teller_of m) s x to p c.requires.on in
     let k = c.set_spare.new.self in
     let same = same_spares m k _ c.set_spare.ensures.value in
     let room : c.size_of.result < length m.spares = omega (arith, c.size_of.ensures.most, c.set_spare.ensures.length) in
     let is : at (teller_of k) (OnSlot s (Look x.x)) ≡ here = at_spare m k c.size_of.result (size_for x) to (OnSlot s (Look x.x))
-        c.set_spare.ensures.value c.size_of.ensures.size room in
+    c.set_spare.ensures.value c.size_of.ensures.size room in
     on_as o (seat_of m) (seat_of k) here _ q (seat_same m k same.copier) is has.0
 
 pub returns-in-Ok : goal.returns-in-Ok
@@ -107,9 +108,9 @@ returns-in-Ok g c =
     let x = object_of c.args.job in
     let to = c.args.to in
     let did : Did o (seat_of m) p (Won (Word x.x) (plain_word x.class) (forward_word (byte_at to))) q =
-        swapped o (seat_of m) (λ w v. Won (Word w) v (forward_word (byte_at to))) x.x (plain_word x.class) c.at_word.result c.write_tag-plain.result
-            c.at_word.ensures c.write_tag-plain.ensures p q
-        c.in-Ok.ensures.seen c.in-Ok.ensures.led in
+    swapped o (seat_of m) (λ w v. Won (Word w) v (forward_word (byte_at to))) x.x (plain_word x.class) c.at_word.result c.write_tag-plain.result
+    c.at_word.ensures c.write_tag-plain.ensures p q
+    c.in-Ok.ensures.seen c.in-Ok.ensures.led in
     let has = has_forwarded o (seat_of m) (teller_of m) s x to p c.requires.on q did in
     let here = forwarded o (seat_of m) (teller_of m) s x to p c.requires.on in
     let k = c.tell_move.new.self in
@@ -133,15 +134,15 @@ returns-in-Err g c =
     let to = c.args.to in
     let found = c.in-Err.field-0 in
     let did : Did o (seat_of m) p (Lost (Word x.x) (plain_word x.class) (forward_word (byte_at to)) found) q =
-        swapped o (seat_of m) (λ w v. Lost (Word w) v (forward_word (byte_at to)) found) x.x (plain_word x.class) c.at_word.result
-            c.write_tag-plain.result c.at_word.ensures c.write_tag-plain.ensures p q
-        c.in-Err.ensures.seen c.in-Err.ensures.led in
+    swapped o (seat_of m) (λ w v. Lost (Word w) v (forward_word (byte_at to)) found) x.x (plain_word x.class) c.at_word.result
+    c.write_tag-plain.result c.at_word.ensures c.write_tag-plain.ensures p q
+    c.in-Err.ensures.seen c.in-Err.ensures.led in
     let has = has_lost o (seat_of m) (teller_of m) s x to p c.requires.on found q did in
     let here = lost_to o (seat_of m) (teller_of m) s x to p c.requires.on in
     let k = c.set_spare.new.self in
     let same = same_spares m k _ c.set_spare.ensures.value in
     let room : c.size_of.result < length m.spares = omega (arith, c.size_of.ensures.most, c.set_spare.ensures.length) in
     let is : at (teller_of k) (OnSlot s (Look x.x)) ≡ here = at_spare m k c.size_of.result (size_for x) to (OnSlot s (Look x.x))
-        c.set_spare.ensures.value c.size_of.ensures.size room in
+    c.set_spare.ensures.value c.size_of.ensures.size room in
     begun_then o m c.look.new.self (at (teller_of m) (OnSlot s (Swap x to))) here p q c.look.new.port has.1
     (handled_as o m k c.look.new.self here (at (teller_of k) (OnSlot s (Look x.x))) q c.look.new.port same is c.look.ensures)

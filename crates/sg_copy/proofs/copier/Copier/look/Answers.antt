@@ -1,8 +1,7 @@
-use Rattle.std.proofs.Common.{◌≡◌, ℕ, subst, sym}
 use Rattle.sg_round.specs.Worker.{On as OnSlot, Look, Size, Send, Idle}
 use Rattle.sg_copy.specs.Telling.{at}
 use Rattle.sg_copy.specs.State.{teller_of, seat_of, staying}
-use Rattle.sg_copy.proofs.Ports.{Ports, On, Gone, on_then, gone_then}
+use Rattle.sg_copy.proofs.Ports.{Ports, gone_then}
 use Rattle.sg_copy.proofs.Looks.{look_may, plain_seen, forwarded_seen, staying_seen, send_may, sent_on}
 use Rattle.sg_copy.proofs.Handled.{handled_idle, handled_then}
 use Rattle.sg_copy.proofs.copier.Copier.look.Given.{Over}
@@ -27,7 +26,7 @@ store-requires-clause-may g c =
     let o = ports g in
     let m = c.args.self.now in
     let seen = forwarded_seen o (seat_of m) (teller_of m) c.args.slot c.args.target c.args.port.now c.requires.on c.load.result c.load.new.self
-        c.load.ensures.seen c.load.ensures.led c.in-Forwarded.to c.in-Forwarded.ensures in
+    c.load.ensures.seen c.load.ensures.led c.in-Forwarded.to c.in-Forwarded.ensures in
     send_may o (seat_of m) (teller_of m) c.args.slot c.in-Forwarded.to c.load.new.self seen.0
 
 pub mark-requires : goal.mark-requires
@@ -35,7 +34,7 @@ mark-requires g c =
     let o = ports g in
     let m = c.args.self.now in
     (staying_seen o (seat_of m) (teller_of m) c.args.slot c.args.target c.args.port.now c.requires.on c.load.result c.load.new.self
-        c.load.ensures.seen c.load.ensures.led
+    c.load.ensures.seen c.load.ensures.led
     c.in-Staying.ensures.0 c.in-Staying.ensures.1).0
 
 pub prepare-requires-clause-on : goal.prepare-requires-clause-on
@@ -43,7 +42,7 @@ prepare-requires-clause-on g c =
     let o = ports g in
     let m = c.args.self.now in
     (plain_seen o (seat_of m) (teller_of m) c.args.slot c.args.target c.args.port.now c.requires.on c.load.result c.load.new.self c.load.ensures.seen
-        c.load.ensures.led
+    c.load.ensures.led
     c.in-Plain.class c.in-Plain.ensures.1).0
 
 pub returns-in-Forwarded : goal.returns-in-Forwarded
@@ -54,7 +53,7 @@ returns-in-Forwarded g c =
     let q = c.load.new.self in
     let r = c.store.new.self in
     let seen = forwarded_seen o (seat_of m) (teller_of m) c.args.slot c.args.target p c.requires.on c.load.result q c.load.ensures.seen
-        c.load.ensures.led c.in-Forwarded.to c.in-Forwarded.ensures in
+    c.load.ensures.led c.in-Forwarded.to c.in-Forwarded.ensures in
     let start = at (teller_of m) (OnSlot c.args.slot (Look c.args.target)) in
     handled_idle o m start p r c.requires.between
     (gone_then o (seat_of m) start (at (teller_of m) (OnSlot c.args.slot (Send c.in-Forwarded.to))) (at (teller_of m) Idle) p q r seen.1
@@ -68,7 +67,7 @@ returns-in-Staying g c =
     let q = c.load.new.self in
     let r = c.mark.new.port in
     let seen = staying_seen o (seat_of m) (teller_of m) c.args.slot c.args.target p c.requires.on c.load.result q c.load.ensures.seen
-        c.load.ensures.led c.in-Staying.ensures.0 c.in-Staying.ensures.1 in
+    c.load.ensures.led c.in-Staying.ensures.0 c.in-Staying.ensures.1 in
     let start = at (teller_of m) (OnSlot c.args.slot (Look c.args.target)) in
     handled_idle o m start p r c.requires.between
     (gone_then o (seat_of m) start (at (teller_of m) (staying (seat_of m).area c.args.slot)) (at (teller_of m) Idle) p q r seen.1 c.mark.ensures)
@@ -80,7 +79,7 @@ returns-in-Plain g c =
     let p = c.args.port.now in
     let q = c.load.new.self in
     let seen = plain_seen o (seat_of m) (teller_of m) c.args.slot c.args.target p c.requires.on c.load.result q c.load.ensures.seen c.load.ensures.led
-        c.in-Plain.class c.in-Plain.ensures.1 in
+    c.in-Plain.class c.in-Plain.ensures.1 in
     let start = at (teller_of m) (OnSlot c.args.slot (Look c.args.target)) in
     handled_then o m c.prepare.new.self start (at (teller_of m) (OnSlot c.args.slot (Size c.args.target c.in-Plain.class))) p q c.prepare.new.port
-        seen.1 c.prepare.ensures
+    seen.1 c.prepare.ensures

@@ -1,10 +1,8 @@
-use Rattle.std.proofs.Common.{◌≡◌, ℕ, [], ◌∷◌, sym, ap, ◌∙◌, subst}
+use Rattle.std.proofs.Common.{◌≡◌, [], ◌∷◌, sym, subst}
 use Rattle.sg_words.specs.declared.steps.Place.TheVariants.{Card}
-use Rattle.sg_words.specs.declared.steps.Step.{Step}
 use Rattle.sg_words.specs.declared.steps.Step.TheVariants.{Store}
 use Rattle.sg_words.specs.declared.steps.Call.TheVariants.{Stores}
-use Rattle.sg_round.specs.Area.{card_at}
-use Rattle.sg_round.specs.Worker.{Mid, Dirty, Idle, On as OnSlot}
+use Rattle.sg_round.specs.Worker.{Mid, Idle}
 use Rattle.sg_copy.specs.Telling.{at}
 use Rattle.sg_copy.specs.State.{teller_of, seat_of, staying}
 use Rattle.sg_copy.proofs.Ports.{Ports, On, Gone, none_yet}
@@ -44,7 +42,7 @@ returns-in-Some g c =
     subst (λ (mid : Mid). Gone o (seat_of m) (at (teller_of m) mid) x (at (teller_of m) Idle) y) (sym card.0)
     (card_marked o (seat_of m) (teller_of m) s x on y
     (subst (λ k. o.sees x (Store (Card k) 1)) card.1 c.mark_card.ensures.seen)
-        (subst (λ k. o.leads x (Store (Card k) 1 ∷ []) y) card.1 c.mark_card.ensures.led))
+    (subst (λ k. o.leads x (Store (Card k) 1 ∷ []) y) card.1 c.mark_card.ensures.led))
 
 pub returns-in_default : goal.returns-in_default
 returns-in_default g c =
@@ -53,4 +51,4 @@ returns-in_default g c =
     let none : staying (seat_of m).area c.args.slot ≡ Idle = c.in_default.ensures in
     subst (λ (mid : Mid). Gone o (seat_of m) (at (teller_of m) mid) c.args.port.now (at (teller_of m) Idle) c.args.port.now) (sym none)
     (none_yet o (seat_of m) (at (teller_of m) Idle) c.args.port.now
-        (subst (λ (mid : Mid). On o (seat_of m) c.args.port.now (at (teller_of m) mid)) none c.requires))
+    (subst (λ (mid : Mid). On o (seat_of m) c.args.port.now (at (teller_of m) mid)) none c.requires))

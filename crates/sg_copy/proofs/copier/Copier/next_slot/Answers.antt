@@ -1,8 +1,7 @@
-use Rattle.std.proofs.Common.{◌≡◌, ℕ, ◌+◌, ◌-◌, ◌<◌, ◌≤◌, Bool, true, List, [], ◌∷◌, refl, sym, ap, ◌∙◌, subst, arith, le_refl}
+use Rattle.std.proofs.Common.{◌≡◌, ℕ, ◌-◌, ◌<◌, Bool, [], sym, ap, ◌∙◌, subst, arith}
 use Rattle.sg_desc.specs.Shapes.{is_strong}
 use Rattle.sg_words.specs.Objects.{strong_slots}
 use Rattle.sg_words.proofs.Objects.{slots-skip, slots-take}
-use Rattle.sg_copy.specs.declared.copier.Hand.{Hand}
 use Rattle.sg_copy.specs.State.{Copying, slots_in_hand}
 use Rattle.sg_copy.proofs.copier.Copier.next_slot.Goals as goal
 
@@ -17,9 +16,9 @@ returns-then-i-self-clause-next c =
     let e : i ≡ hand.fields = c.if-i-self.true in
     let same : slots_in_hand c.args.self.now.hand ≡ slots_in_hand hand = ap (λ (m : Copying). slots_in_hand m.hand) (sym c.self.view_is) in
     let skip : slots_in_hand hand ≡ strong_slots strong hand.at i (hand.fields - i) =
-        slots-skip strong hand.at hand.from i hand.fields c.next_strong-i.ensures.from c.next_strong-i.ensures.within c.next_strong-i.ensures.passed in
+    slots-skip strong hand.at hand.from i hand.fields c.next_strong-i.ensures.from c.next_strong-i.ensures.within c.next_strong-i.ensures.passed in
     let end : strong_slots strong hand.at i (hand.fields - i) ≡ [] = subst (λ n. strong_slots strong hand.at n (hand.fields - n) ≡ []) (sym e)
-        (none_to_come strong hand.at hand.fields) in
+    (none_to_come strong hand.at hand.fields) in
     (same ∙ skip ∙ end, end)
 
 pub returns-clause-next : goal.returns-clause-next
@@ -30,5 +29,5 @@ returns-clause-next c =
     let less : i < hand.fields = omega (arith, c.next_strong-i.ensures.within, c.if-i-self.false) in
     let same : slots_in_hand c.args.self.now.hand ≡ slots_in_hand hand = ap (λ (m : Copying). slots_in_hand m.hand) (sym c.self.view_is) in
     let skip : slots_in_hand hand ≡ strong_slots strong hand.at i (hand.fields - i) =
-        slots-skip strong hand.at hand.from i hand.fields c.next_strong-i.ensures.from c.next_strong-i.ensures.within c.next_strong-i.ensures.passed in
+    slots-skip strong hand.at hand.from i hand.fields c.next_strong-i.ensures.from c.next_strong-i.ensures.within c.next_strong-i.ensures.passed in
     same ∙ skip ∙ slots-take strong hand.at i hand.fields less (c.next_strong-i.ensures.strong less)

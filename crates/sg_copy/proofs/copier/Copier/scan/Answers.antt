@@ -1,10 +1,9 @@
-use Rattle.std.proofs.Common.{◌≡◌, ℕ, ◌-◌, ◌<◌, refl, sym, ap, subst}
+use Rattle.std.proofs.Common.{◌-◌, ◌<◌, sym, subst}
 use Rattle.sg_copy.specs.declared.copier.Hand.{Hand}
 use Rattle.sg_round.specs.Worker.{Idle}
 use Rattle.sg_copy.specs.Telling.{at}
-use Rattle.sg_copy.specs.State.{teller_of, seat_of}
-use Rattle.sg_copy.proofs.Ports.{Ports, none_yet}
-use Rattle.sg_copy.proofs.Handled.{same_self}
+use Rattle.sg_copy.specs.State.{teller_of}
+use Rattle.sg_copy.proofs.Ports.{Ports}
 use Rattle.sg_copy.proofs.Handing.{scan_on, scan_next, scanned, scan_ends}
 use Rattle.sg_copy.proofs.copier.Copier.scan.Given.{Over}
 use Rattle.sg_copy.proofs.copier.Copier.scan.Goals as goal
@@ -48,7 +47,7 @@ returns-then-not-is_between-clause-gone g c =
     let next = scan_next o m s k c.in-Some.slot p y c.requires.on i.gone i.same i.between c.next_slot.ensures.same c.in-Some.ensures.next in
     let begun = c.visit.ensures here next on in
     let all = scanned o m s k c.in-Some.slot p y c.requires.on i.gone i.same i.between c.next_slot.ensures.same c.in-Some.ensures.next
-        c.visit.new.self c.visit.new.port begun in
+    c.visit.new.self c.visit.new.port begun in
     all.0
 
 pub returns-then-not-is_between-clause-same : goal.returns-then-not-is_between-clause-same
@@ -65,7 +64,7 @@ returns-then-not-is_between-clause-same g c =
     let next = scan_next o m s k c.in-Some.slot p y c.requires.on i.gone i.same i.between c.next_slot.ensures.same c.in-Some.ensures.next in
     let begun = c.visit.ensures here next on in
     let all = scanned o m s k c.in-Some.slot p y c.requires.on i.gone i.same i.between c.next_slot.ensures.same c.in-Some.ensures.next
-        c.visit.new.self c.visit.new.port begun in
+    c.visit.new.self c.visit.new.port begun in
     all.1
 
 pub loop-slot-smaller : goal.loop-slot-smaller
@@ -82,7 +81,7 @@ loop-slot-smaller g c =
     let next = scan_next o m s k c.in-Some.slot p y c.requires.on i.gone i.same i.between c.next_slot.ensures.same c.in-Some.ensures.next in
     let begun = c.visit.ensures here next on in
     let all = scanned o m s k c.in-Some.slot p y c.requires.on i.gone i.same i.between c.next_slot.ensures.same c.in-Some.ensures.next
-        c.visit.new.self c.visit.new.port begun in
+    c.visit.new.self c.visit.new.port begun in
     subst (λ (hand : Hand). hand.fields - hand.from < s.hand.fields - s.hand.from) (sym begun.same.hand) c.in-Some.ensures.fewer
 
 pub loop-slot-preserved : goal.loop-slot-preserved
@@ -99,7 +98,7 @@ loop-slot-preserved g c =
     let next = scan_next o m s k c.in-Some.slot p y c.requires.on i.gone i.same i.between c.next_slot.ensures.same c.in-Some.ensures.next in
     let begun = c.visit.ensures here next on in
     let all = scanned o m s k c.in-Some.slot p y c.requires.on i.gone i.same i.between c.next_slot.ensures.same c.in-Some.ensures.next
-        c.visit.new.self c.visit.new.port begun in
+    c.visit.new.self c.visit.new.port begun in
     record { gone = all.0; same = all.1; between = c.is_between.ensures.0 c.if-not-is_between.false }
 
 pub returns-clause-gone : goal.returns-clause-gone

@@ -1,13 +1,10 @@
-use Rattle.std.proofs.Common.{◌≡◌, ℕ, sym, ap, ◌∙◌, subst}
-use Rattle.sg_words.specs.declared.steps.Step.{Step}
+use Rattle.std.proofs.Common.{sym, subst}
 use Rattle.sg_slots.specs.Looks.{MayLook, AreLooks}
-use Rattle.sg_slots.specs.declared.search.Found.{Found}
 use Rattle.sg_slots.specs.declared.search.Found.TheVariants.{Free, Slot, None}
 use Rattle.sg_round.specs.Worker.{size_for}
 use Rattle.sg_copy.specs.declared.copier.Stage.TheVariants.{Taking, Claiming, Pinning}
-use Rattle.sg_copy.specs.Telling.{at}
 use Rattle.sg_copy.specs.State.{teller_of, seat_of, object_of}
-use Rattle.sg_copy.proofs.Ports.{Ports, On, Gone}
+use Rattle.sg_copy.proofs.Ports.{Ports}
 use Rattle.sg_copy.proofs.Places.{look_at, may_look, looked}
 use Rattle.sg_copy.proofs.Handled.{handled_at}
 use Rattle.sg_copy.proofs.copier.Copier.search.Given.{Over}
@@ -42,10 +39,10 @@ returns-in-Free g c =
     let p = c.args.port.now in
     let look = c.in-Free.ensures in
     let are : AreLooks (size_for x) (seat_of m).area.blocks c.args.from look.0 (Free c.in-Free.block) =
-        subst (λ n. AreLooks (size_for x) n c.args.from look.0 (Free c.in-Free.block)) c.requires.on.blocks_are
-        (subst (λ z. AreLooks z (o.blocks p) c.args.from look.0 (Free c.in-Free.block)) c.size_of.ensures.size look.2) in
+    subst (λ n. AreLooks (size_for x) n c.args.from look.0 (Free c.in-Free.block)) c.requires.on.blocks_are
+    (subst (λ z. AreLooks z (o.blocks p) c.args.from look.0 (Free c.in-Free.block)) c.size_of.ensures.size look.2) in
     handled_at o m c.set_stage.new.self (look_at o (seat_of m) (teller_of m) c.args.job.slot x c.args.from) p c.find.new.port
-        (Taking c.args.job c.in-Free.block) c.set_stage.ensures tt
+    (Taking c.args.job c.in-Free.block) c.set_stage.ensures tt
     (looked o (seat_of m) (teller_of m) c.args.job.slot x c.args.from p c.requires.on look.0 (Free c.in-Free.block) c.find.new.port are look.1)
 
 pub returns-in-Slot : goal.returns-in-Slot
@@ -56,10 +53,10 @@ returns-in-Slot g c =
     let p = c.args.port.now in
     let look = c.in-Slot.ensures in
     let are : AreLooks (size_for x) (seat_of m).area.blocks c.args.from look.0 (Slot c.in-Slot.block c.in-Slot.slot) =
-        subst (λ n. AreLooks (size_for x) n c.args.from look.0 (Slot c.in-Slot.block c.in-Slot.slot)) c.requires.on.blocks_are
-        (subst (λ z. AreLooks z (o.blocks p) c.args.from look.0 (Slot c.in-Slot.block c.in-Slot.slot)) c.size_of.ensures.size look.2) in
+    subst (λ n. AreLooks (size_for x) n c.args.from look.0 (Slot c.in-Slot.block c.in-Slot.slot)) c.requires.on.blocks_are
+    (subst (λ z. AreLooks z (o.blocks p) c.args.from look.0 (Slot c.in-Slot.block c.in-Slot.slot)) c.size_of.ensures.size look.2) in
     handled_at o m c.set_stage-in-Slot.new.self (look_at o (seat_of m) (teller_of m) c.args.job.slot x c.args.from) p c.find.new.port
-        (Claiming c.args.job c.in-Slot.block c.in-Slot.slot) c.set_stage-in-Slot.ensures tt
+    (Claiming c.args.job c.in-Slot.block c.in-Slot.slot) c.set_stage-in-Slot.ensures tt
     (looked o (seat_of m) (teller_of m) c.args.job.slot x c.args.from p c.requires.on look.0 (Slot c.in-Slot.block c.in-Slot.slot) c.find.new.port are look.1)
 
 pub returns-in-None : goal.returns-in-None
@@ -70,8 +67,8 @@ returns-in-None g c =
     let p = c.args.port.now in
     let look = c.in-None.ensures in
     let are : AreLooks (size_for x) (seat_of m).area.blocks c.args.from look.0 (None) =
-        subst (λ n. AreLooks (size_for x) n c.args.from look.0 (None)) c.requires.on.blocks_are
-        (subst (λ z. AreLooks z (o.blocks p) c.args.from look.0 (None)) c.size_of.ensures.size look.2) in
+    subst (λ n. AreLooks (size_for x) n c.args.from look.0 (None)) c.requires.on.blocks_are
+    (subst (λ z. AreLooks z (o.blocks p) c.args.from look.0 (None)) c.size_of.ensures.size look.2) in
     handled_at o m c.set_stage-in-None.new.self (look_at o (seat_of m) (teller_of m) c.args.job.slot x c.args.from) p c.find.new.port
-        (Pinning c.args.job) c.set_stage-in-None.ensures tt
+    (Pinning c.args.job) c.set_stage-in-None.ensures tt
     (looked o (seat_of m) (teller_of m) c.args.job.slot x c.args.from p c.requires.on look.0 (None) c.find.new.port are look.1)

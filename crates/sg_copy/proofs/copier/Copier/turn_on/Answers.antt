@@ -1,4 +1,4 @@
-use Rattle.std.proofs.Common.{◌≡◌, refl, subst}
+use Rattle.std.proofs.Common.{refl, subst}
 use Rattle.sg_copy.specs.Telling.{Seat}
 use Rattle.sg_copy.specs.State.{teller_of, seat_of}
 use Rattle.sg_copy.proofs.Ports.{Ports, Gone, on_started, started_then}

@@ -1,9 +1,8 @@
-use Rattle.std.proofs.Common.{◌≡◌, ℕ, ◌*◌, ◌<◌, ◌^◌, subst, sym, arith}
+use Rattle.std.proofs.Common.{subst, sym, arith}
 use Rattle.sg_round.specs.Worker.{On as OnSlot, Look, Idle}
-use Rattle.sg_copy.specs.declared.copier.Stage.TheVariants.{Between}
 use Rattle.sg_copy.specs.Telling.{at}
 use Rattle.sg_copy.specs.State.{teller_of, seat_of, IsOnSlot}
-use Rattle.sg_copy.proofs.Ports.{Ports, On, Started}
+use Rattle.sg_copy.proofs.Ports.{Ports}
 use Rattle.sg_round.specs.Items.{SlotOf}
 use Rattle.sg_copy.proofs.Handing.{next_sane}
 use Rattle.sg_copy.proofs.Looks.{slot_may, slot_empty, slot_full}
@@ -28,7 +27,7 @@ overflow_mul-slot g c =
     let a = c.requires.on.0 in
     let sane = c.requires.on.2.guided.is_sane.worker in
     let is = next_sane (seat_of m).area (seat_of m).team (seat_of m).most (seat_of m).number a.worker (at (teller_of m) Idle).worker
-        (SlotOf c.args.slot) c.requires.on.1.next sane in
+    (SlotOf c.args.slot) c.requires.on.1.next sane in
     let end = is.1 in
     let small = sane.limits.small in
     omega (arith, end, small)
@@ -42,7 +41,7 @@ pub look-requires-clause-on : goal.look-requires-clause-on
 look-requires-clause-on g c =
     let m = c.args.self.now in
     (slot_full (ports g) (seat_of m) (teller_of m) c.args.slot c.requires.on.0 c.requires.on.1 c.args.port.now c.requires.on.2 c.load-value.result
-        c.load-value.new.self
+    c.load-value.new.self
     c.load-value.ensures.seen c.load-value.ensures.led c.in-Some.target c.in-Some.ensures.found.0 c.in-Some.ensures.found.1).0
 
 pub returns-in-Some : goal.returns-in-Some
@@ -50,16 +49,16 @@ returns-in-Some g c a isn on =
     let o = ports g in
     let m = c.args.self.now in
     let full = slot_full o (seat_of m) (teller_of m) c.args.slot a isn c.args.port.now on c.load-value.result c.load-value.new.self
-        c.load-value.ensures.seen c.load-value.ensures.led c.in-Some.target c.in-Some.ensures.found.0 c.in-Some.ensures.found.1 in
+    c.load-value.ensures.seen c.load-value.ensures.led c.in-Some.target c.in-Some.ensures.found.0 c.in-Some.ensures.found.1 in
     begun_then o m c.look.new.self a (at (teller_of m) (OnSlot c.args.slot (Look c.in-Some.target))) c.args.port.now c.load-value.new.self
-        c.look.new.port full.1 c.look.ensures
+    c.look.new.port full.1 c.look.ensures
 
 pub returns-in_default : goal.returns-in_default
 returns-in_default g c a isn on =
     let o = ports g in
     let m = c.args.self.now in
     let empty = slot_empty o (seat_of m) (teller_of m) c.args.slot a isn c.args.port.now on c.load-value.result c.load-value.new.self
-        c.load-value.ensures.seen c.load-value.ensures.led c.in_default.ensures.none in
+    c.load-value.ensures.seen c.load-value.ensures.led c.in_default.ensures.none in
     record {
       started = started_to o (seat_of m) a (at (teller_of m) Idle) (teller_of m) c.args.port.now c.load-value.new.self
           (sym (idle_is m c.requires.between)) empty;

@@ -1,4 +1,4 @@
-use Rattle.std.proofs.Common.{◌≡◌, ℕ, ◌+◌, ◌<◌, ◌≤◌, [], ◌∷◌, subst, sym, arith, le_refl}
+use Rattle.std.proofs.Common.{◌+◌, [], ◌∷◌, subst, sym, le_refl}
 use Rattle.sg_words.specs.Address.{byte_at, word_at}
 use Rattle.sg_words.specs.declared.steps.Place.TheVariants.{Word}
 use Rattle.sg_words.specs.declared.steps.Step.TheVariants.{Store}
@@ -7,7 +7,7 @@ use Rattle.sg_round.specs.Worker.{On as OnSlot, Body, Swap, size_for}
 use Rattle.sg_copy.specs.declared.copier.Stage.TheVariants.{Forwarding}
 use Rattle.sg_copy.specs.Telling.{at}
 use Rattle.sg_copy.specs.State.{teller_of, seat_of, object_of}
-use Rattle.sg_copy.proofs.Ports.{Ports, On, Gone, on_then, gone_then}
+use Rattle.sg_copy.proofs.Ports.{Ports, on_then, gone_then}
 use Rattle.sg_copy.proofs.Bodies.{head_may, head_stored}
 use Rattle.sg_copy.proofs.Handled.{handled_at}
 use Rattle.sg_copy.proofs.copier.Copier.write.Given.{Over}
@@ -55,7 +55,7 @@ returns g c =
     let on1 = on_then o (seat_of m) start copied p q c.requires.on c.copy_words.ensures in
     let on2 = on_then o (seat_of m) copied full q r on1 c.clear_words.ensures in
     let last = head_stored o (seat_of m) (teller_of m) s x c.args.to (size_for x) r on2 (le_refl (size_for x)) z
-        (subst (λ v. o.sees r (Store (Word (word_at (byte_at c.args.to))) v)) c.write_tag.ensures c.store.ensures.seen)
-        (subst (λ v. o.leads r (Store (Word (word_at (byte_at c.args.to))) v ∷ []) z) c.write_tag.ensures c.store.ensures.led) in
+    (subst (λ v. o.sees r (Store (Word (word_at (byte_at c.args.to))) v)) c.write_tag.ensures c.store.ensures.seen)
+    (subst (λ v. o.leads r (Store (Word (word_at (byte_at c.args.to))) v ∷ []) z) c.write_tag.ensures c.store.ensures.led) in
     handled_at o m c.set_stage.new.self start p z (Forwarding c.args.job c.args.to) c.set_stage.ensures tt
     (gone_then o (seat_of m) start copied end p q z c.copy_words.ensures (gone_then o (seat_of m) copied full end q r z c.clear_words.ensures last))
