@@ -1,6 +1,6 @@
 -- The book after a pause: what is kept, where it stands, and whose word each word is.
 use Rattle.std.proofs.Common.{◌≡◌, ◌≢◌, ℕ, ◌+◌, ◌-◌, ◌≤◌, ◌<◌, ◌⊎◌, cond, Bool, true, false, List, length, sym, ap, ◌∙◌, subst, inl, inr, arith, le_refl}
-use Rattle.std.proofs.lemmas.Bool.{cond-true, cond-false, cases_eq, cases_lt, cases_Bool}
+use Rattle.std.proofs.lemmas.Bool.{cond-true, cond-false, cases_eq, cases_Bool}
 use Rattle.sg_words.specs.declared.pieces.Piece.{Piece}
 use Rattle.sg_words.specs.Pieces.{fronts_of}
 use Rattle.sg_program.specs.declared.program.Program.{Program}
@@ -192,7 +192,8 @@ module _ (c : Ended) where
   -- where a kept object stands
   pub data Place (n : ℕ) : Type 0 where
     Stayed : Lies n → In (c.b.address n) c.stays → section_of n ≡ Young → address_of n ≡ c.b.address n → Place n
-    Moved : Lies n → In (c.b.address n) c.moves → section_of n ≡ Old → nursery_end c.p ≤ address_of n → address_of n + words_for (c.g.size n) ≤ old_end c.p → Place n
+    Moved : Lies n → In (c.b.address n) c.moves → section_of n ≡ Old → nursery_end c.p ≤ address_of n → address_of n + words_for (c.g.size n) ≤ old_end c.p →
+        Place n
     Older : LiesOld n → section_of n ≡ Old → address_of n ≡ c.b.address n → Place n
 
   pub place : (n : ℕ) → n ≢ 0 → stands_on n ≡ true → Place n

@@ -18,5 +18,6 @@ area-of-space p s b is =
     record {
       low = refl;
       high = omega arith;
-      strong = λ c i n. ap (λ (shapes : List Shape). is_strong_in (slice_get shapes c) i) is.shapes ∙ reference_is p c i ∙ strong_any (kind_of p c) i (fields_of p c) n;
+      strong = λ c i n. ap (λ (shapes : List Shape). is_strong_in (slice_get shapes c) i) is.shapes ∙ reference_is p c i ∙ strong_any (kind_of p c) i
+          (fields_of p c) n;
     }

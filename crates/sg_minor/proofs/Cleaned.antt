@@ -22,7 +22,8 @@ use Rattle.sg_minor.proofs.Soundly.{seeded}
 -- the space but for its cards, of which those are dirty that were and are needed
 pub record IsCleaned (v w : Contents) : Type 0 where
   pub still : w ≡ record v { cards = w.cards }
-  pub dirty : (owner : ℕ → Option ℕ) → IsSoundBy v owner → (c : ℕ) → c < cards_in v.layout → (slice_index w.cards c ≡ 1) ↔ ((slice_index v.cards c ≡ 1) × HasSeed v owner c)
+  pub dirty : (owner : ℕ → Option ℕ) → IsSoundBy v owner → (c : ℕ) → c < cards_in v.layout → (slice_index w.cards c ≡ 1) ↔
+      ((slice_index v.cards c ≡ 1) × HasSeed v owner c)
 
 module _ (p : Program) (v : Contents) (g : Graph) (b : Book) (heap : HoldsHeap p v g b) (contents : IsContents v) (w : Contents) (cleaned : IsCleaned v w) where
   carded : AreCarded p (λ c. slice_index w.cards c) g b
@@ -42,10 +43,12 @@ module _ (p : Program) (v : Contents) (g : Graph) (b : Book) (heap : HoldsHeap p
         let lies = young_inside p v g b heap.0 heap.1.0 heap.1.1 contents m (λ z. absurd (omega arith)) target young in
         let low = lies.0 in
         let high = lies.1 in
-        let seed = seeded p v g b heap.0 heap.1.0 heap.1.1 contents heap.1.2 x (record { name = n; field = i; some = d; stands = stands; old = old; within = within; strong = strong; at = refl })
+        let seed = seeded p v g b heap.0 heap.1.0 heap.1.1 contents heap.1.2 x
+            (record { name = n; field = i; some = d; stands = stands; old = old; within = within; strong = strong; at = refl })
         (b.address m, held, (low, omega arith)) in
         ap (λ c. slice_index w.cards c) (sym layout)
-        ∙ (cleaned.dirty (owner_of p v g b heap.0 heap.1.0 heap.1.1 contents) (sound_by p v g b heap.0 heap.1.0 heap.1.1 contents heap.1.2) (card_of v.layout x) (omega arith)).1
+        ∙ (cleaned.dirty (owner_of p v g b heap.0 heap.1.0 heap.1.1 contents) (sound_by p v g b heap.0 heap.1.0 heap.1.1 contents heap.1.2) (card_of v.layout x)
+            (omega arith)).1
         (ap (λ c. slice_index v.cards c) layout ∙ before, (x, seed, refl));
   }
     where
@@ -83,7 +86,8 @@ module _ (p : Program) (v : Contents) (g : Graph) (b : Book) (heap : HoldsHeap p
     ),
   )
 
-pub paused_clean : (p : Program) (v : Contents) (g : Graph) (b : Book) (ambiguous : List ℕ) (report : MinorReport) → HasPaused p g b ambiguous v report → IsContents v → (w : Contents) → IsCleaned v w →
+pub paused_clean : (p : Program) (v : Contents) (g : Graph) (b : Book) (ambiguous : List ℕ) (report : MinorReport) → HasPaused p g b ambiguous v report →
+    IsContents v → (w : Contents) → IsCleaned v w →
     HasPaused p g b ambiguous w report
 paused_clean p v g b ambiguous report paused contents w cleaned = record {
   book = paused.book;

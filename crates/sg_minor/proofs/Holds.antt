@@ -1,6 +1,6 @@
 -- After a pause the words hold the graph by the new book.
 use Rattle.std.proofs.Common.{◌≡◌, ◌≢◌, ℕ, ◌+◌, ◌≤◌, ◌<◌, ◌⊎◌, cond, Bool, true, false, sym, refl, ap, ◌∙◌, subst, inl, inr, arith}
-use Rattle.std.proofs.lemmas.Bool.{cases_eq, cases_lt}
+use Rattle.std.proofs.lemmas.Bool.{cases_eq}
 use Rattle.sg_words.specs.Address.{byte_at}
 use Rattle.sg_desc.specs.Shapes.{holds_reference}
 use Rattle.sg_program.specs.Scripts.{kind_of, words_for}
@@ -18,7 +18,8 @@ use Rattle.sg_minor.proofs.Tiles.{next_of, limit_of, tiles-apart}
 use Rattle.sg_minor.proofs.After.{Ended, lies, young-at, sizes, names, stands_on, stood, stands-nothing, stands-kept, address_of, section_of, count, booked, at-sent, stays-still, home-in, Place, Stayed, Moved, Older, place, pictured, nil-at, owner3, tile-of, frag-owns, owns, owned}
 
 -- a field is sent where it holds a reference, to what is at `after` then
-entry-word : (address after m : ℕ → ℕ) (e : Entry) (strong : Bool) (x : ℕ) → IsOfSort strong e → ((k : ℕ) → e ≡ Ref k → after k ≡ m (address k)) → x ≡ word_of address e →
+entry-word : (address after m : ℕ → ℕ) (e : Entry) (strong : Bool) (x : ℕ) → IsOfSort strong e → ((k : ℕ) → e ≡ Ref k → after k ≡ m (address k)) → x ≡ word_of
+    address e →
     cond strong (sent m x) x ≡ word_of after e
 entry-word address after m (Ref k) true x h to e = sent-at m x (address k) e ∙ ap byte_at (sym (to k refl))
 entry-word address after m (Ref k) false x h to e = absurd h
@@ -40,7 +41,8 @@ module _ (c : Ended) where
       let d = has-field n i l in
       let s = stood c n k in
       let len = size-is c.p c.area c.tie c.w c.g c.b c.ambiguous c.owner c.heap n d s in
-      let st = strong-of c.p c.area c.tie c.w c.g c.b c.ambiguous c.owner c.heap n i s d ∙ c.law.strong c.p c.g c.plain n i (some-name n d) (c.heap.laid.objects.given n s) in
+      let st = strong-of c.p c.area c.tie c.w c.g c.b c.ambiguous c.owner c.heap n i s d ∙ c.law.strong c.p c.g c.plain n i (some-name n d)
+          (c.heap.laid.objects.given n s) in
       ap (λ (z : ℕ). c.v (z + 2 + i)) (at-sent c n s)
       ∙ (pictured c n d s (place c n d k)).fields i (omega arith)
       ∙ entry-word c.b.address (address_of c) c.m (c.g.field n i) (is_strong c.area c.w (c.b.address n) i) (c.w (c.b.address n + 2 + i))
@@ -70,7 +72,8 @@ module _ (c : Ended) where
     | inl z ↦ subst (λ j. stands_on c j ≡ true) (sym z) (stands-nothing c)
     | inr d ↦
         let s = stood c n h in
-        let r = sort-of-ref (holds_reference (kind_of c.p (c.g.class n)) i (c.g.size n)) k (subst (λ z. IsOfSort (holds_reference (kind_of c.p (c.g.class n)) i (c.g.size n)) z) e (c.heap.laid.fields.sorted n i s l)) in
+        let r = sort-of-ref (holds_reference (kind_of c.p (c.g.class n)) i (c.g.size n)) k
+            (subst (λ z. IsOfSort (holds_reference (kind_of c.p (c.g.class n)) i (c.g.size n)) z) e (c.heap.laid.fields.sorted n i s l)) in
         let here = c.law.strong c.p c.g c.plain n i (some-name n (has-field n i l)) (c.heap.laid.objects.given n s) ∙ r in
         target-kept c.p c.area c.tie c.w c.g c.b c.ambiguous c.owner c.heap c.stays c.moves c.traced n k (has-field n i l) h (d, (i, l, here, e))
   ]
@@ -84,7 +87,8 @@ module _ (c : Ended) where
   fields : Fields c.p c.v c.g (booked c)
   fields = record {
     holds = fields-hold;
-    known = λ n i k l. entry-known (holds_reference (kind_of c.p (c.g.class n)) i (c.g.size n)) (c.g.field n i) (c.heap.laid.fields.sorted n i (stood c n k) l) (λ j e. target-stands n i j k l e);
+    known = λ n i k l. entry-known (holds_reference (kind_of c.p (c.g.class n)) i (c.g.size n)) (c.g.field n i) (c.heap.laid.fields.sorted n i (stood c n k) l)
+        (λ j e. target-stands n i j k l e);
     sorted = λ n i k l. c.heap.laid.fields.sorted n i (stood c n k) l;
   }
 

@@ -63,7 +63,8 @@ split-skip f q n xs passed x no_n s = record {
   ];
 }
 
-split-over : (f : ℕ → ℕ) (q : ℕ → Bool) (n : ℕ) (xs : List ℕ) (y : ℕ) (passed : List ℕ) (x : ℕ) → f n ≡ y → IsSplit f q xs passed x → IsSplit f q (n ∷ xs) (y ∷ passed) x
+split-over : (f : ℕ → ℕ) (q : ℕ → Bool) (n : ℕ) (xs : List ℕ) (y : ℕ) (passed : List ℕ) (x : ℕ) → f n ≡ y → IsSplit f q xs passed x → IsSplit f q (n ∷ xs)
+    (y ∷ passed) x
 split-over f q n xs y passed x first s = record {
   before = n ∷ s.before;
   name = s.name;
@@ -101,7 +102,8 @@ split-at f q (n ∷ xs) [] x rest e = elim (cases_Bool (q n)) [
 ]
 split-at f q (n ∷ xs) (y ∷ passed) x rest e = elim (cases_Bool (q n)) [
   | inl is ↦ (let k = passing f q n xs (y ∷ (passed ++ x ∷ rest)) e is in
-      split-over f q n xs y passed x (same-head (f n) y (map f (filter q xs)) (passed ++ x ∷ rest) k) (split-at f q xs passed x rest (same-tail (f n) y (map f (filter q xs)) (passed ++ x ∷ rest) k)))
+      split-over f q n xs y passed x (same-head (f n) y (map f (filter q xs)) (passed ++ x ∷ rest) k)
+          (split-at f q xs passed x rest (same-tail (f n) y (map f (filter q xs)) (passed ++ x ∷ rest) k)))
   | inr is ↦ split-skip f q n xs (y ∷ passed) x is (split-at f q xs (y ∷ passed) x rest (failing f q n xs (y ∷ (passed ++ x ∷ rest)) e is))
 ]
 
@@ -109,14 +111,16 @@ module _ (area : Area) (w : ℕ → ℕ) where
   target-at : (v a : ℕ) → v ≡ byte_at a → target area w v ≡ cond (is_plain area w a) (a ∷ []) []
   target-at v a e =
       let q : word_at v ≡ a = ap word_at e ∙ word_at-byte_at a in
-      cond-true _ (cond (is_plain area w (word_at v)) (word_at v ∷ []) []) [] (eq-eqb v (byte_at (word_at v)) (e ∙ ap byte_at (sym q))) ∙ ap (λ (z : ℕ). cond (is_plain area w z) (z ∷ []) []) q
+      cond-true _ (cond (is_plain area w (word_at v)) (word_at v ∷ []) []) [] (eq-eqb v (byte_at (word_at v)) (e ∙ ap byte_at (sym q))) ∙ ap
+          (λ (z : ℕ). cond (is_plain area w z) (z ∷ []) []) q
 
   plain-of : (x : ℕ) → is_plain area w x ≡ true → IsYoung area x × (w x ≡ plain_word (class_of (w x)))
   plain-of x e = ((grind (arith, nat_tests), grind (arith, nat_tests)), grind (arith, nat_tests))
 
   targets-append : (xs ys : List ℕ) → targets area w (xs ++ ys) ≡ targets area w xs ++ targets area w ys
   targets-append [] ys = refl
-  targets-append (x ∷ xs) ys = ap (λ (l : List ℕ). target area w (w x) ++ l) (targets-append xs ys) ∙ sym (append_assoc (target area w (w x)) (targets area w xs) (targets area w ys))
+  targets-append (x ∷ xs) ys = ap (λ (l : List ℕ). target area w (w x) ++ l) (targets-append xs ys) ∙ sym
+      (append_assoc (target area w (w x)) (targets area w xs) (targets area w ys))
 
   -- a word that is no young address leads nowhere
   target-none : (v : ℕ) → is_young_word area v ≡ false → target area w v ≡ []
@@ -133,12 +137,14 @@ module _ (area : Area) (w : ℕ → ℕ) where
   targets-filter v (s ∷ xs) same =
       let more = targets-filter v xs (λ z i. same z (in-there z s xs i)) in
       elim (cases_Bool (holds_young area v s)) [
-        | inl e ↦ ap (λ (l : List ℕ). targets area w l) (cond-true _ (s ∷ filter (holds_young area v) xs) _ e) ∙ ap (λ (l : List ℕ). target area w (w s) ++ l) more
+        | inl e ↦ ap (λ (l : List ℕ). targets area w l) (cond-true _ (s ∷ filter (holds_young area v) xs) _ e) ∙ ap (λ (l : List ℕ). target area w (w s) ++ l)
+            more
         | inr e ↦ ap (λ (l : List ℕ). targets area w l) (cond-false _ (s ∷ filter (holds_young area v) xs) _ e) ∙ more
             ∙ ap (λ (l : List ℕ). l ++ targets area w xs) (sym (target-none (w s) (ap (λ (z : ℕ). is_young_word area z) (same s (in-here s s xs refl)) ∙ e)))
       ]
 
-module _ (p : Program) (w : ℕ → ℕ) (g : Graph) (b : Book) (owner : ℕ → Owner) (t : IsHeap p w g b owner) (ambiguous pins : List ℕ) (ps : ArePins g b ambiguous pins)
+module _ (p : Program) (w : ℕ → ℕ) (g : Graph) (b : Book) (owner : ℕ → Owner) (t : IsHeap p w g b owner) (ambiguous pins : List ℕ)
+    (ps : ArePins g b ambiguous pins)
     (w1 : ℕ → ℕ) (tg : HasTagged w pins w1) where
   -- whether an object is plain now
   abbrev moves : ℕ → Bool
@@ -163,7 +169,8 @@ module _ (p : Program) (w : ℕ → ℕ) (g : Graph) (b : Book) (owner : ℕ →
       let below = i.1 in
       elim (tag-of p w g b owner t ambiguous pins ps w1 tg n m.0.1 m.0.0) [
         | inl h ↦ absurd (let q = ps.each (b.address n) h.0 in
-            let same = common p w g b owner t q.0 n (b.address n) q.1.0.1 m.0.1 (let e = q.2 in omega arith) (let e = q.2 in omega arith) (le_refl _) (omega arith) in
+            let same = common p w g b owner t q.0 n (b.address n) q.1.0.1 m.0.1 (let e = q.2 in omega arith) (let e = q.2 in omega arith) (le_refl _)
+                (omega arith) in
             m.1 (subst (IsPinned g b ambiguous) same q.1))
         | inr h ↦ (let e = h.1 in let same : w1 (b.address n) ≡ plain_word (class_of (w1 (b.address n))) = omega arith in
             cond-true _ _ _ (le-leb nursery_base (b.address n) i.0) ∙ cond-true _ _ _ (lt-ltb (b.address n) (nursery_end p) (omega arith)) ∙ eq-eqb _ _ same)
@@ -200,14 +207,18 @@ module _ (p : Program) (w : ℕ → ℕ) (g : Graph) (b : Book) (owner : ℕ →
   hold-globals zero l = tt
   hold-globals (suc k) l =
       subst (λ (names : List ℕ). Hold (global_slots (layout_of p) (suc k)) names) (sym (map-append g.global (numbers_below k) (k ∷ [])))
-      (subst (λ (slots : List ℕ). Hold slots (map g.global (numbers_below k) ++ g.global k ∷ [])) (sym (map-append (λ (x : ℕ). globals_base (layout_of p) + x) (numbers_below k) (k ∷ [])))
-      (hold-append (global_slots (layout_of p) k) (map g.global (numbers_below k)) ((globals_base (layout_of p) + k) ∷ []) (g.global k ∷ []) (hold-globals k (omega arith))
-      ((outer p w g b owner t ambiguous pins ps w1 tg (globals_base (layout_of p) + k) (λ y. (let u = y.1 in omega arith)) ∙ t.laid.globals.holds k (omega arith), (t.laid.globals.known k (omega arith)).0), tt)))
+      (subst (λ (slots : List ℕ). Hold slots (map g.global (numbers_below k) ++ g.global k ∷ []))
+          (sym (map-append (λ (x : ℕ). globals_base (layout_of p) + x) (numbers_below k) (k ∷ [])))
+      (hold-append (global_slots (layout_of p) k) (map g.global (numbers_below k)) ((globals_base (layout_of p) + k) ∷ []) (g.global k ∷ [])
+          (hold-globals k (omega arith))
+      ((outer p w g b owner t ambiguous pins ps w1 tg (globals_base (layout_of p) + k) (λ y. (let u = y.1 in omega arith)) ∙ t.laid.globals.holds k
+          (omega arith), (t.laid.globals.known k (omega arith)).0), tt)))
 
   -- a strong field and the name in it
   field-ref : (n i : ℕ) → b.stands n ≡ true → i < g.size n → field_refers p g n i ≡ true → (k : ℕ) × (g.field n i ≡ Ref k) × Holds (b.address n + 2 + i) k
   field-ref n i s l e =
-      let k = ref-of (g.field n i) (subst (λ (z : Bool). IsOfSort z (g.field n i)) (strong_holds (kind_of p (g.class n)) i (g.size n) e) (t.laid.fields.sorted n i s l)) in (
+      let k = ref-of (g.field n i) (subst (λ (z : Bool). IsOfSort z (g.field n i)) (strong_holds (kind_of p (g.class n)) i (g.size n) e)
+          (t.laid.fields.sorted n i s l)) in (
         k.0,
         k.1,
         (
@@ -216,7 +227,8 @@ module _ (p : Program) (w : ℕ → ℕ) (g : Graph) (b : Book) (owner : ℕ →
         ),
       )
 
-  hold-fields : (n : ℕ) → b.stands n ≡ true → (i k : ℕ) → i + k ≤ g.size n → Hold (strong_slots (field_refers p g n) (b.address n) i k) (names_in (field_refers p g n) (g.field n) i k)
+  hold-fields : (n : ℕ) → b.stands n ≡ true → (i k : ℕ) → i + k ≤ g.size n → Hold (strong_slots (field_refers p g n) (b.address n) i k)
+      (names_in (field_refers p g n) (g.field n) i k)
   hold-fields n s i zero l = tt
   hold-fields n s i (suc k) l =
       let slots = strong_slots (field_refers p g n) (b.address n) (suc i) k in
@@ -225,8 +237,10 @@ module _ (p : Program) (w : ℕ → ℕ) (g : Graph) (b : Book) (owner : ℕ →
       elim (cases_Bool (field_refers p g n i)) [
         | inl e ↦ (let f = field-ref n i s (omega arith) e in
             subst (λ (xs : List ℕ). Hold xs (names_in (field_refers p g n) (g.field n) i (suc k))) (sym (cond-true _ ((b.address n + 2 + i) ∷ slots) slots e))
-            (subst (λ (ns : List ℕ). Hold ((b.address n + 2 + i) ∷ slots) ns) (sym (cond-true _ (name_in (g.field n i) ++ names) names e ∙ ap (λ (z : Entry). name_in z ++ names) f.1)) (f.2, more)))
-        | inr e ↦ subst (λ (xs : List ℕ). Hold xs (names_in (field_refers p g n) (g.field n) i (suc k))) (sym (cond-false _ ((b.address n + 2 + i) ∷ slots) slots e))
+            (subst (λ (ns : List ℕ). Hold ((b.address n + 2 + i) ∷ slots) ns)
+                (sym (cond-true _ (name_in (g.field n i) ++ names) names e ∙ ap (λ (z : Entry). name_in z ++ names) f.1)) (f.2, more)))
+        | inr e ↦ subst (λ (xs : List ℕ). Hold xs (names_in (field_refers p g n) (g.field n) i (suc k)))
+            (sym (cond-false _ ((b.address n + 2 + i) ∷ slots) slots e))
             (subst (λ (ns : List ℕ). Hold slots ns) (sym (cond-false _ (name_in (g.field n i) ++ names) names e)) more)
       ]
 
@@ -236,18 +250,22 @@ module _ (p : Program) (w : ℕ → ℕ) (g : Graph) (b : Book) (owner : ℕ →
       (hold-fields n (each n (in-here n n names refl)) 0 (g.size n) (omega arith)) (hold-all names (λ m i. each m (in-there m n names i)))
 
   -- the slots of objects that are found, by their names
-  pub slots-named : (names : List ℕ) → ((n : ℕ) → In n names → (n ≢ 0) × (b.stands n ≡ true)) → strong_of (area_for p) w1 (map b.address names) ≡ flat_map (slots_of_name p g b) names
+  pub slots-named : (names : List ℕ) → ((n : ℕ) → In n names → (n ≢ 0) × (b.stands n ≡ true)) → strong_of (area_for p) w1 (map b.address names) ≡ flat_map
+      (slots_of_name p g b) names
   slots-named [] each = refl
   slots-named (n ∷ names) each =
       let o = each n (in-here n n names refl) in
-      ap (λ (f : ℕ → Bool). strong_slots f (b.address n) 0 (w1 (b.address n + 1)) ++ strong_of (area_for p) w1 (map b.address names)) (fun_ext (λ i. strong p w g b owner t ambiguous pins ps w1 tg n i o.1 o.0))
-      ∙ ap (λ (z : ℕ). strong_slots (field_refers p g n) (b.address n) 0 z ++ strong_of (area_for p) w1 (map b.address names)) (len p w g b owner t ambiguous pins ps w1 tg n o.1 o.0)
+      ap (λ (f : ℕ → Bool). strong_slots f (b.address n) 0 (w1 (b.address n + 1)) ++ strong_of (area_for p) w1 (map b.address names))
+          (fun_ext (λ i. strong p w g b owner t ambiguous pins ps w1 tg n i o.1 o.0))
+      ∙ ap (λ (z : ℕ). strong_slots (field_refers p g n) (b.address n) 0 z ++ strong_of (area_for p) w1 (map b.address names))
+          (len p w g b owner t ambiguous pins ps w1 tg n o.1 o.0)
       ∙ ap (λ (l : List ℕ). slots_of_name p g b n ++ l) (slots-named names (λ m i. each m (in-there m n names i)))
 
   same-object : (m n : ℕ) → b.stands m ≡ true → b.stands n ≡ true → b.address m ≡ b.address n → m ≡ n
   same-object m n sm sn e = common p w g b owner t m n (b.address m) sm sn (le_refl _) (omega arith) (omega arith) (omega arith)
 
-  pub in-names : (names : List ℕ) → ((n : ℕ) → In n names → b.stands n ≡ true) → (m : ℕ) → b.stands m ≡ true → In (b.address m) (map b.address names) → In m names
+  pub in-names : (names : List ℕ) → ((n : ℕ) → In n names → b.stands n ≡ true) → (m : ℕ) → b.stands m ≡ true → In (b.address m) (map b.address names) → In m
+      names
   in-names names each m s h =
       let q = map_in b.address (b.address m) names h in
       subst (λ (z : ℕ). In z names) (same-object q.0 m (each q.0 q.1) s q.2) q.1
@@ -256,10 +274,14 @@ module _ (p : Program) (w : ℕ → ℕ) (g : Graph) (b : Book) (owner : ℕ →
       (items : List ℕ) (items-are : items ≡ filter (holds_young (area_for p) w) (slots_outside p g b old) ++ flat_map (slots_of_name p g b) pinned)
       (outside : (s : ℕ) → In s (slots_outside p g b old) → w1 s ≡ w s) where
     all-hold : (found : List ℕ) → ((n : ℕ) → In n found → b.stands n ≡ true) →
-        Hold ((slots_outside p g b old ++ flat_map (slots_of_name p g b) pinned) ++ flat_map (slots_of_name p g b) found) (leads_of p g (items_of p g old pinned) found)
-    all-hold found each = hold-append (slots_outside p g b old ++ flat_map (slots_of_name p g b) pinned) (items_of p g old pinned) (flat_map (slots_of_name p g b) found) (flat_map (targets_of p g) found)
-        (hold-append (slots_outside p g b old) (map g.global (numbers_below 64) ++ flat_map (targets_of p g) old) (flat_map (slots_of_name p g b) pinned) (flat_map (targets_of p g) pinned)
-        (hold-append (global_slots (layout_of p) 64) (map g.global (numbers_below 64)) (flat_map (slots_of_name p g b) old) (flat_map (targets_of p g) old) (hold-globals 64 (le_refl _)) (hold-all old olds))
+        Hold ((slots_outside p g b old ++ flat_map (slots_of_name p g b) pinned) ++ flat_map (slots_of_name p g b) found)
+            (leads_of p g (items_of p g old pinned) found)
+    all-hold found each = hold-append (slots_outside p g b old ++ flat_map (slots_of_name p g b) pinned) (items_of p g old pinned)
+        (flat_map (slots_of_name p g b) found) (flat_map (targets_of p g) found)
+        (hold-append (slots_outside p g b old) (map g.global (numbers_below 64) ++ flat_map (targets_of p g) old) (flat_map (slots_of_name p g b) pinned)
+            (flat_map (targets_of p g) pinned)
+        (hold-append (global_slots (layout_of p) 64) (map g.global (numbers_below 64)) (flat_map (slots_of_name p g b) old) (flat_map (targets_of p g) old)
+            (hold-globals 64 (le_refl _)) (hold-all old olds))
         (hold-all pinned pinneds))
         (hold-all found each)
 
@@ -279,8 +301,10 @@ module _ (p : Program) (w : ℕ → ℕ) (g : Graph) (b : Book) (owner : ℕ →
         ∙ sym (targets-append area w1 (firsts ++ whole) more)
         ∙ targets-are ((firsts ++ whole) ++ more) (leads_of p g (items_of p g old pinned) found) (all-hold found (λ n i. (each n i).0.1))
 
-    leads-stand : (found : List ℕ) → ((n : ℕ) → In n found → IsMovable g b ambiguous n) → (n : ℕ) → In n (leads_of p g (items_of p g old pinned) found) → b.stands n ≡ true
-    leads-stand found each n h = go ((slots_outside p g b old ++ flat_map (slots_of_name p g b) pinned) ++ flat_map (slots_of_name p g b) found) (leads_of p g (items_of p g old pinned) found)
+    leads-stand : (found : List ℕ) → ((n : ℕ) → In n found → IsMovable g b ambiguous n) → (n : ℕ) → In n (leads_of p g (items_of p g old pinned) found) →
+        b.stands n ≡ true
+    leads-stand found each n h = go ((slots_outside p g b old ++ flat_map (slots_of_name p g b) pinned) ++ flat_map (slots_of_name p g b) found)
+        (leads_of p g (items_of p g old pinned) found)
         (all-hold found (λ n i. (each n i).0.1)) h
       where
         go : (slots names : List ℕ) → Hold slots names → In n names → b.stands n ≡ true
@@ -306,7 +330,8 @@ module _ (p : Program) (w : ℕ → ℕ) (g : Graph) (b : Book) (owner : ℕ →
         let e : map b.address (filter moves (leads_of p g (items_of p g old pinned) q.names)) ≡ first.passed ++ x ∷ first.rest =
         sym (leads-are q.names q.each) ∙ ap (λ (l : List ℕ). leads (area_for p) w1 items l) q.at ∙ first.split in
         let s = split-at b.address moves (leads_of p g (items_of p g old pinned) q.names) first.passed x first.rest e in
-        let mine : In s.name (leads_of p g (items_of p g old pinned) q.names) = subst (λ (l : List ℕ). In s.name l) (sym s.split) (in-middle s.before s.name s.rest) in
+        let mine : In s.name (leads_of p g (items_of p g old pinned) q.names) = subst (λ (l : List ℕ). In s.name l) (sym s.split)
+            (in-middle s.before s.name s.rest) in
         let is = movable s.name (leads-stand q.names q.each s.name mine) s.passes in
         record {
           names = q.names ++ s.name ∷ [];
@@ -320,7 +345,8 @@ module _ (p : Program) (w : ℕ → ℕ) (g : Graph) (b : Book) (owner : ℕ →
             rest = s.rest;
             split = s.split;
             of_sort = is;
-            new = out s.name q.names (λ i. false≢true (sym first.new ∙ subst (λ (l : List ℕ). In x l) q.at (subst (λ (z : ℕ). In z (map b.address q.names)) s.at (in_map b.address s.name q.names i))));
+            new = out s.name q.names (λ i. false≢true (sym first.new ∙ subst (λ (l : List ℕ). In x l) q.at
+                (subst (λ (z : ℕ). In z (map b.address q.names)) s.at (in_map b.address s.name q.names i))));
             known = λ m i k. in-names q.names (λ n j. (q.each n j).0.1) m k.0.1
                 (subst (λ (l : List ℕ). In (b.address m) l) (sym q.at) (first.known (b.address m) (s.known m i (moves-is m k)) tt));
           });
@@ -349,12 +375,14 @@ module _ (p : Program) (w : ℕ → ℕ) (g : Graph) (b : Book) (owner : ℕ →
             all = λ n h k. in-names q.names (λ n j. (q.each n j).0.1) n k.0.1
                 (subst (λ (l : List ℕ). In (b.address n) l) (sym q.at) (s.all (b.address n)
                 (subst (λ (l : List ℕ). In (b.address n) l) (sym (leads-are q.names q.each) ∙ ap (λ (l : List ℕ). leads (area_for p) w1 items l) q.at)
-                (in_map b.address n (filter moves (leads_of p g (items_of p g old pinned) q.names)) (filter-in moves n (leads_of p g (items_of p g old pinned) q.names) h (moves-is n k)))) tt));
+                (in_map b.address n (filter moves (leads_of p g (items_of p g old pinned) q.names))
+                    (filter-in moves n (leads_of p g (items_of p g old pinned) q.names) h (moves-is n k)))) tt));
           };
         }
 
 -- names of numbers that have one
-pub names-of : (b : Book) (sort : ℕ → Type 0) (xs : List ℕ) → ((a : ℕ) → In a xs → (n : ℕ) × sort n × (b.address n ≡ a)) → (ns : List ℕ) × (map b.address ns ≡ xs) × ((n : ℕ) → In n ns → sort n)
+pub names-of : (b : Book) (sort : ℕ → Type 0) (xs : List ℕ) → ((a : ℕ) → In a xs → (n : ℕ) × sort n × (b.address n ≡ a)) → (ns : List ℕ) ×
+    (map b.address ns ≡ xs) × ((n : ℕ) → In n ns → sort n)
 names-of b sort [] each = ([], refl, λ n h. absurd (let z = h in cc))
 names-of b sort (a ∷ xs) each =
     let first = each a (in-here a a xs refl) in
@@ -369,11 +397,13 @@ names-of b sort (a ∷ xs) each =
 
 -- what goes, for n slot words, and then the rest
 abbrev FirstFits : Area → (ℕ → ℕ) → (ℕ → ℕ) → (ℕ → BlockWord) → (ℕ → ℕ) → ℕ → List ℕ → List ℕ → List ℕ → (ℕ → BlockWord) → (ℕ → ℕ) → ℕ → Type 0
-FirstFits area w m block used x moves fails found block' used' z = (b : ℕ) × (i : ℕ) × (rest : List ℕ) × IsLowest area block used z b i × (m x ≡ place area b z i) ×
+FirstFits area w m block used x moves fails found block' used' z = (b : ℕ) × (i : ℕ) × (rest : List ℕ) × IsLowest area block used z b i ×
+    (m x ≡ place area b z i) ×
     (moves ≡ x ∷ rest) × Fits area w m (put block b (Swept z)) (put used b (bit_or (used b) (2 ^ i))) rest fails found block' used'
 
 -- what fits, by words that give these objects the same sizes
-pub fits-same : (area : Area) (w v m : ℕ → ℕ) (block block' : ℕ → BlockWord) (used used' : ℕ → ℕ) (moves fails found : List ℕ) → ((a : ℕ) → In a found → w (a + 1) ≡ v (a + 1)) →
+pub fits-same : (area : Area) (w v m : ℕ → ℕ) (block block' : ℕ → BlockWord) (used used' : ℕ → ℕ) (moves fails found : List ℕ) →
+    ((a : ℕ) → In a found → w (a + 1) ≡ v (a + 1)) →
     Fits area w m block used moves fails found block' used' → Fits area v m block used moves fails found block' used'
 fits-same area w v m block block' used used' moves fails [] same f = f
 fits-same area w v m block block' used used' moves fails (x ∷ found) same f =
@@ -389,7 +419,8 @@ fits-same area w v m block block' used used' moves fails (x ∷ found) same f =
             q.3,
             q.4,
             q.5,
-            fits-same area w v m (put block q.0 (Swept (slot_size (size_of w x)))) block' (put used q.0 (bit_or (used q.0) (2 ^ q.1))) used' q.2 fails found more q.6,
+            fits-same area w v m (put block q.0 (Swept (slot_size (size_of w x)))) block' (put used q.0 (bit_or (used q.0) (2 ^ q.1))) used' q.2 fails found
+                more q.6,
           ))
       | inr q ↦ inr (
         q.0,

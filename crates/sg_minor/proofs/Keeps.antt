@@ -20,7 +20,8 @@ use Rattle.sg_minor.proofs.Named.{field_refers, first, length, strong-of, pin-na
 use Rattle.sg_minor.proofs.Starts.{IsStart, AtGlobal, AtField, AreStarts}
 use Rattle.sg_minor.proofs.Opens.{start-word, named, traced-young}
 
-module _ (p : Program) (w : ℕ → ℕ) (g : Graph) (b : Book) (owner : ℕ → Owner) (t : IsHeap p w g b owner) (ambiguous pins : List ℕ) (ps : ArePins g b ambiguous pins)
+module _ (p : Program) (w : ℕ → ℕ) (g : Graph) (b : Book) (owner : ℕ → Owner) (t : IsHeap p w g b owner) (ambiguous pins : List ℕ)
+    (ps : ArePins g b ambiguous pins)
     (w1 : ℕ → ℕ) (tg : HasTagged w pins w1) (items : List ℕ) (sd : AreStarts p w g b pins items)
     (moves fails : List ℕ) (m round : ℕ → ℕ) (cp : IsImage (area_for p) w1 items (λ _. true) moves fails m round (λ _. false)) where
   name-of : (a : ℕ) → Traces (area_for p) w1 items a → (n : ℕ) × (n ≢ 0) × (b.stands n ≡ true) × (b.address n ≡ a)
@@ -54,13 +55,16 @@ module _ (p : Program) (w : ℕ → ℕ) (g : Graph) (b : Book) (owner : ℕ →
       let i = q.1.0 in
       let l : i < g.size n = let u = q.1.1 in let z = length p w g b owner t n s d in omega arith in
       let e : field_refers p g n i ≡ true = sym (strong-of p w g b owner t n i s d) ∙ q.1.2 in
-      (i, l, e, q.1.3, (q.0, (i, let z = len p w g b owner t ambiguous pins ps w1 tg n s d in omega arith, strong p w g b owner t ambiguous pins ps w1 tg n i s d ∙ e, inner-field p w g b owner t ambiguous pins ps w1 tg n i s l ∙ q.1.3)))
+      (i, l, e, q.1.3, (q.0, (i, let z = len p w g b owner t ambiguous pins ps w1 tg n s d in omega arith, strong p w g b owner t ambiguous pins ps w1 tg n i s
+          d ∙ e, inner-field p w g b owner t ambiguous pins ps w1 tg n i s l ∙ q.1.3)))
 
-  points-back : (n c i : ℕ) → n ≢ 0 → b.stands n ≡ true → IsYoung (area_for p) c → i < g.size n → field_refers p g n i ≡ true → w (b.address n + 2 + i) ≡ byte_at c → Points (area_for p) w (b.address n) c
+  points-back : (n c i : ℕ) → n ≢ 0 → b.stands n ≡ true → IsYoung (area_for p) c → i < g.size n → field_refers p g n i ≡ true → w (b.address n + 2 + i) ≡
+      byte_at c → Points (area_for p) w (b.address n) c
   points-back n c i d s y l e q = (y, (i, let z = length p w g b owner t n s d in omega arith, strong-of p w g b owner t n i s d ∙ e, q))
 
   pin-young : (a : ℕ) → In a pins → IsYoung (area_for p) a
-  pin-young a h = let k = pin-named p w g b owner t ambiguous pins ps a h in let i = in-nursery p w g b owner t k.0 k.2 k.1 k.3 in let i0 = i.0 in let i1 = i.1 in let e = k.4 in (omega arith, omega arith)
+  pin-young a h = let k = pin-named p w g b owner t ambiguous pins ps a h in let i = in-nursery p w g b owner t k.0 k.2 k.1 k.3 in let i0 = i.0 in let i1 =
+      i.1 in let e = k.4 in (omega arith, omega arith)
 
   abbrev IsReached : ℕ → Type 0
   IsReached = Reached (Points (area_for p) w) (IsItem p (area_for p) w g b ambiguous)
@@ -119,7 +123,8 @@ module _ (p : Program) (w : ℕ → ℕ) (g : Graph) (b : Book) (owner : ℕ →
     ];
   }
     where
-      follow : (a c : ℕ) → IsKept (pins ++ fails) moves a → (n i : ℕ) → n ≢ 0 → b.stands n ≡ true → b.address n ≡ a → i < g.size n → field_refers p g n i ≡ true → w (b.address n + 2 + i) ≡ byte_at c → Points (area_for p) w1 a c → IsKept (pins ++ fails) moves c
+      follow : (a c : ℕ) → IsKept (pins ++ fails) moves a → (n i : ℕ) → n ≢ 0 → b.stands n ≡ true → b.address n ≡ a → i < g.size n → field_refers p g n i ≡
+          true → w (b.address n + 2 + i) ≡ byte_at c → Points (area_for p) w1 a c → IsKept (pins ++ fails) moves c
       follow a c (inr h) n i d s e l k q x = sorted c (Next a c (cp.moved a h).0 x)
       follow a c (inl h) n i d s e l k q x = elim (in-cases a pins fails h) [
         | inl j ↦ start-sorted (b.address n + 2 + i) c (AtField n i d s (inr (subst (λ (z : ℕ). In z pins) (sym e) j)) l k refl) q x.0

@@ -5,7 +5,7 @@ use Rattle.std.specs.Int.Bits.{bit_or}
 use Rattle.std.proofs.lemmas.Bool.{cases_eq}
 use Rattle.std.proofs.lemmas.Nat.Bits.{bit_at-zero}
 use Rattle.sg_words.specs.Words.{put}
-use Rattle.sg_words.specs.Blocks.{IsSizeClass, slot_size, slots}
+use Rattle.sg_words.specs.Blocks.{IsSizeClass, slots}
 use Rattle.sg_words.specs.declared.steps.BlockWord.{BlockWord}
 use Rattle.sg_words.specs.declared.steps.BlockWord.TheVariants.{Free, Swept}
 use Rattle.sg_words.proofs.Blocks.{slot_size-class, slot_size-holds, class_bounds, slot_fits, slot_once, bit_set, bit_same, bit_kept}
@@ -13,9 +13,8 @@ use Rattle.sg_words.proofs.Puts.{put-at, put-same, put-other}
 use Rattle.sg_program.specs.declared.program.Program.{Program}
 use Rattle.sg_program.specs.Scripts.{words_for}
 use Rattle.sg_graph.specs.Graph.{Graph}
-use Rattle.sg_graph.specs.Book.{Book, Old, nursery_end, block_at, slot_at, slot_words, IsWordOf, IsInBlock, IsInSlot, IsEmptySlot, IsOfSize, IsOpenSlot, IsShut, IsFirstSlot}
+use Rattle.sg_graph.specs.Book.{Book, Old, nursery_end, slot_at, slot_words, IsWordOf, IsInBlock, IsInSlot, IsEmptySlot, IsOfSize, IsShut, IsFirstSlot}
 use Rattle.sg_graph.specs.Copies.{moved_to_slot}
-use Rattle.sg_round.specs.Area.{Area}
 use Rattle.sg_round.specs.Order.{IsLowest}
 use Rattle.sg_round.specs.Round.{IsPassed, IsClear}
 use Rattle.sg_minor.proofs.Areas.{area_for}
@@ -63,7 +62,8 @@ module _ (p : Program) (g : Graph) (d : Book) (block : ℕ → BlockWord) (used 
   in_block n j h = let q = by.seated n h.some h.stands h.old in ap block (sym (seat_block n j h q)) ∙ q.state
 
   -- a word of a standing object that is one of a slot
-  word_seat : (n x c z i : ℕ) → IsWordOf g d n x → i < slots z → slot_at p c z i ≤ x → x < slot_at p c z i + z → (d.section n ≡ Old) × ((q : IsSeated p g d block used n) → q.block ≡ c)
+  word_seat : (n x c z i : ℕ) → IsWordOf g d n x → i < slots z → slot_at p c z i ≤ x → x < slot_at p c z i + z → (d.section n ≡ Old) ×
+      ((q : IsSeated p g d block used n) → q.block ≡ c)
   word_seat n x c z i h l from to =
       let low = h.above in
       let high = h.below in
@@ -144,7 +144,8 @@ module _ (p : Program) (g : Graph) (d : Book) (block : ℕ → BlockWord) (used 
   }
 
   -- the object n, which was young, goes to the slot
-  module _ (n j i : ℕ) (some : 1 ≤ n) (stands : d.stands n ≡ true) (young : d.section n ≢ Old) (low : IsLowest (area_for p) block used (slot_words (g.size n)) j i) where
+  module _ (n j i : ℕ) (some : 1 ≤ n) (stands : d.stands n ≡ true) (young : d.section n ≢ Old)
+      (low : IsLowest (area_for p) block used (slot_words (g.size n)) j i) where
     abbrev z : ℕ
     z = slot_words (g.size n)
 
@@ -248,7 +249,8 @@ module _ (p : Program) (g : Graph) (d : Book) (block : ℕ → BlockWord) (used 
           let m = filled_there k (sym (ap (λ u. bit_at u k) (new_used c here)) ∙ set) in
           (m.0, subst (λ b. IsInSlot p g d' m.0 b y k) (sym here) (subst (λ u. IsInSlot p g d' m.0 j u k) size m.1))
       | inr other ↦
-          let m = by.filled c y k there (sym (put-other block j (Swept z) c other) ∙ e) (sym (ap (λ u. bit_at u k) (put-other used j (bit_or (used j) (2 ^ i)) c other)) ∙ set) in
+          let m = by.filled c y k there (sym (put-other block j (Swept z) c other) ∙ e)
+              (sym (ap (λ u. bit_at u k) (put-other used j (bit_or (used j) (2 ^ i)) c other)) ∙ set) in
           (m.0, keeps_slot m.0 c y k m.1)
     ]
 
@@ -276,7 +278,8 @@ module _ (p : Program) (g : Graph) (d : Book) (block : ℕ → BlockWord) (used 
       filled = filled_new;
       states = λ c there. elim (cases_eq c j) [
         | inl e ↦ inr (z, slot_size-class (words_for (g.size n)), new_state c e)
-        | inr other ↦ subst (λ (w : BlockWord). (w ≡ Free) ⊎ ((y : ℕ) × IsSizeClass y × (w ≡ Swept y))) (sym (put-other block j (Swept z) c other)) (by.states c there)
+        | inr other ↦ subst (λ (w : BlockWord). (w ≡ Free) ⊎ ((y : ℕ) × IsSizeClass y × (w ≡ Swept y))) (sym (put-other block j (Swept z) c other))
+            (by.states c there)
       ];
       bare = λ c there e. elim (cases_eq c j) [
         | inl here ↦ absurd (free-swept (block' c) z e (new_state c here))
@@ -303,7 +306,8 @@ pub record IsOldAs (g : Graph) (p : Program) (d e : Book) : Type 0 where
   pub stood : (n : ℕ) → 1 ≤ n → e.stands n ≡ true → d.stands n ≡ true
   pub others : (n : ℕ) → 1 ≤ n → e.stands n ≡ true → (e.section n ≡ Old) ⊎ (e.address n + words_for (g.size n) ≤ nursery_end p)
 
-module _ (p : Program) (g : Graph) (d e : Book) (block block' : ℕ → BlockWord) (used used' : ℕ → ℕ) (by : AreBlocksBy p g d block used) (alike : IsOldAs g p d e)
+module _ (p : Program) (g : Graph) (d e : Book) (block block' : ℕ → BlockWord) (used used' : ℕ → ℕ) (by : AreBlocksBy p g d block used)
+    (alike : IsOldAs g p d e)
     (blocks : (c : ℕ) → block' c ≡ block c) (bits : (c : ℕ) → used' c ≡ used c) where
   slot_as : (m c y k : ℕ) → IsInSlot p g d m c y k → IsInSlot p g e m c y k
   slot_as m c y k h =

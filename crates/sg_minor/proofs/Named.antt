@@ -37,7 +37,8 @@ byte-same a c e = omega arith
 
 module _ (p : Program) (w : ℕ → ℕ) (g : Graph) (b : Book) (owner : ℕ → Owner) (t : IsHeap p w g b owner) where
   -- two standing objects with a common word are one
-  pub common : (n k x : ℕ) → b.stands n ≡ true → b.stands k ≡ true → b.address n ≤ x → x < b.address n + (g.size n + 2) → b.address k ≤ x → x < b.address k + (g.size k + 2) → n ≡ k
+  pub common : (n k x : ℕ) → b.stands n ≡ true → b.stands k ≡ true → b.address n ≤ x → x < b.address n + (g.size n + 2) → b.address k ≤ x → x < b.address k +
+      (g.size k + 2) → n ≡ k
   common n k x sn sk l u l' u' = of-same n k (sym (t.laid.objects.owns n x sn l u) ∙ t.laid.objects.owns k x sk l' u')
 
   pub first : (n : ℕ) → b.stands n ≡ true → n ≢ 0 → w (b.address n) ≡ plain_word (g.class n)
@@ -77,10 +78,13 @@ module _ (p : Program) (w : ℕ → ℕ) (g : Graph) (b : Book) (owner : ℕ →
   strong-of n i s d = ap (λ (c : ℕ). refers p (class_of c) i) (first n s d) ∙ ap (λ (c : ℕ). refers p c i) (class-of-plain (g.class n)) ∙ refers-as n i s d
 
   -- a strong field of the graph is one of the words
-  pub field-name : (n i : ℕ) → b.stands n ≡ true → i < g.size n → field_refers p g n i ≡ true → (k : ℕ) × (b.stands k ≡ true) × (w (b.address n + 2 + i) ≡ byte_at (b.address k))
+  pub field-name : (n i : ℕ) → b.stands n ≡ true → i < g.size n → field_refers p g n i ≡ true → (k : ℕ) × (b.stands k ≡ true) ×
+      (w (b.address n + 2 + i) ≡ byte_at (b.address k))
   field-name n i s l e =
-      let k = ref-of (g.field n i) (subst (λ (z : Bool). IsOfSort z (g.field n i)) (strong_holds (kind_of p (g.class n)) i (g.size n) e) (t.laid.fields.sorted n i s l)) in
-      (k.0, (subst (λ (z : Entry). IsKnownEntry w g b z) k.1 (t.laid.fields.known n i s l)).0, t.laid.fields.holds n i s l ∙ ap (λ (z : Entry). word_of b.address z) k.1)
+      let k = ref-of (g.field n i) (subst (λ (z : Bool). IsOfSort z (g.field n i)) (strong_holds (kind_of p (g.class n)) i (g.size n) e)
+          (t.laid.fields.sorted n i s l)) in
+      (k.0, (subst (λ (z : Entry). IsKnownEntry w g b z) k.1 (t.laid.fields.known n i s l)).0, t.laid.fields.holds n i s l ∙ ap
+          (λ (z : Entry). word_of b.address z) k.1)
 
   module _ (ambiguous pins : List ℕ) (ps : ArePins g b ambiguous pins) where
     pub pin-named : (a : ℕ) → In a pins → (n : ℕ) × (n ≢ 0) × (b.stands n ≡ true) × (b.section n ≡ Young) × (b.address n ≡ a)
@@ -98,16 +102,19 @@ module _ (p : Program) (w : ℕ → ℕ) (g : Graph) (b : Book) (owner : ℕ →
       inner n j s l u = tg.same (b.address n + j) (inner-no-pin n j s l u)
 
       pub outer : (y : ℕ) → (IsYoung (area_for p) y → ⊥) → w1 y ≡ w y
-      outer y n = tg.same y (out y pins (λ h. (let k = pin-named y h in let i = in-nursery k.0 k.2 k.1 k.3 in let i1 = i.1 in let e = k.4 in n (let i0 = i.0 in omega arith, omega arith))))
+      outer y n = tg.same y (out y pins (λ h. (let k = pin-named y h in let i = in-nursery k.0 k.2 k.1 k.3 in let i1 = i.1 in let e = k.4 in n
+          (let i0 = i.0 in omega arith, omega arith))))
 
       pub inner-field : (n i : ℕ) → b.stands n ≡ true → i < g.size n → w1 (b.address n + 2 + i) ≡ w (b.address n + 2 + i)
-      inner-field n i s l = ap w1 (let z : b.address n + 2 + i ≡ b.address n + (2 + i) = omega arith in z) ∙ inner n (2 + i) s (omega arith) (omega arith) ∙ ap w (let z : b.address n + (2 + i) ≡ b.address n + 2 + i = omega arith in z)
+      inner-field n i s l = ap w1 (let z : b.address n + 2 + i ≡ b.address n + (2 + i) = omega arith in z) ∙ inner n (2 + i) s (omega arith) (omega arith) ∙ ap
+          w (let z : b.address n + (2 + i) ≡ b.address n + 2 + i = omega arith in z)
 
       pub len : (n : ℕ) → b.stands n ≡ true → n ≢ 0 → w1 (b.address n + 1) ≡ g.size n
       len n s d = inner n 1 s (le_refl _) (omega arith) ∙ length n s d
 
       -- a first word
-      pub tag-of : (n : ℕ) → b.stands n ≡ true → n ≢ 0 → (In (b.address n) pins × (w1 (b.address n) ≡ plain_word (g.class n) + 2)) ⊎ ((has (b.address n) pins ≡ false) × (w1 (b.address n) ≡ plain_word (g.class n)))
+      pub tag-of : (n : ℕ) → b.stands n ≡ true → n ≢ 0 → (In (b.address n) pins × (w1 (b.address n) ≡ plain_word (g.class n) + 2)) ⊎
+          ((has (b.address n) pins ≡ false) × (w1 (b.address n) ≡ plain_word (g.class n)))
       tag-of n s d = elim (cases_Bool (has (b.address n) pins)) [
         | inl h ↦ inl (h, tg.tagged (b.address n) h ∙ ap (λ (z : ℕ). z + 2) (first n s d))
         | inr h ↦ inr (h, tg.same (b.address n) h ∙ first n s d)

@@ -44,7 +44,8 @@ pub record IsAreaOf (p : Program) (area : Area) : Type 0 where
   pub high : area.high ≡ nursery_end p
   pub strong : (c i n : ℕ) → area.strong c i ≡ is_strong_by (kind_of p c) i n
 
-module _ (p : Program) (area : Area) (tie : IsAreaOf p area) (w : ℕ → ℕ) (g : Graph) (b : Book) (ambiguous : List ℕ) (owner : ℕ → Owner) (t : IsHeap p w g b owner) where
+module _ (p : Program) (area : Area) (tie : IsAreaOf p area) (w : ℕ → ℕ) (g : Graph) (b : Book) (ambiguous : List ℕ) (owner : ℕ → Owner)
+    (t : IsHeap p w g b owner) where
   pub young-is : (x : ℕ) → IsYoung area x → (nursery_base ≤ x) × (x < nursery_end p)
   young-is x y = let low = tie.low in let high = tie.high in let l = y.0 in let u = y.1 in (omega arith, omega arith)
 
@@ -53,7 +54,8 @@ module _ (p : Program) (area : Area) (tie : IsAreaOf p area) (w : ℕ → ℕ) (
 
   -- two standing names at one address are one
   pub same-name : (m n : ℕ) → b.stands m ≡ true → b.stands n ≡ true → b.address m ≡ b.address n → m ≡ n
-  same-name m n p q e = of-same m n (sym (t.laid.objects.owns m (b.address m) p (le_refl _) (omega arith)) ∙ ap owner e ∙ t.laid.objects.owns n (b.address n) q (le_refl _) (omega arith))
+  same-name m n p q e = of-same m n (sym (t.laid.objects.owns m (b.address m) p (le_refl _) (omega arith)) ∙ ap owner e ∙ t.laid.objects.owns n (b.address n) q
+      (le_refl _) (omega arith))
 
   -- a standing object is in the nursery or in the major heap
   pub record IsIn (n : ℕ) : Type 0 where
@@ -94,7 +96,8 @@ module _ (p : Program) (area : Area) (tie : IsAreaOf p area) (w : ℕ → ℕ) (
 
   -- a strong field
   pub field-ref : (n i : ℕ) → b.stands n ≡ true → i < g.size n → is_strong_by (kind_of p (g.class n)) i (g.size n) ≡ true → (k : ℕ) × (g.field n i ≡ Ref k)
-  field-ref n i s l e = ref-of (g.field n i) (subst (λ z. IsOfSort z (g.field n i)) (strong_holds (kind_of p (g.class n)) i (g.size n) e) (t.laid.fields.sorted n i s l))
+  field-ref n i s l e = ref-of (g.field n i) (subst (λ z. IsOfSort z (g.field n i)) (strong_holds (kind_of p (g.class n)) i (g.size n) e)
+      (t.laid.fields.sorted n i s l))
 
   pub ref-word : (n i k : ℕ) → b.stands n ≡ true → i < g.size n → g.field n i ≡ Ref k → w (b.address n + 2 + i) ≡ byte_at (b.address k)
   ref-word n i k s l e = t.laid.fields.holds n i s l ∙ ap (word_of b.address) e
@@ -139,7 +142,8 @@ module _ (p : Program) (area : Area) (tie : IsAreaOf p area) (w : ℕ → ℕ) (
           let d = young-named (g.global h.0) (subst (IsYoung area) (sym e) y) in
           let s = (t.laid.globals.known h.0 h.1).0 in
           record { name = g.global h.0; some = d; stands = s; at = e; reached = Root (g.global h.0) (d, s, inr (inr (inr (inl (h.0, h.1, refl))))) })
-      | inr h ↦ (let f = field-name h.0 a h.1 h.2 h.4 in record { name = f.0; some = f.1; stands = f.2; at = f.3; reached = Next h.0 f.0 (Root h.0 (h.1, h.2, inl h.3)) f.4 })
+      | inr h ↦ (let f = field-name h.0 a h.1 h.2 h.4 in record { name = f.0; some = f.1; stands = f.2; at = f.3; reached = Next h.0 f.0
+          (Root h.0 (h.1, h.2, inl h.3)) f.4 })
     ]
   ]
   name-of _ (Next a c r q) =
@@ -204,13 +208,15 @@ module _ (p : Program) (area : Area) (tie : IsAreaOf p area) (w : ℕ → ℕ) (
     unfolding kept
     kept-stands n k = elim (cases_Bool (b.stands n)) [
       | inl s ↦ s
-      | inr s ↦ absurd (let e = sym (cond-false _ (cond (young (b.address n)) (cond (has (b.address n) stays) true (has (b.address n) moves)) true) false s) ∙ k in cc)
+      | inr s ↦ absurd (let e = sym (cond-false _ (cond (young (b.address n)) (cond (has (b.address n) stays) true (has (b.address n) moves)) true) false s) ∙
+          k in cc)
     ]
 
     pub kept-has : (n : ℕ) → kept n ≡ true → IsYoung area (b.address n) → IsKept stays moves (b.address n)
     unfolding kept
     kept-has n k y =
-        let e : cond (has (b.address n) stays) true (has (b.address n) moves) ≡ true = sym (cond-true _ _ _ (kept-stands n k) ∙ cond-true _ _ _ (young-yes (b.address n) y)) ∙ k in
+        let e : cond (has (b.address n) stays) true (has (b.address n) moves) ≡ true = sym
+            (cond-true _ _ _ (kept-stands n k) ∙ cond-true _ _ _ (young-yes (b.address n) y)) ∙ k in
         elim (cases_Bool (has (b.address n) stays)) [
           | inl q ↦ inl q
           | inr q ↦ inr (sym (cond-false _ true (has (b.address n) moves) q) ∙ e)
@@ -260,7 +266,8 @@ module _ (p : Program) (area : Area) (tie : IsAreaOf p area) (w : ℕ → ℕ) (
         ])
 
     reached-kept : IsPlain p g → (n : ℕ) → Reached (IsTarget p g) (IsRoot p g b ambiguous) n → (n ≢ 0) × (kept n ≡ true)
-    reached-kept plain = within_closed (IsTarget p g) (IsRoot p g b ambiguous) (λ n. (n ≢ 0) × (kept n ≡ true)) (λ n r. (r.0, root-kept plain n r)) (λ n k h x. (x.0, target-kept n k h.0 h.1 x))
+    reached-kept plain = within_closed (IsTarget p g) (IsRoot p g b ambiguous) (λ n. (n ≢ 0) × (kept n ≡ true)) (λ n r. (r.0, root-kept plain n r))
+        (λ n k h x. (x.0, target-kept n k h.0 h.1 x))
 
     kept-reached : (n : ℕ) → n ≢ 0 → kept n ≡ true → Reached (IsTarget p g) (IsRoot p g b ambiguous) n
     kept-reached n d k =

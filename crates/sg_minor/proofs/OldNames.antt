@@ -1,5 +1,5 @@
 -- The old objects by address, and the seeds as their strong fields.
-use Rattle.std.proofs.Common.{◌≡◌, ◌≢◌, ℕ, zero, suc, ◌+◌, ◌*◌, ◌-◌, ◌<◌, ◌≤◌, ◌⊎◌, inl, inr, eqb, cond, Bool, true, List, [], ◌∷◌, ◌++◌, map, filter, length, get_or, Some, sym, refl, ap, ◌∙◌, subst, arith, le_refl}
+use Rattle.std.proofs.Common.{◌≡◌, ◌≢◌, ℕ, zero, suc, ◌+◌, ◌*◌, ◌<◌, ◌≤◌, inl, inr, eqb, cond, true, List, [], ◌∷◌, ◌++◌, map, filter, get_or, sym, refl, ap, ◌∙◌, subst, arith}
 use Rattle.std.specs.List.{flat_map}
 use Rattle.std.specs.List.Sorted.{IsStrictlyIncreasing}
 use Rattle.std.proofs.lemmas.Bool.{cases_eq, cases_lt, cond-true, cond-false, eq-eqb, ne_eqb}
@@ -10,14 +10,14 @@ use Rattle.std.specs.List.{Contains}
 use Rattle.sg_words.specs.Address.{byte_at, word_at}
 use Rattle.sg_words.specs.Lists.{In}
 use Rattle.sg_words.specs.Sections.{IsYoung}
-use Rattle.sg_words.proofs.Members.{has-cases, in-here, in-left, in-right, in-cases, in_map, map_in, in-filter, filter-in, in-flat, flat-in, contains_in, in_contains}
+use Rattle.sg_words.proofs.Members.{has-cases, in-here, in-left, in-right, in-cases, map_in, in-filter, filter-in, in-flat, flat-in, in_contains}
 use Rattle.sg_words.proofs.Numbers.{word_at-byte_at}
 use Rattle.sg_words.proofs.Objects.{slots-in, slots-are}
 use Rattle.sg_desc.specs.Shapes.{is_strong as is_strong_by}
 use Rattle.sg_program.specs.declared.program.Program.{Program}
 use Rattle.sg_program.specs.Scripts.{kind_of}
 use Rattle.sg_graph.specs.Graph.{Graph}
-use Rattle.sg_graph.specs.Book.{Book, Old, nursery_end, old_end}
+use Rattle.sg_graph.specs.Book.{Book, nursery_end}
 use Rattle.sg_graph.specs.Blocks.{AreSettled}
 use Rattle.sg_graph.specs.Copies.{StandsOld, AreByAddress}
 use Rattle.sg_graph.specs.Heap.{Owner, Of, Frag, Buf, Nobody, IsHeap, layout_of}
@@ -28,13 +28,14 @@ use Rattle.sg_cards.specs.Seeds.{AreSeeds}
 use Rattle.sg_copy.specs.Copying.{area_of}
 use Rattle.sg_minor.specs.Holding.{IsSpaceOf}
 use Rattle.sg_minor.specs.Joined.{global_slots, holds_young, slots_from}
-use Rattle.sg_minor.proofs.Added.{slots_of_name, slots_outside, AreSlots, young-word, young-word-is}
-use Rattle.sg_minor.proofs.Rises.{Rises, rises-from, rises-lower, rises-append, rises-filter, rises-slots, rises-flat, rises-one, rises-strict, strict-rises}
+use Rattle.sg_minor.proofs.Added.{slots_of_name, AreSlots, young-word, young-word-is}
+use Rattle.sg_minor.proofs.Rises.{Rises, rises-lower, rises-append, rises-filter, rises-slots, rises-flat, rises-one, rises-strict, strict-rises}
 use Rattle.sg_minor.proofs.Sound.{owner_of, owns, owns_first, owned, one_owner, old_inside, old_there, nursery_is, sound_by}
 use Rattle.sg_minor.proofs.Soundly.{IsSown, sown, seeded}
 
 -- the numbers of words whose addresses are in order
-pub words_in_order : (bytes : List ℕ) → IsStrictlyIncreasing bytes → ((a : ℕ) → Contains bytes a → byte_at (word_at a) ≡ a) → IsStrictlyIncreasing (map word_at bytes)
+pub words_in_order : (bytes : List ℕ) → IsStrictlyIncreasing bytes → ((a : ℕ) → Contains bytes a → byte_at (word_at a) ≡ a) → IsStrictlyIncreasing
+    (map word_at bytes)
 words_in_order bytes up whole k l =
     let n = length-map bytes word_at in
     let first = get_or-map word_at bytes k 0 0 (omega arith) in
@@ -109,7 +110,8 @@ module _ (address : ℕ → ℕ) (owner : ℕ → Owner) where
       (λ a i. let q = map_in address a (named_at address (owner x) x) i in let at = (at_name address (owner x) x q.0 q.1).1 in let same = q.2 in omega arith)
       (names_rise (suc x) k))
 
-module _ (p : Program) (s : Contents) (g : Graph) (b : Book) (is : IsSpaceOf p s b) (owner : ℕ → Owner) (heap : IsHeap p (word s) g b owner) (contents : IsContents s) where
+module _ (p : Program) (s : Contents) (g : Graph) (b : Book) (is : IsSpaceOf p s b) (owner : ℕ → Owner) (heap : IsHeap p (word s) g b owner)
+    (contents : IsContents s) where
   -- an object that begins below another one ends there or below
   pub apart : (m n : ℕ) → b.stands m ≡ true → b.stands n ≡ true → b.address m < b.address n → b.address m + (g.size m + 2) ≤ b.address n
   apart m n standing stands below = elim (cases_lt (b.address n) (b.address m + (g.size m + 2))) [
@@ -125,7 +127,8 @@ module _ (p : Program) (s : Contents) (g : Graph) (b : Book) (is : IsSpaceOf p s
   same_object m n standing stands e = one_owner p s g b is owner heap contents m n (b.address n)
       (subst (λ z. owner z ≡ Of m) e (owns_first p s g b is owner heap contents m standing)) (owns_first p s g b is owner heap contents n stands)
 
-module _ (p : Program) (s : Contents) (g : Graph) (b : Book) (is : IsSpaceOf p s b) (owner : ℕ → Owner) (heap : IsHeap p (word s) g b owner) (contents : IsContents s)
+module _ (p : Program) (s : Contents) (g : Graph) (b : Book) (is : IsSpaceOf p s b) (owner : ℕ → Owner) (heap : IsHeap p (word s) g b owner)
+    (contents : IsContents s)
     (settled : AreSettled p (words_of s) g b owner) where
   abbrev pub old_names : List ℕ
   old_names = names b.address owner (nursery_end p) (256 * p.config.blocks)
@@ -157,7 +160,8 @@ module _ (p : Program) (s : Contents) (g : Graph) (b : Book) (is : IsSpaceOf p s
       rises-flat b.address (λ n. b.address n + (g.size n + 2)) (slots_of_name p g b) lo ns r
       (λ n i. rises-lower (b.address n + 2 + 0) (b.address n) (slots_of_name p g b n) (omega arith)
       (rises-slots (λ j. is_strong_by (kind_of p (g.class n)) j (g.size n)) (b.address n) 0 (g.size n)))
-      (λ n i a h. let q = slots-are (λ j. is_strong_by (kind_of p (g.class n)) j (g.size n)) (b.address n) 0 (g.size n) a h in let l = q.1 in let e = q.3 in omega arith)
+      (λ n i a h. let q = slots-are (λ j. is_strong_by (kind_of p (g.class n)) j (g.size n)) (b.address n) 0 (g.size n) a h in let l = q.1 in let e = q.3 in
+          omega arith)
       (λ n i. omega arith)
       (λ m n i j less. apart p s g b is owner heap contents m n (each m i) (each n j) less)
       at from
@@ -182,14 +186,18 @@ module _ (p : Program) (s : Contents) (g : Graph) (b : Book) (is : IsSpaceOf p s
     ]
 
     slot_in : (xs : List Seed) (seed : Seed) → Contains xs seed → In (word_at seed.slot) (map (λ (seed : Seed). word_at seed.slot) xs)
-    slot_in xs seed h = subst (λ (z : ℕ). In z (map (λ (seed : Seed). word_at seed.slot) xs)) (get_or-map (λ (seed : Seed). word_at seed.slot) xs h.0 seed 0 h.1 ∙ ap (λ (z : Seed). word_at z.slot) h.2)
+    slot_in xs seed h = subst (λ (z : ℕ). In z (map (λ (seed : Seed). word_at seed.slot) xs))
+        (get_or-map (λ (seed : Seed). word_at seed.slot) xs h.0 seed 0 h.1 ∙ ap (λ (z : Seed). word_at z.slot) h.2)
         (in_contains (get_or (map (λ (seed : Seed). word_at seed.slot) xs) h.0 0) (map (λ (seed : Seed). word_at seed.slot) xs)
-        (Contains-get_or (map (λ (seed : Seed). word_at seed.slot) xs) h.0 0 (let n = length-map xs (λ (seed : Seed). word_at seed.slot) in let l = h.1 in omega arith)))
+        (Contains-get_or (map (λ (seed : Seed). word_at seed.slot) xs) h.0 0
+            (let n = length-map xs (λ (seed : Seed). word_at seed.slot) in let l = h.1 in omega arith)))
 
-    at_seed : (seed : Seed) → Contains found seed → (x : ℕ) × IsSown p s g b is owner heap contents settled x × (seed.slot ≡ byte_at x) × ((y : ℕ) × (word s x ≡ byte_at y) × IsYoung s.layout y)
+    at_seed : (seed : Seed) → Contains found seed → (x : ℕ) × IsSown p s g b is owner heap contents settled x × (seed.slot ≡ byte_at x) ×
+        ((y : ℕ) × (word s x ≡ byte_at y) × IsYoung s.layout y)
     at_seed seed h =
         let q = seeds.each h.0 seed (slice_get_read found _ h.0 seed refl h.1 (sym h.2)) in
-        (q.0, sown p s g b is owner heap contents settled (owner_of p s g b is owner heap contents) (sound_by p s g b is owner heap contents settled) q.0 q.1, q.2, q.1.young)
+        (q.0, sown p s g b is owner heap contents settled (owner_of p s g b is owner heap contents) (sound_by p s g b is owner heap contents settled) q.0 q.1,
+            q.2, q.1.young)
 
     young_is : (y : ℕ) → IsYoung s.layout y → (512 ≤ y) × (y < nursery_end p)
     young_is y h = let nursery = nursery_is p s g b is owner heap contents in let to = h.1 in (h.0, omega arith)
@@ -205,7 +213,8 @@ module _ (p : Program) (s : Contents) (g : Graph) (b : Book) (is : IsSpaceOf p s
         (filter-in (holds_young (area_of s) (word s)) x (flat_map (slots_of_name p g b) old_names)
         (flat-in (slots_of_name p g b) f.name x old_names (named_old f.name (f.some, f.stands, f.old))
         (subst (λ (z : ℕ). In z (slots_of_name p g b f.name)) (sym f.at)
-        (slots-in (λ i. is_strong_by (kind_of p (g.class f.name)) i (g.size f.name)) (b.address f.name) 0 (g.size f.name) f.field (omega arith) (let l = f.within in omega arith) f.strong)))
+        (slots-in (λ i. is_strong_by (kind_of p (g.class f.name)) i (g.size f.name)) (b.address f.name) 0 (g.size f.name) f.field (omega arith)
+            (let l = f.within in omega arith) f.strong)))
         (young-word (area_of s) (word s x) k.3.0 k.3.1 k.3.2))
 
     field_found : (a : ℕ) → In a (filter (holds_young (area_of s) (word s)) (flat_map (slots_of_name p g b) old_names)) → In a found_slots
@@ -230,7 +239,8 @@ module _ (p : Program) (s : Contents) (g : Graph) (b : Book) (is : IsSpaceOf p s
 
     pub found_rise : Rises 0 found_slots
     found_rise = strict-rises 0 found_slots
-        (subst (λ (l : List ℕ). IsStrictlyIncreasing l) slot_bytes (words_in_order (map (λ (seed : Seed). seed.slot) found) seeds.in_order (λ a h. whole a (in_contains a (map (λ (seed : Seed). seed.slot) found) h))))
+        (subst (λ (l : List ℕ). IsStrictlyIncreasing l) slot_bytes (words_in_order (map (λ (seed : Seed). seed.slot) found) seeds.in_order
+            (λ a h. whole a (in_contains a (map (λ (seed : Seed). seed.slot) found) h))))
         (λ a i. omega arith)
       where
         of_slot : (xs : List Seed) (a : ℕ) → In a (map (λ (seed : Seed). seed.slot) xs) → (seed : Seed) × Contains xs seed × (seed.slot ≡ a)
@@ -246,7 +256,8 @@ module _ (p : Program) (s : Contents) (g : Graph) (b : Book) (is : IsSpaceOf p s
     pub found_are : found_slots ≡ filter (holds_young (area_of s) (word s)) (flat_map (slots_of_name p g b) old_names)
     found_are = rises-one 0 found_slots (filter (holds_young (area_of s) (word s)) (flat_map (slots_of_name p g b) old_names)) found_rise
         (rises-filter (holds_young (area_of s) (word s)) 0 (flat_map (slots_of_name p g b) old_names)
-        (fields_rise (nursery_end p) 0 old_names (names_rise b.address owner (nursery_end p) (256 * p.config.blocks)) (λ n i. (old_named n i).1) (λ n i. omega arith)))
+        (fields_rise (nursery_end p) 0 old_names (names_rise b.address owner (nursery_end p) (256 * p.config.blocks)) (λ n i. (old_named n i).1)
+            (λ n i. omega arith)))
         found_field field_found
 
     -- the slots with which a round begins

@@ -20,7 +20,8 @@ use Rattle.sg_minor.proofs.Named.{field_refers, byte-same, common, first, young-
 use Rattle.sg_minor.proofs.Zoned.{IsZone}
 use Rattle.sg_minor.proofs.Starts.{IsStart, AtGlobal, AtField, AreStarts}
 
-module _ (p : Program) (w : ℕ → ℕ) (g : Graph) (b : Book) (owner : ℕ → Owner) (t : IsHeap p w g b owner) (ambiguous pins : List ℕ) (ps : ArePins g b ambiguous pins)
+module _ (p : Program) (w : ℕ → ℕ) (g : Graph) (b : Book) (owner : ℕ → Owner) (t : IsHeap p w g b owner) (ambiguous pins : List ℕ)
+    (ps : ArePins g b ambiguous pins)
     (w1 : ℕ → ℕ) (tg : HasTagged w pins w1) (items : List ℕ) (sd : AreStarts p w g b pins items) where
   -- what a slot of the beginning holds
   pub start-word : (s : ℕ) → IsStart p g b pins s → w1 s ≡ w s
@@ -49,18 +50,22 @@ module _ (p : Program) (w : ℕ → ℕ) (g : Graph) (b : Book) (owner : ℕ →
   traced-young _ (Next a c r q) = q.0
 
   -- a slot of the beginning isn't a word of a plain young object, nor the first word of one
-  start-apart : (s n : ℕ) → IsStart p g b pins s → b.stands n ≡ true → n ≢ 0 → IsYoung (area_for p) (b.address n) → b.address n ≤ s → s < b.address n + (g.size n + 2) →
+  start-apart : (s n : ℕ) → IsStart p g b pins s → b.stands n ≡ true → n ≢ 0 → IsYoung (area_for p) (b.address n) → b.address n ≤ s → s < b.address n +
+      (g.size n + 2) →
       In (b.address n) pins × ((i : ℕ) × (s ≡ b.address n + 2 + i) × (i < g.size n) × (field_refers p g n i ≡ true))
   start-apart s n (AtGlobal x l e) st d y a c = absurd (let u = e in let v = nursery p w g b owner t n st y in let v1 = v.1 in omega arith)
-  start-apart s n (AtField k i dk sk (inl o) l e u) st d y a c = absurd (let z = (nursery p w g b owner t n st y).1 in let v = in-old p w g b owner t k sk dk o in let v0 = v.0 in let q = u in omega arith)
+  start-apart s n (AtField k i dk sk (inl o) l e u) st d y a c = absurd
+      (let z = (nursery p w g b owner t n st y).1 in let v = in-old p w g b owner t k sk dk o in let v0 = v.0 in let q = u in omega arith)
   start-apart s n (AtField k i dk sk (inr o) l e u) st d y a c =
       let q : k ≡ n = common p w g b owner t k n s sk st (let z = u in omega arith) (let z = u in omega arith) a c in
-      (subst (λ (z : ℕ). In (b.address z) pins) q o, (i, u ∙ ap (λ (z : ℕ). b.address z + 2 + i) q, subst (λ (z : ℕ). i < g.size z) q l, subst (λ (z : ℕ). field_refers p g z i ≡ true) q e))
+      (subst (λ (z : ℕ). In (b.address z) pins) q o, (i, u ∙ ap (λ (z : ℕ). b.address z + 2 + i) q, subst (λ (z : ℕ). i < g.size z) q l, subst
+          (λ (z : ℕ). field_refers p g z i ≡ true) q e))
 
   size-is : (a n : ℕ) → b.stands n ≡ true → n ≢ 0 → b.address n ≡ a → w1 (a + 1) ≡ g.size n
   size-is = size-at p w g b owner t ambiguous pins ps w1 tg
 
-  tag-is : (a n : ℕ) → b.stands n ≡ true → n ≢ 0 → b.address n ≡ a → (In (b.address n) pins × (w1 a ≡ plain_word (g.class n) + 2)) ⊎ (w1 a ≡ plain_word (g.class n))
+  tag-is : (a n : ℕ) → b.stands n ≡ true → n ≢ 0 → b.address n ≡ a → (In (b.address n) pins × (w1 a ≡ plain_word (g.class n) + 2)) ⊎
+      (w1 a ≡ plain_word (g.class n))
   tag-is a n s d e = elim (tag-of p w g b owner t ambiguous pins ps w1 tg n s d) [
     | inl h ↦ inl (h.0, ap w1 (sym e) ∙ h.1)
     | inr h ↦ inr (ap w1 (sym e) ∙ h.1)
@@ -126,7 +131,8 @@ module _ (p : Program) (w : ℕ → ℕ) (g : Graph) (b : Book) (owner : ℕ →
     pub opening : IsOpening (area_for p) w1 items pins zone
     opening = record {
       above = zones.above;
-      zero = λ y e. outer p w g b owner t ambiguous pins ps w1 tg y (λ young. (let low = young.1 in let high = zones.above y e in absurd (omega arith))) ∙ zones.zero y e;
+      zero = λ y e. outer p w g b owner t ambiguous pins ps w1 tg y (λ young. (let low = young.1 in let high = zones.above y e in absurd (omega arith))) ∙
+          zones.zero y e;
       inside = λ a met. (let y = met-young a met in let n = met-named a met in let e = n.3 in
           let i = nursery p w g b owner t n.0 n.2 (subst (IsYoung (area_for p)) (sym e) y) in let i1 = i.1 in let z = size-is a n.0 n.2 n.1 e in
           let most = (t.laid.objects.shaped n.0 (let d = n.1 in omega arith) n.2).1.0 in
@@ -156,13 +162,15 @@ module _ (p : Program) (w : ℕ → ℕ) (g : Graph) (b : Book) (owner : ℕ →
           ));
       item_out = λ s a c i ta e u v. (let n = named a ta in let en = n.3 in let z = size-is a n.0 n.2 n.1 en in
           let q = start-apart s n.0 (sd.each s i) n.2 n.1 (subst (IsYoung (area_for p)) (sym en) (traced-young a ta)) (omega arith) (omega arith) in
-          let tp = tg.tagged (b.address n.0) q.0 in let f = first p w g b owner t n.0 n.2 n.1 in let e2 : w1 a ≡ w1 (b.address n.0) = ap w1 (sym en) in absurd (omega arith));
+          let tp = tg.tagged (b.address n.0) q.0 in let f = first p w g b owner t n.0 n.2 n.1 in let e2 : w1 a ≡ w1 (b.address n.0) = ap w1 (sym en) in absurd
+              (omega arith));
       item_zone = λ s i. zone-out s (sd.each s i);
       whole = λ a c i x ta q l e f y. (let n = named a ta in let en = n.3 in let z = size-is a n.0 n.2 n.1 en in
           let l' : i < g.size n.0 = omega arith in
           let e' : a + 2 + i ≡ b.address n.0 + 2 + i = ap (λ (z : ℕ). z + 2 + i) (sym en) in
           let wd : w1 (a + 2 + i) ≡ w (a + 2 + i) = ap w1 e' ∙ inner-field p w g b owner t ambiguous pins ps w1 tg n.0 i n.2 l' ∙ ap w (sym e') in
           sd.all (a + 2 + i) x
-          (AtField n.0 i n.1 n.2 (inr (fixed-tag a c n.0 n.2 n.1 en q).0) l' (sym (strong p w g b owner t ambiguous pins ps w1 tg n.0 i n.2 n.1) ∙ ap (λ (z : ℕ). is_strong (area_for p) w1 z i) en ∙ e) e')
+          (AtField n.0 i n.1 n.2 (inr (fixed-tag a c n.0 n.2 n.1 en q).0) l'
+              (sym (strong p w g b owner t ambiguous pins ps w1 tg n.0 i n.2 n.1) ∙ ap (λ (z : ℕ). is_strong (area_for p) w1 z i) en ∙ e) e')
           (sym wd ∙ f) y);
     }

@@ -29,7 +29,8 @@ use Rattle.sg_minor.proofs.Settled.{is-settled}
 use Rattle.sg_minor.proofs.Told.{minor}
 use Rattle.sg_minor.proofs.Zoned.{blocks_by, clear_heap}
 
-module _ (p : Program) (s : Contents) (g : Graph) (b : Book) (ambiguous pins moves fails : List ℕ) (m : ℕ → ℕ) (v : Contents) (standing : List Object) (report : MinorReport)
+module _ (p : Program) (s : Contents) (g : Graph) (b : Book) (ambiguous pins moves fails : List ℕ) (m : ℕ → ℕ) (v : Contents) (standing : List Object)
+    (report : MinorReport)
     (law : QuietPause) (heap : HoldsHeap p s g b) (plain : IsPlain p g) (contents : IsContents s) (pinned : ArePins g b ambiguous pins)
     (ended : IsEnded p s g b ambiguous pins moves fails m v)
     (words : HaveWords standing (word s) (pins ++ fails)) (tiles : ArePieces s.layout standing report.pieces) (fitted : IsRefitted s v report.pieces) where
@@ -59,7 +60,8 @@ module _ (p : Program) (s : Contents) (g : Graph) (b : Book) (ambiguous pins mov
   }
 
   parts_for : Fits (area_for p) (word s) m (block_in s) (used_in s) moves fails (map b.address ended.order.found) (block_in v) (used_in v)
-  parts_for = subst (λ (a : Area). Fits a (word s) m (block_in s) (used_in s) moves fails (map b.address ended.order.found) (block_in v) (used_in v)) (area_is p s b heap.0) ended.order.parts
+  parts_for = subst (λ (a : Area). Fits a (word s) m (block_in s) (used_in s) moves fails (map b.address ended.order.found) (block_in v) (used_in v))
+      (area_is p s b heap.0) ended.order.parts
 
   copied-by : IsCopiedBy the_pause b ended.order.found (block_in v) (used_in v)
   copied-by = in-order the_pause (block_in v) (used_in v) (block_in s) (used_in s) fails ended.order.found ended.order.each parts_for

@@ -18,7 +18,8 @@ use Rattle.sg_minor.proofs.Named.{field_refers, common, inner-field, size-at}
 use Rattle.sg_minor.proofs.Starts.{IsStart, AtGlobal, AtField, AreStarts}
 use Rattle.sg_minor.proofs.Opens.{start-word, named, traced-young}
 
-module _ (p : Program) (w : ℕ → ℕ) (g : Graph) (b : Book) (owner : ℕ → Owner) (t : IsHeap p w g b owner) (ambiguous pins : List ℕ) (ps : ArePins g b ambiguous pins)
+module _ (p : Program) (w : ℕ → ℕ) (g : Graph) (b : Book) (owner : ℕ → Owner) (t : IsHeap p w g b owner) (ambiguous pins : List ℕ)
+    (ps : ArePins g b ambiguous pins)
     (w1 : ℕ → ℕ) (tg : HasTagged w pins w1) (items : List ℕ) (sd : AreStarts p w g b pins items)
     (moves fails : List ℕ) (m round : ℕ → ℕ) (cp : IsImage (area_for p) w1 items (λ _. true) moves fails m round (λ _. false)) where
   -- the word x is none of those of objects that moved or failed that the round writes
@@ -35,13 +36,15 @@ module _ (p : Program) (w : ℕ → ℕ) (g : Graph) (b : Book) (owner : ℕ →
       sym e ∙ ap b.address (common p w g b owner t u.0 n (b.address n + j) u.2 s (omega arith) (omega arith) (omega arith) (omega arith))
 
   -- a word of an object that neither moved nor failed, and the length of any
-  pub quiet : (n j : ℕ) → b.stands n ≡ true → j < g.size n + 2 → (j ≡ 1) ⊎ ((has (b.address n) moves ≡ false) × (has (b.address n) fails ≡ false)) → IsQuiet (b.address n + j)
+  pub quiet : (n j : ℕ) → b.stands n ≡ true → j < g.size n + 2 → (j ≡ 1) ⊎ ((has (b.address n) moves ≡ false) × (has (b.address n) fails ≡ false)) → IsQuiet
+      (b.address n + j)
   quiet n j s l o = record {
     moved = out (b.address n + j) moves (λ h. (let e = one n j (b.address n + j) 0 s l (cp.moved (b.address n + j) h).0 (omega arith) (omega arith) in elim o [
       | inl k ↦ (omega arith)
       | inr k ↦ not-in (b.address n) moves k.0 (subst (λ (z : ℕ). In z moves) e h)
     ]));
-    failed = out (b.address n + j) fails (λ h. (let e = one n j (b.address n + j) 0 s l (cp.failed (b.address n + j) h).0 (omega arith) (omega arith) in elim o [
+    failed = out (b.address n + j) fails (λ h. (let e = one n j (b.address n + j) 0 s l (cp.failed (b.address n + j) h).0 (omega arith) (omega arith) in elim o
+        [
       | inl k ↦ (omega arith)
       | inr k ↦ not-in (b.address n) fails k.1 (subst (λ (z : ℕ). In z fails) e h)
     ]));
@@ -95,7 +98,8 @@ module _ (p : Program) (w : ℕ → ℕ) (g : Graph) (b : Book) (owner : ℕ →
   pub no-start-plain : (n i : ℕ) → b.stands n ≡ true → n ≢ 0 → i < g.size n → field_refers p g n i ≡ false → IsStart p g b pins (b.address n + 2 + i) → ⊥
   no-start-plain n i s d l k (AtGlobal x u e) = let h = inside-heap n (b.address n + 2 + i) s d (omega arith) in let q = e in omega arith
   no-start-plain n i s d l k (AtField j c dj sj o u x e) =
-      let same : n ≡ j = common p w g b owner t n j (b.address n + 2 + i) s sj (omega arith) (omega arith) (let z = e in omega arith) (let z = e in omega arith) in
+      let same : n ≡ j = common p w g b owner t n j (b.address n + 2 + i) s sj (omega arith) (omega arith) (let z = e in omega arith)
+          (let z = e in omega arith) in
       let a : b.address n ≡ b.address j = ap b.address same in
       let ic : i ≡ c = let z = e in omega arith in
       let f : true ≡ false = sym x ∙ ap (λ (z : ℕ). field_refers p g z c) (sym same) ∙ ap (λ (z : ℕ). field_refers p g n z) (sym ic) ∙ k in cc
@@ -105,17 +109,22 @@ module _ (p : Program) (w : ℕ → ℕ) (g : Graph) (b : Book) (owner : ℕ →
   length-word n s d run = same-word (b.address n + 1) (no-start-head n 1 s d (le_refl _)) run (quiet n 1 s (omega arith) (inl refl))
 
   -- the tag and a field of an object that neither moved nor failed
-  pub first-word : (n : ℕ) → b.stands n ≡ true → n ≢ 0 → has (b.address n) moves ≡ false → has (b.address n) fails ≡ false → IsUncopied w1 moves m (b.address n) → round (b.address n) ≡ w1 (b.address n)
+  pub first-word : (n : ℕ) → b.stands n ≡ true → n ≢ 0 → has (b.address n) moves ≡ false → has (b.address n) fails ≡ false → IsUncopied w1 moves m
+      (b.address n) → round (b.address n) ≡ w1 (b.address n)
   first-word n s d nm nf run =
       let z : b.address n + 0 ≡ b.address n = omega arith in
-      same-word (b.address n) (λ h. no-start-head n 0 s d (omega arith) (subst (IsStart p g b pins) (sym z) h)) run (subst IsQuiet z (quiet n 0 s (omega arith) (inr (nm, nf))))
+      same-word (b.address n) (λ h. no-start-head n 0 s d (omega arith) (subst (IsStart p g b pins) (sym z) h)) run
+          (subst IsQuiet z (quiet n 0 s (omega arith) (inr (nm, nf))))
 
-  pub field-word : (n i : ℕ) → b.stands n ≡ true → n ≢ 0 → i < g.size n → has (b.address n) moves ≡ false → has (b.address n) fails ≡ false → (b.section n ≡ Old) ⊎ In (b.address n) pins →
-      IsUncopied w1 moves m (b.address n + 2 + i) → round (b.address n + 2 + i) ≡ cond (field_refers p g n i) (sent m (w (b.address n + 2 + i))) (w (b.address n + 2 + i))
+  pub field-word : (n i : ℕ) → b.stands n ≡ true → n ≢ 0 → i < g.size n → has (b.address n) moves ≡ false → has (b.address n) fails ≡ false →
+      (b.section n ≡ Old) ⊎ In (b.address n) pins →
+      IsUncopied w1 moves m (b.address n + 2 + i) → round (b.address n + 2 + i) ≡ cond (field_refers p g n i) (sent m (w (b.address n + 2 + i)))
+          (w (b.address n + 2 + i))
   field-word n i s d l nm nf o run =
       let e : b.address n + (2 + i) ≡ b.address n + 2 + i = omega arith in
       let q = subst IsQuiet e (quiet n (2 + i) s (omega arith) (inr (nm, nf))) in
       elim (cases_Bool (field_refers p g n i)) [
         | inl k ↦ start-sent (b.address n + 2 + i) (AtField n i d s o l k refl) run q ∙ sym (cond-true _ _ _ k)
-        | inr k ↦ same-word (b.address n + 2 + i) (no-start-plain n i s d l k) run q ∙ inner-field p w g b owner t ambiguous pins ps w1 tg n i s l ∙ sym (cond-false _ _ _ k)
+        | inr k ↦ same-word (b.address n + 2 + i) (no-start-plain n i s d l k) run q ∙ inner-field p w g b owner t ambiguous pins ps w1 tg n i s l ∙ sym
+            (cond-false _ _ _ k)
       ]

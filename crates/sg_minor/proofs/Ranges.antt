@@ -21,14 +21,17 @@ ranged f lo hi o (suc k) = within_range (ranged f lo hi o k) (lo k) (hi k) (o k)
 pub ranged-out : {A : Type 0} (f : ℕ → A) (lo hi : ℕ → ℕ) (o : ℕ → A) (k x : ℕ) → ((j : ℕ) → j < k → lo j ≤ x → x < hi j → ⊥) → ranged f lo hi o k x ≡ f x
 unfolding ranged
 ranged-out f lo hi o zero x n = refl
-ranged-out f lo hi o (suc k) x n = range-out (ranged f lo hi o k) (lo k) (hi k) (o k) x (n k (le_refl _)) ∙ ranged-out f lo hi o k x (λ j l. n j (let m = l in omega arith))
+ranged-out f lo hi o (suc k) x n = range-out (ranged f lo hi o k) (lo k) (hi k) (o k) x (n k (le_refl _)) ∙ ranged-out f lo hi o k x
+    (λ j l. n j (let m = l in omega arith))
 
-pub ranged-in : {A : Type 0} (f : ℕ → A) (lo hi : ℕ → ℕ) (o : ℕ → A) (k j x : ℕ) → j < k → ((i : ℕ) → j < i → i < k → lo i ≤ x → x < hi i → ⊥) → lo j ≤ x → x < hi j → ranged f lo hi o k x ≡ o j
+pub ranged-in : {A : Type 0} (f : ℕ → A) (lo hi : ℕ → ℕ) (o : ℕ → A) (k j x : ℕ) → j < k → ((i : ℕ) → j < i → i < k → lo i ≤ x → x < hi i → ⊥) → lo j ≤ x → x <
+    hi j → ranged f lo hi o k x ≡ o j
 unfolding ranged
 ranged-in f lo hi o zero j x l n p q = absurd (omega arith)
 ranged-in f lo hi o (suc k) j x l n p q = elim (cases_eq j k) [
   | inl e ↦ (let u = ap lo e in let v = ap hi e in range-in (ranged f lo hi o k) (lo k) (hi k) (o k) x (omega arith) (omega arith)) ∙ ap o (sym e)
-  | inr d ↦ range-out (ranged f lo hi o k) (lo k) (hi k) (o k) x (n k (omega arith) (le_refl _)) ∙ ranged-in f lo hi o k j x (omega arith) (λ i a c. n i a (let z = c in omega arith)) p q
+  | inr d ↦ range-out (ranged f lo hi o k) (lo k) (hi k) (o k) x (n k (omega arith) (le_refl _)) ∙ ranged-in f lo hi o k j x (omega arith)
+      (λ i a c. n i a (let z = c in omega arith)) p q
 ]
 
 -- x lies in one of the first k ranges, or in none of them

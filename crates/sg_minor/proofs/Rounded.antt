@@ -1,5 +1,5 @@
 -- What a round of copying has made of the words of the nursery.
-use Rattle.std.proofs.Common.{◌≡◌, ◌≢◌, ℕ, ◌+◌, ◌%◌, ◌<◌, ◌≤◌, ◌⊎◌, inl, inr, List, [], ◌∷◌, ◌++◌, map, get_or, true, false, refl, sym, ap, ◌∙◌, subst, arith}
+use Rattle.std.proofs.Common.{◌≡◌, ◌≢◌, ℕ, ◌+◌, ◌%◌, ◌<◌, ◌≤◌, ◌⊎◌, inl, inr, List, ◌++◌, map, get_or, true, false, refl, sym, ap, ◌∙◌, subst, arith}
 use Rattle.std.proofs.lemmas.Bool.{cases_eq, cases_lt, cases_Bool}
 use Rattle.std.proofs.lemmas.List.Elements.{Contains-get_or}
 use Rattle.std.proofs.lemmas.Option.{slice_get_within, get_or_from_slice_get, slice_get_read}
@@ -43,8 +43,10 @@ named_or_free (Frag f) = inr (λ n e. (let z = e in cc))
 named_or_free (Buf k) = inr (λ n e. (let z = e in cc))
 named_or_free Nobody = inr (λ n e. (let z = e in cc))
 
-module _ (p : Program) (s : Contents) (g : Graph) (b : Book) (is : IsSpaceOf p s b) (owner : ℕ → Owner) (heap : IsHeap p (word s) g b owner) (contents : IsContents s)
-    (ambiguous pins : List ℕ) (ps : ArePins g b ambiguous pins) (tagged : Contents) (tags : HasTagged (word s) pins (word tagged)) (items : List ℕ) (begins : AreStarts p (word s) g b pins items) where
+module _ (p : Program) (s : Contents) (g : Graph) (b : Book) (is : IsSpaceOf p s b) (owner : ℕ → Owner) (heap : IsHeap p (word s) g b owner)
+    (contents : IsContents s)
+    (ambiguous pins : List ℕ) (ps : ArePins g b ambiguous pins) (tagged : Contents) (tags : HasTagged (word s) pins (word tagged)) (items : List ℕ)
+        (begins : AreStarts p (word s) g b pins items) where
   -- a name that is the young object at a
   abbrev pub IsYoungAt : ℕ → Type 0
   IsYoungAt a = (n : ℕ) × (n ≢ 0) × (b.stands n ≡ true) × (b.section n ≡ Young) × (b.address n ≡ a)
@@ -147,25 +149,29 @@ module _ (p : Program) (s : Contents) (g : Graph) (b : Book) (is : IsSpaceOf p s
         (out (b.address n) stayed (λ j. let f = image.failed (b.address n) j in pinned_plain (b.address n) f.1.0 f.1.1 i))
         ∙ tags.tagged (b.address n) i ∙ ap (λ z. z + 2) (class_is p s g b is owner heap contents n some stands)
 
-    pub stays_first : (n : ℕ) → n ≢ 0 → b.stands n ≡ true → b.section n ≡ Young → In (b.address n) (pins ++ stayed) → v (b.address n) ≡ plain_word (g.class n) + 2
+    pub stays_first : (n : ℕ) → n ≢ 0 → b.stands n ≡ true → b.section n ≡ Young → In (b.address n) (pins ++ stayed) → v (b.address n) ≡ plain_word (g.class n) +
+        2
     stays_first n some stands young i = elim (in-cases (b.address n) pins stayed i) [
       | inl j ↦ pinned_first n some stands young j
       | inr j ↦ stayed_first n some stands j
     ]
 
-    pub state_first : (n : ℕ) → n ≢ 0 → b.stands n ≡ true → b.section n ≡ Young → In (b.address n) went ⊎ (In (b.address n) (pins ++ stayed) ⊎ (v (b.address n) ≡ plain_word (g.class n)))
+    pub state_first : (n : ℕ) → n ≢ 0 → b.stands n ≡ true → b.section n ≡ Young → In (b.address n) went ⊎
+        (In (b.address n) (pins ++ stayed) ⊎ (v (b.address n) ≡ plain_word (g.class n)))
     state_first n some stands young = elim (cases_Bool (has (b.address n) went)) [
       | inl i ↦ inl i
       | inr not_went ↦ elim (cases_Bool (has (b.address n) stayed)) [
         | inl i ↦ inr (inl (in-right (b.address n) pins stayed i))
         | inr not_stayed ↦ elim (cases_Bool (has (b.address n) pins)) [
           | inl i ↦ inr (inl (in-left (b.address n) pins stayed i))
-          | inr not_pin ↦ inr (inr (same_first n some stands young not_went not_stayed ∙ tags.same (b.address n) not_pin ∙ class_is p s g b is owner heap contents n some stands))
+          | inr not_pin ↦ inr (inr (same_first n some stands young not_went not_stayed ∙ tags.same (b.address n) not_pin ∙ class_is p s g b is owner heap
+              contents n some stands))
         ]
       ]
     ]
 
-    pub first_stays : (n : ℕ) → n ≢ 0 → b.stands n ≡ true → b.section n ≡ Young → v (b.address n) ≡ plain_word (g.class n) + 2 → In (b.address n) (pins ++ stayed)
+    pub first_stays : (n : ℕ) → n ≢ 0 → b.stands n ≡ true → b.section n ≡ Young → v (b.address n) ≡ plain_word (g.class n) + 2 → In (b.address n)
+        (pins ++ stayed)
     first_stays n some stands young e = elim (state_first n some stands young) [
       | inl i ↦ let f = image.forwarded (b.address n) i in absurd (omega arith)
       | inr more ↦ elim more [
@@ -174,7 +180,8 @@ module _ (p : Program) (s : Contents) (g : Graph) (b : Book) (is : IsSpaceOf p s
       ]
     ]
 
-    pub first_went : (n to : ℕ) → n ≢ 0 → b.stands n ≡ true → b.section n ≡ Young → to % 8 ≡ 0 → v (b.address n) ≡ to + 1 → In (b.address n) went × (to ≡ byte_at (m (b.address n)))
+    pub first_went : (n to : ℕ) → n ≢ 0 → b.stands n ≡ true → b.section n ≡ Young → to % 8 ≡ 0 → v (b.address n) ≡ to + 1 → In (b.address n) went ×
+        (to ≡ byte_at (m (b.address n)))
     first_went n to some stands young whole e = elim (state_first n some stands young) [
       | inl i ↦ let f = image.forwarded (b.address n) i in (i, omega arith)
       | inr more ↦ elim more [
@@ -192,7 +199,8 @@ module _ (p : Program) (s : Contents) (g : Graph) (b : Book) (is : IsSpaceOf p s
 
     module _ (told : List Object) (tells : TellsYoung s (owner_of p s g b is owner heap contents) told) where
       -- the name of an object of the list, and the object of a name
-      told_name : (o : Object) → Contains told o → (n : ℕ) × (n ≢ 0) × (b.stands n ≡ true) × (b.section n ≡ Young) × (o.at ≡ byte_at (b.address n)) × (o.class ≡ g.class n) × (o.words ≡ g.size n + 2)
+      told_name : (o : Object) → Contains told o → (n : ℕ) × (n ≢ 0) × (b.stands n ≡ true) × (b.section n ≡ Young) × (o.at ≡ byte_at (b.address n)) ×
+          (o.class ≡ g.class n) × (o.words ≡ g.size n + 2)
       told_name o i =
           let t = tells.each i.0 o (slice_get_read told _ i.0 o refl i.1 (sym i.2)) in
           let q = named_front b.address (owner t.0) t.0 t.1 in
@@ -207,13 +215,15 @@ module _ (p : Program) (s : Contents) (g : Graph) (b : Book) (is : IsSpaceOf p s
           let words = t.3.words in
           (n, q.1, owns_it.0, young_there p s g b is owner heap contents n q.1 owns_it.0 (omega arith), t.3.at ∙ ap byte_at (sym at), omega arith, omega arith)
 
-      name_told : (n : ℕ) → n ≢ 0 → b.stands n ≡ true → b.section n ≡ Young → (o : Object) × Contains told o × (o.at ≡ byte_at (b.address n)) × (o.class ≡ g.class n) × (o.words ≡ g.size n + 2)
+      name_told : (n : ℕ) → n ≢ 0 → b.stands n ≡ true → b.section n ≡ Young → (o : Object) × Contains told o × (o.at ≡ byte_at (b.address n)) ×
+          (o.class ≡ g.class n) × (o.words ≡ g.size n + 2)
       name_told n some stands young =
           let place = young_inside p s g b is owner heap contents n some stands young in
           let from = place.0 in
           let to = place.1 in
           let nursery = nursery_is p s g b is owner heap contents in
-          let t = tells.all (b.address n) (is_owned p s g b is owner heap contents n (b.address n) some (owns_first p s g b is owner heap contents n stands)) (from, omega arith) in
+          let t = tells.all (b.address n) (is_owned p s g b is owner heap contents n (b.address n) some (owns_first p s g b is owner heap contents n stands))
+              (from, omega arith) in
           let o = t.1 in
           let in_told : Contains told o = (t.0, slice_get_within told t.0 o t.2, get_or_from_slice_get told t.0 o o t.2) in
           let q = told_name o in_told in
@@ -253,7 +263,8 @@ module _ (p : Program) (s : Contents) (g : Graph) (b : Book) (is : IsSpaceOf p s
             let to = place.1 in
             let nursery = nursery_is p s g b is owner heap contents in
             (omega arith, omega arith, omega arith);
-        apart = λ j k d l there. told_apart (get_or told j d) (get_or told k d) (Contains-get_or told j d (omega arith)) (Contains-get_or told k d there) (rising (λ (o : Object). o.at) told tells.in_order j k d l there);
+        apart = λ j k d l there. told_apart (get_or told j d) (get_or told k d) (Contains-get_or told j d (omega arith)) (Contains-get_or told k d there)
+            (rising (λ (o : Object). o.at) told tells.in_order j k d l there);
       }
 
       pub told_rounded : AreRounded s.layout v told
@@ -285,7 +296,8 @@ module _ (p : Program) (s : Contents) (g : Graph) (b : Book) (is : IsSpaceOf p s
           subst (λ z. In z (pins ++ stayed)) (sym first) (first_stays n.0 n.1 n.2 n.3 (ap v (sym first) ∙ stays ∙ ap (λ z. plain_word z + 2) n.5))
 
       -- the object of a first word that stays
-      object_of : (a : ℕ) → IsYoungAt a → (o : Object) × Contains told o × (first_word o ≡ a) × (o.at ≡ byte_at a) × (o.words ≡ size_of (word s) a) × ((c : ℕ) × (o.class ≡ c) × (In a (pins ++ stayed) → v a ≡ plain_word c + 2))
+      object_of : (a : ℕ) → IsYoungAt a → (o : Object) × Contains told o × (first_word o ≡ a) × (o.at ≡ byte_at a) × (o.words ≡ size_of (word s) a) ×
+          ((c : ℕ) × (o.class ≡ c) × (In a (pins ++ stayed) → v a ≡ plain_word c + 2))
       object_of a n =
           let q = name_told n.0 n.1 n.2 n.3 in
           let o = q.0 in
@@ -300,7 +312,8 @@ module _ (p : Program) (s : Contents) (g : Graph) (b : Book) (is : IsSpaceOf p s
             (g.class n.0, q.3, λ i. ap v (sym n.4) ∙ stays_first n.0 n.1 n.2 n.3 (subst (λ z. In z (pins ++ stayed)) (sym n.4) i)),
           )
 
-      is_staying : (a : ℕ) → In a (pins ++ stayed) → (o : Object) × Contains told o × (first_word o ≡ a) × (o.at ≡ byte_at a) × (o.words ≡ size_of (word s) a) × IsStaying v o
+      is_staying : (a : ℕ) → In a (pins ++ stayed) → (o : Object) × Contains told o × (first_word o ≡ a) × (o.at ≡ byte_at a) × (o.words ≡ size_of (word s) a) ×
+          IsStaying v o
       is_staying a i =
           let q = object_of a (stays_named a i) in
           (q.0, q.1, q.2, q.3, q.4, ap v q.2 ∙ q.5.2 i ∙ ap (λ z. plain_word z + 2) (sym q.5.1))
@@ -325,7 +338,8 @@ module _ (p : Program) (s : Contents) (g : Graph) (b : Book) (is : IsSpaceOf p s
 
       -- a sweep
       module _ (new : ℕ → ℕ) (cleaned : AreCleaned told v new) where
-        swept_zero : (x : ℕ) → IsYoung (area_for p) x → ((a : ℕ) → In a (pins ++ stayed) → a ≤ x → x < a + size_of (word s) a → ⊥) → ((n : ℕ) × (owner x ≡ Of n)) ⊎ ((n : ℕ) → owner x ≢ Of n) → new x ≡ 0
+        swept_zero : (x : ℕ) → IsYoung (area_for p) x → ((a : ℕ) → In a (pins ++ stayed) → a ≤ x → x < a + size_of (word s) a → ⊥) →
+            ((n : ℕ) × (owner x ≡ Of n)) ⊎ ((n : ℕ) → owner x ≢ Of n) → new x ≡ 0
         swept_zero x young none (inr free) = cleaned.others x (not_taken x free) ∙ free_zero x young free
         swept_zero x young none (inl q) =
             let n = q.0 in
@@ -335,7 +349,8 @@ module _ (p : Program) (s : Contents) (g : Graph) (b : Book) (is : IsSpaceOf p s
             let low = young.0 in
             let high = young.1 in
             let nursery = nursery_is p s g b is owner heap contents in
-            let some : n ≢ 0 = λ z. (let at = ap b.address z ∙ heap.laid.nothing.at_nil in let nil = ap g.size z ∙ heap.laid.nothing.no_size in absurd (omega arith)) in
+            let some : n ≢ 0 = λ z. (let at = ap b.address z ∙ heap.laid.nothing.at_nil in let nil = ap g.size z ∙ heap.laid.nothing.no_size in absurd
+                (omega arith)) in
             let is_young = young_there p s g b is owner heap contents n some o.0 (omega arith) in
             let t = name_told n some o.0 is_young in
             let at = t.2 in
@@ -369,7 +384,8 @@ module _ (p : Program) (s : Contents) (g : Graph) (b : Book) (is : IsSpaceOf p s
         }
 
       -- the lists
-      module _ (bytes : List ℕ) (order : IsStrictlyIncreasing bytes) (whole : (a : ℕ) → Contains bytes a → byte_at (word_at a) ≡ a) (same : pins ≡ map word_at bytes) where
+      module _ (bytes : List ℕ) (order : IsStrictlyIncreasing bytes) (whole : (a : ℕ) → Contains bytes a → byte_at (word_at a) ≡ a)
+          (same : pins ≡ map word_at bytes) where
         byte_of : (x : ℕ) → In x pins → Contains bytes (byte_at x)
         byte_of x i =
             let q = map_in word_at x bytes (subst (λ l. In x l) same i) in

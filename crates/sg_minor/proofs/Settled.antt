@@ -1,25 +1,21 @@
 -- After a pause blocks and cards are settled.
-use Rattle.std.proofs.Common.{◌≡◌, ◌≢◌, ℕ, ◌+◌, ◌*◌, ◌<◌, ◌≤◌, inl, inr, Bool, true, false, refl, sym, ap, ◌∙◌, subst, arith, ◌⊎◌}
-use Rattle.std.specs.Int.{bit_at}
-use Rattle.std.proofs.lemmas.Bool.{cases_eq, false≢true}
+use Rattle.std.proofs.Common.{◌≡◌, ◌≢◌, ℕ, ◌+◌, ◌<◌, ◌≤◌, inl, inr, true, false, refl, sym, ap, ◌∙◌, subst, arith, ◌⊎◌}
+use Rattle.std.proofs.lemmas.Bool.{false≢true}
 use Rattle.sg_words.specs.Address.{byte_at}
-use Rattle.sg_words.specs.Blocks.{IsSizeClass, IsOf, IsOwing, is_taken, slots, card_of}
-use Rattle.sg_words.specs.Lists.{In}
-use Rattle.sg_words.specs.Objects.{size_of}
+use Rattle.sg_words.specs.Blocks.{IsSizeClass, IsOf, IsOwing, is_taken, card_of}
 use Rattle.sg_words.specs.Words.{Words}
 use Rattle.sg_words.specs.declared.steps.BlockWord.{BlockWord}
 use Rattle.sg_words.specs.declared.steps.BlockWord.TheVariants.{Free, Swept, Sweeping}
 use Rattle.sg_desc.specs.Shapes.{is_strong as is_strong_by}
-use Rattle.sg_program.specs.Scripts.{kind_of, words_for}
-use Rattle.sg_graph.specs.Graph.{Ref}
-use Rattle.sg_graph.specs.Book.{Young, Old, nursery_end, old_end, block_at, slot_at, slot_words, word_of, IsWordOf}
-use Rattle.sg_graph.specs.Blocks.{IsOldAt, IsTakenAt, IsBlock, IsClear, AreBlocks, AreCarded, AreSettled}
+use Rattle.sg_program.specs.Scripts.{kind_of}
+use Rattle.sg_graph.specs.Book.{Young, Old, nursery_end, old_end, slot_words, word_of, IsWordOf}
+use Rattle.sg_graph.specs.Blocks.{IsClear, AreBlocks, AreSettled}
 use Rattle.sg_graph.specs.Heap.{Of, layout_of}
 use Rattle.sg_round.specs.Area.{IsYoung}
 use Rattle.sg_minor.specs.Joined.{IsOldField, OfOld, OfCopy, IsUncopied}
 use Rattle.sg_minor.proofs.Mirrors.{AreBlocksBy}
 use Rattle.sg_minor.proofs.Names.{some-name, name-some, size-is, strong-of}
-use Rattle.sg_minor.proofs.After.{Ended, lies, sizes, names, stood, stands_on, stands-kept, address_of, section_of, booked, at-sent, old-still, home-in, Place, Stayed, Moved, Older, place, owner3, old-out, owns, copied-owner}
+use Rattle.sg_minor.proofs.After.{Ended, lies, names, stood, stands_on, stands-kept, address_of, section_of, booked, at-sent, old-still, Place, Stayed, Moved, Older, place, owner3, owns, copied-owner}
 use Rattle.sg_minor.proofs.Holds.{fields-hold, target-stands}
 
 no-of : (state : BlockWord) (z : ℕ) → state ≡ Free → IsOf state z → ⊥
@@ -67,7 +63,8 @@ module _ (c : Ended) (w : Words) (is : (x : ℕ) → w.word x ≡ c.v x) (by : A
       is x ∙ c.picture.same x (omega arith) (λ k l e. omega arith) (λ n o. none n (old-word n x (omega arith) o)) (uncopied x none)
       ∙ clear x (omega arith) (omega arith) (λ n e.
       let o = c.heap.laid.objects.owned n x e in
-      let some : n ≢ 0 = λ z. (let nil = ap c.b.address z ∙ c.heap.laid.nothing.at_nil in let size = ap c.g.size z ∙ c.heap.laid.nothing.no_size in let end = o.2 in absurd (omega arith)) in
+      let some : n ≢ 0 = λ z. (let nil = ap c.b.address z ∙ c.heap.laid.nothing.at_nil in let size = ap c.g.size z ∙ c.heap.laid.nothing.no_size in let end =
+          o.2 in absurd (omega arith)) in
       none n (old-word n x (omega arith) (record { some = some-name n some; stands = o.0; above = o.1; below = o.2 })))
 
   are-blocks : AreBlocks c.p w.marks w.block w.used w.word c.g.size (stands_on c) (address_of c) (section_of c) c.b.owed (owner3 c)
@@ -98,14 +95,16 @@ module _ (c : Ended) (w : Words) (is : (x : ℕ) → w.word x ≡ c.v x) (by : A
   }
 
   -- a strong field of an old object
-  old-field : (n i : ℕ) → 1 ≤ n → stands_on c n ≡ true → section_of c n ≡ Old → i < c.g.size n → is_strong_by (kind_of c.p (c.g.class n)) i (c.g.size n) ≡ true →
+  old-field : (n i : ℕ) → 1 ≤ n → stands_on c n ≡ true → section_of c n ≡ Old → i < c.g.size n → is_strong_by (kind_of c.p (c.g.class n)) i (c.g.size n) ≡
+      true →
       Place c n → IsOldField c.p c.area c.w c.g c.b c.moves c.m (address_of c n + 2 + i)
   old-field n i l s o within strong (Stayed inside h q e) = absurd (let z : Young ≡ Old = sym q ∙ o in cc)
   old-field n i l s o within strong (Moved inside h q from to) =
       let here = stood c n s in
       let d = name-some n l in
       let size = size-is c.p c.area c.tie c.w c.g c.b c.ambiguous c.owner c.heap n d here in
-      OfCopy (c.b.address n) i h (omega arith) (strong-of c.p c.area c.tie c.w c.g c.b c.ambiguous c.owner c.heap n i here d ∙ strong) (ap (λ (z : ℕ). z + 2 + i) (at-sent c n here))
+      OfCopy (c.b.address n) i h (omega arith) (strong-of c.p c.area c.tie c.w c.g c.b c.ambiguous c.owner c.heap n i here d ∙ strong)
+          (ap (λ (z : ℕ). z + 2 + i) (at-sent c n here))
   old-field n i l s o within strong (Older old q e) = OfOld n i (name-some n l) (stood c n s) old.section within strong (ap (λ (z : ℕ). z + 2 + i) e)
 
   young-at : (n : ℕ) → section_of c n ≡ Young → Place c n → IsYoung c.area (address_of c n)
@@ -113,7 +112,8 @@ module _ (c : Ended) (w : Words) (is : (x : ℕ) → w.word x ≡ c.v x) (by : A
   young-at n y (Moved inside h q from to) = absurd (let z : Young ≡ Old = sym y ∙ q in cc)
   young-at n y (Older old q e) = absurd (let z : Young ≡ Old = sym y ∙ q in cc)
 
-  module _ (carded : (x y : ℕ) → IsOldField c.p c.area c.w c.g c.b c.moves c.m x → c.v x ≡ byte_at y → IsYoung c.area y → w.card (card_of (layout_of c.p) x) ≡ 1)
+  module _ (carded : (x y : ℕ) → IsOldField c.p c.area c.w c.g c.b c.moves c.m x → c.v x ≡ byte_at y → IsYoung c.area y → w.card (card_of (layout_of c.p) x) ≡
+      1)
       (unowed : (j : ℕ) → j < c.p.config.blocks → c.b.owed j ≡ false) where
     pub is-settled : AreSettled c.p w c.g (booked c) (owner3 c)
     is-settled = record {

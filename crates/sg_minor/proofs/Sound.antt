@@ -19,7 +19,7 @@ use Rattle.sg_graph.specs.Graph.{Graph}
 use Rattle.sg_graph.specs.Book.{Book, Young, Old, nursery_end, old_end}
 use Rattle.sg_graph.specs.Blocks.{IsDirty, AreSettled}
 use Rattle.sg_space.specs.Space.{Contents, IsContents, words_of}
-use Rattle.sg_space.specs.Standing.{word, block_in, used_in, marks_in, page_in, size_at, IsObject, IsInSlot, IsPlaced, IsSoundBlock, IsSoundBy, IsSound}
+use Rattle.sg_space.specs.Standing.{word, block_in, used_in, marks_in, size_at, IsObject, IsInSlot, IsPlaced, IsSoundBlock, IsSoundBy, IsSound}
 use Rattle.sg_graph.specs.Heap.{Owner, Of, Frag, Buf, Nobody, IsHeap}
 use Rattle.sg_minor.specs.Holding.{IsSpaceOf, HoldsHeap}
 use Rattle.sg_minor.proofs.Names.{of-same}
@@ -63,7 +63,8 @@ fragment_is : (address : ℕ → ℕ) (f : ℕ) → front_of address (Frag f) �
 unfolding front_of
 fragment_is address f = refl
 
-module _ (p : Program) (s : Contents) (g : Graph) (b : Book) (is : IsSpaceOf p s b) (owner : ℕ → Owner) (heap : IsHeap p (word s) g b owner) (contents : IsContents s) where
+module _ (p : Program) (s : Contents) (g : Graph) (b : Book) (is : IsSpaceOf p s b) (owner : ℕ → Owner) (heap : IsHeap p (word s) g b owner)
+    (contents : IsContents s) where
   pub nursery_is : s.layout.nursery ≡ p.config.nursery
   nursery_is = ap (λ l. l.nursery) is.layout
 
@@ -101,7 +102,8 @@ module _ (p : Program) (s : Contents) (g : Graph) (b : Book) (is : IsSpaceOf p s
       omega arith
 
   pub shape_is : (n : ℕ) → n ≢ 0 → b.stands n ≡ true → slice_get s.shapes (g.class n) ≡ Some (shape_of p (g.class n))
-  shape_is n some stands = ap (λ (l : List Shape). slice_get l (g.class n)) is.shapes ∙ shape_there p.classes (g.class n) (heap.laid.objects.shaped n (omega (arith, some)) stands).0
+  shape_is n some stands = ap (λ (l : List Shape). slice_get l (g.class n)) is.shapes ∙ shape_there p.classes (g.class n)
+      (heap.laid.objects.shaped n (omega (arith, some)) stands).0
 
   pub size_is : (n : ℕ) → n ≢ 0 → b.stands n ≡ true → is_vector (kind_of p (g.class n)) ≡ false → g.size n ≡ fields_of p (g.class n)
   size_is n some stands = (heap.laid.objects.shaped n (omega (arith, some)) stands).1.1
@@ -145,7 +147,8 @@ module _ (p : Program) (s : Contents) (g : Graph) (b : Book) (is : IsSpaceOf p s
   pub is_owned : (n x : ℕ) → n ≢ 0 → owner x ≡ Of n → owner_of x ≡ Some (b.address n)
   is_owned n x some e = ap (front_of b.address) e ∙ front_named b.address n some
 
-  owned_at : (n x : ℕ) → n ≢ 0 → owner x ≡ Of n → (b.address n ≤ x) × (x < b.address n + size_at s (b.address n)) × (owner_of (b.address n) ≡ Some (b.address n))
+  owned_at : (n x : ℕ) → n ≢ 0 → owner x ≡ Of n → (b.address n ≤ x) × (x < b.address n + size_at s (b.address n)) ×
+      (owner_of (b.address n) ≡ Some (b.address n))
   owned_at n x some e =
       let o = owned n x e in
       let size = length_is n some o.0 in
@@ -171,7 +174,8 @@ module _ (p : Program) (s : Contents) (g : Graph) (b : Book) (is : IsSpaceOf p s
   no_mark : (c i : ℕ) → bit_at (marks_in s c) i ≡ 1 → ⊥
   no_mark c i e = let k = ap (λ m. bit_at m i) (is.unmarked c) ∙ bit_at-zero i in omega arith
 
-  taken_fits : (state : BlockWord) (c z i : ℕ) → c < p.config.blocks → (state ≡ Swept z → bit_at (used_in s c) i ≡ 1 → i < slots z) → owned_block state c → IsOf state z →
+  taken_fits : (state : BlockWord) (c z i : ℕ) → c < p.config.blocks → (state ≡ Swept z → bit_at (used_in s c) i ≡ 1 → i < slots z) → owned_block state c → IsOf
+      state z →
       is_taken state (used_in s c) (marks_in s c) i ≡ 1 → i < slots z
   taken_fits Free c z i there fits owing h e = absurd h
   taken_fits (Swept y) c z i there fits owing h e = fits (ap Swept h) e
@@ -242,12 +246,14 @@ module _ (p : Program) (s : Contents) (g : Graph) (b : Book) (is : IsSpaceOf p s
     no_dirty c x there d = not_owing (block_in s c) c d.size there (settled.blocks.each c there).owing d.owing
 
     -- the block of a word of the major heap
-    pub block_of : (x : ℕ) → nursery_end p ≤ x → x < old_end p → (c : ℕ) × (c < p.config.blocks) × (nursery_end p + 256 * c ≤ x) × (x < nursery_end p + 256 * c + 256)
+    pub block_of : (x : ℕ) → nursery_end p ≤ x → x < old_end p → (c : ℕ) × (c < p.config.blocks) × (nursery_end p + 256 * c ≤ x) ×
+        (x < nursery_end p + 256 * c + 256)
     block_of x from to = ((x - nursery_end p) / 256, omega arith, omega arith, omega arith)
 
     unnamed : (x n : ℕ) → owner_of x ≡ None → nursery_end p ≤ x → owner x ≢ Of n
     unnamed x n none above e = elim (cases_eq n 0) [
-      | inl z ↦ let o = owned n x e in let end = o.2 in let at = ap b.address z ∙ heap.laid.nothing.at_nil in let size = ap g.size z ∙ heap.laid.nothing.no_size in absurd (omega arith)
+      | inl z ↦ let o = owned n x e in let end = o.2 in let at = ap b.address z ∙ heap.laid.nothing.at_nil in let size = ap g.size z ∙
+          heap.laid.nothing.no_size in absurd (omega arith)
       | inr some ↦ unnamed_front b.address (owner x) none n some e
     ]
 
@@ -258,7 +264,8 @@ module _ (p : Program) (s : Contents) (g : Graph) (b : Book) (is : IsSpaceOf p s
         let pages : s.layout.pages ≡ p.config.pages = ap (λ l. l.pages) is.layout in
         elim (cases_lt x (nursery_end p)) [
           | inl young ↦ heap.laid.clear.clear x from young (λ n e. elim (cases_eq n 0) [
-            | inl z ↦ let o = owned n x e in let end = o.2 in let at = ap b.address z ∙ heap.laid.nothing.at_nil in let size = ap g.size z ∙ heap.laid.nothing.no_size in absurd (omega arith)
+            | inl z ↦ let o = owned n x e in let end = o.2 in let at = ap b.address z ∙ heap.laid.nothing.at_nil in let size = ap g.size z ∙
+                heap.laid.nothing.no_size in absurd (omega arith)
             | inr some ↦ unnamed_front b.address (owner x) none n some e
           ])
           | inr above ↦ elim (cases_lt x (old_end p)) [

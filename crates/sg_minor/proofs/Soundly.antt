@@ -22,7 +22,8 @@ use Rattle.sg_minor.specs.Laws.{IsSoundHeap}
 use Rattle.sg_minor.proofs.Names.{ref-of}
 use Rattle.sg_minor.proofs.Sound.{owner_of, named_front, is_owned, owns_first, owned, length_is, class_is, shape_is, old_inside, young_there, taken_named, nursery_is, blocks_is, sound_by}
 
-module _ (p : Program) (s : Contents) (g : Graph) (b : Book) (is : IsSpaceOf p s b) (owner : ℕ → Owner) (heap : IsHeap p (word s) g b owner) (contents : IsContents s)
+module _ (p : Program) (s : Contents) (g : Graph) (b : Book) (is : IsSpaceOf p s b) (owner : ℕ → Owner) (heap : IsHeap p (word s) g b owner)
+    (contents : IsContents s)
     (settled : AreSettled p (words_of s) g b owner) where
   -- the old object that begins at a word, by whichever owners the space is sound
   pub front_old : (o : ℕ → Option ℕ) → IsSoundBy s o → (h : ℕ) → o h ≡ Some h → old_base s.layout ≤ h →
@@ -68,7 +69,8 @@ module _ (p : Program) (s : Contents) (g : Graph) (b : Book) (is : IsSpaceOf p s
         stands = n.2;
         old = n.3;
         within = omega arith;
-        strong = ap (λ (z : ℕ). is_strong (kind_of p (g.class n.0)) f.field z) (sym length) ∙ ap (λ (z : Shape). is_strong z.kind f.field (word s (f.front + 1))) (sym shape) ∙ f.strong;
+        strong = ap (λ (z : ℕ). is_strong (kind_of p (g.class n.0)) f.field z) (sym length) ∙ ap
+            (λ (z : Shape). is_strong z.kind f.field (word s (f.front + 1))) (sym shape) ∙ f.strong;
         at = omega arith;
       }
 
@@ -147,9 +149,11 @@ module _ (p : Program) (s : Contents) (g : Graph) (b : Book) (is : IsSpaceOf p s
         let shape_same : shape ≡ shape_of p (g.class n) =
         same_Some _ _ (sym shape_is_it ∙ ap (λ c. slice_get s.shapes c) class_same ∙ shape_is p s g b is owner heap contents n q.1 o.0) in
         let r = reference n i o.0 (omega arith)
-        (ap (λ (z : ℕ). holds_reference (kind_of p (g.class n)) i z) (sym length) ∙ ap (λ (z : Shape). holds_reference z.kind i (word s (h + 1))) (sym shape_same) ∙ holds) in
+        (ap (λ (z : ℕ). holds_reference (kind_of p (g.class n)) i z) (sym length) ∙ ap (λ (z : Shape). holds_reference z.kind i (word s (h + 1)))
+            (sym shape_same) ∙ holds) in
         refers_to (word s (h + 2 + i)) r.0 (ap (λ z. word s (z + 2 + i)) (sym at) ∙ r.3) r.2;
-    globals = λ x l. refers_to (word s (globals_base s.layout + x)) (g.global x) (ap (λ z. word s (z + x)) globals_are ∙ heap.laid.globals.holds x l) (heap.laid.globals.known x l).0;
+    globals = λ x l. refers_to (word s (globals_base s.layout + x)) (g.global x) (ap (λ z. word s (z + x)) globals_are ∙ heap.laid.globals.holds x l)
+        (heap.laid.globals.known x l).0;
     links = λ x l. inl (row_zero (links_base s.layout + x) (omega arith) (omega arith));
     ready = λ j from to. inl (row_zero (ready_base s.layout + j) (omega arith) (omega arith));
     registered = λ j l. absurd (let none = ap length is.registered in omega arith);

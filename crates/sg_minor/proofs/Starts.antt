@@ -33,7 +33,8 @@ pub record AreStarts (p : Program) (w : ℕ → ℕ) (g : Graph) (b : Book) (pin
   pub all : (s x : ℕ) → IsStart p g b pins s → w s ≡ byte_at x → IsYoung (area_for p) x → In s items
 
 -- the strong slots of objects
-pub in-strong : (area : Area) (w : ℕ → ℕ) (s : ℕ) (hs : List ℕ) → In s (strong_of area w hs) → (h : ℕ) × In h hs × In s (slots_by area (class_of (w h)) h (w (h + 1)))
+pub in-strong : (area : Area) (w : ℕ → ℕ) (s : ℕ) (hs : List ℕ) → In s (strong_of area w hs) → (h : ℕ) × In h hs × In s
+    (slots_by area (class_of (w h)) h (w (h + 1)))
 in-strong area w s [] i = absurd (let z = i in cc)
 in-strong area w s (h ∷ hs) i = elim (in-cases s (slots_by area (class_of (w h)) h (w (h + 1))) (strong_of area w hs) i) [
   | inl j ↦ (h, in-here h h hs refl, j)
@@ -43,11 +44,13 @@ in-strong area w s (h ∷ hs) i = elim (in-cases s (slots_by area (class_of (w h
 pub strong-in : (area : Area) (w : ℕ → ℕ) (s h : ℕ) (hs : List ℕ) → In h hs → In s (slots_by area (class_of (w h)) h (w (h + 1))) → In s (strong_of area w hs)
 strong-in area w s h [] k i = absurd (let z = k in cc)
 strong-in area w s h (x ∷ hs) k i = elim (has-cases h x hs k) [
-  | inl e ↦ in-left s (slots_by area (class_of (w x)) x (w (x + 1))) (strong_of area w hs) (subst (λ (z : ℕ). In s (slots_by area (class_of (w z)) z (w (z + 1)))) e i)
+  | inl e ↦ in-left s (slots_by area (class_of (w x)) x (w (x + 1))) (strong_of area w hs)
+      (subst (λ (z : ℕ). In s (slots_by area (class_of (w z)) z (w (z + 1)))) e i)
   | inr j ↦ in-right s (slots_by area (class_of (w x)) x (w (x + 1))) (strong_of area w hs) (strong-in area w s h hs j i)
 ]
 
-module _ (p : Program) (w : ℕ → ℕ) (g : Graph) (b : Book) (owner : ℕ → Owner) (t : IsHeap p w g b owner) (ambiguous pins slots : List ℕ) (ps : ArePins g b ambiguous pins)
+module _ (p : Program) (w : ℕ → ℕ) (g : Graph) (b : Book) (owner : ℕ → Owner) (t : IsHeap p w g b owner) (ambiguous pins slots : List ℕ)
+    (ps : ArePins g b ambiguous pins)
     (tagged : Contents) (area : area_of tagged ≡ area_for p) (tg : HasTagged w pins (word tagged)) (sd : AreSlots p w (area_for p) g b slots) where
   strong-as : (n i : ℕ) → n ≢ 0 → b.stands n ≡ true → (area_of tagged).strong (class_of (word tagged (b.address n))) i ≡ field_refers p g n i
   strong-as n i d s =
@@ -78,7 +81,8 @@ module _ (p : Program) (w : ℕ → ℕ) (g : Graph) (b : Book) (owner : ℕ →
       of-field : (s n : ℕ) → n ≢ 0 → b.stands n ≡ true → In (b.address n) pins → In s (of (b.address n)) → IsStart p g b pins s
       of-field s n d st i h =
           let q = slots-are ((area_of tagged).strong (class_of (word tagged (b.address n)))) (b.address n) 0 (word tagged (b.address n + 1)) s h in
-          AtField n q.0 d st (inr i) (let l = q.1 in let z = size-at p w g b owner t ambiguous pins ps (word tagged) tg (b.address n) n st d refl in omega arith) (sym (strong-as n q.0 d st) ∙ q.2) q.3
+          AtField n q.0 d st (inr i) (let l = q.1 in let z = size-at p w g b owner t ambiguous pins ps (word tagged) tg (b.address n) n st d refl in omega
+              arith) (sym (strong-as n q.0 d st) ∙ q.2) q.3
 
       held : (s x : ℕ) → IsStart p g b pins s → w s ≡ byte_at x → IsYoung (area_for p) x → In s (slots ++ fields)
       held s x (AtGlobal j l e) q y = in-left s slots fields (seeds-all p w (area_for p) g b slots sd s x (Global j l e) q y)

@@ -43,7 +43,8 @@ above-first x pieces piece h c =
     let is : get_or (map place pieces) c.0 0 ≡ place piece = get_or-map place pieces c.0 piece 0 within ∙ ap place c.2 in
     omega arith
 
-pub fronts-rise : (pieces : List Piece) → AllPairs (λ x y. x < y) (map place pieces) → (f j : ℕ) → f < j → j < length (fronts_of pieces) → slice_index (fronts_of pieces) f < slice_index (fronts_of pieces) j
+pub fronts-rise : (pieces : List Piece) → AllPairs (λ x y. x < y) (map place pieces) → (f j : ℕ) → f < j → j < length (fronts_of pieces) → slice_index
+    (fronts_of pieces) f < slice_index (fronts_of pieces) j
 fronts-rise [] h f j l u = absurd (omega arith)
 fronts-rise (Frag at words ∷ pieces) h f zero l u = absurd (omega arith)
 fronts-rise (Frag at words ∷ pieces) h zero (suc j) l u =

@@ -4,7 +4,6 @@ use Rattle.std.proofs.lemmas.Bool.{cond-true, cond-false, cases_eq, eq-eqb, ne_e
 use Rattle.sg_words.specs.Address.{byte_at}
 use Rattle.sg_words.specs.declared.pieces.Move.{Move}
 use Rattle.sg_graph.specs.declared.reports.MinorReport.{MinorReport}
-use Rattle.sg_program.specs.Scripts.{words_for}
 use Rattle.sg_graph.specs.Book.{Young, Old, nursery_end, slot_at, slot_words, IsWordOf, IsApart, IsInBlock, IsInSlot, IsEmptySlot, IsShut}
 use Rattle.sg_words.specs.Sections.{nursery_base}
 use Rattle.sg_graph.specs.Pause.{IsPinned, StandsYoung}
@@ -25,7 +24,7 @@ use Rattle.sg_minor.specs.Joined.{ArePins, IsKept}
 use Rattle.sg_minor.specs.Law.{IsReportOf}
 use Rattle.sg_minor.proofs.Names.{of-same, some-name, name-some, exactly}
 use Rattle.sg_minor.proofs.Tiles.{next-beyond, limit-beyond}
-use Rattle.sg_minor.proofs.After.{Ended, lies, sizes, one-name, names, kept-young, section-young, stands_on, stood, is-kept, stands-nothing, stands-kept, address_of, section_of, booked, at-sent, moved-section, gone-still, stays-still, old-still, Place, Stayed, Moved, Older, place, nil-still, nil-at, tile-of, taken, owns}
+use Rattle.sg_minor.proofs.After.{Ended, lies, sizes, one-name, names, kept-young, section-young, stands_on, stood, is-kept, stands-nothing, stands-kept, address_of, section_of, booked, at-sent, moved-section, gone-still, stays-still, old-still, Place, Stayed, Moved, Older, place, nil-still, tile-of, taken, owns}
 
 module _ (c : Ended) where
   young-not-old : (n : ℕ) → section_of c n ≡ Old → section_of c n ≡ Young → ⊥
@@ -146,7 +145,8 @@ module _ (c : Ended) where
           let low = h.above in
           let high = h.below in
           let kept = stands-kept c m h.stands (λ y. absurd (old-not-young m h.some h.stands h.old y)) in
-          let here : IsInBlock c.p (booked c) m l.block = record { some = h.some; stands = kept; old = still.section ∙ h.old; above = omega arith; below = omega arith } in
+          let here : IsInBlock c.p (booked c) m l.block = record { some = h.some; stands = kept; old = still.section ∙ h.old; above = omega arith; below = omega
+              arith } in
           n.2 (same-size (slot_words (c.g.size n.0)) z (sym (in_block c.p c.g (booked c) block used by n.0 l.block n.1)
           ∙ in_block c.p c.g (booked c) block used by m l.block here ∙ ap Swept l.before.2))
     ]
@@ -178,9 +178,11 @@ module _ (c : Ended) where
           empty = subst (λ (z : ℕ). IsEmptySlot c.p c.g c.b q.block z q.slot) size q.empty;
         }
 
-  module _ (pins fails : List ℕ) (split : c.stays ≡ pins ++ fails) (pinned : ArePins c.g c.b c.ambiguous pins) (failed : (a : ℕ) → In a fails → has a pins ≡ false)
+  module _ (pins fails : List ℕ) (split : c.stays ≡ pins ++ fails) (pinned : ArePins c.g c.b c.ambiguous pins)
+      (failed : (a : ℕ) → In a fails → has a pins ≡ false)
       (block : ℕ → BlockWord) (used : ℕ → ℕ) (by : AreBlocksBy c.p c.g (booked c) block used)
-      (full : (a j : ℕ) → In a fails → j < c.p.config.blocks → IsPassed block used (slot_size (size_of c.w a)) j) (report : MinorReport) (told : IsReportOf report pins c.moves fails c.m) where
+      (full : (a j : ℕ) → In a fails → j < c.p.config.blocks → IsPassed block used (slot_size (size_of c.w a)) j) (report : MinorReport)
+          (told : IsReportOf report pins c.moves fails c.m) where
     pin-stays : (a : ℕ) → In a pins → In a c.stays
     pin-stays a h = subst (λ (l : List ℕ). In a l) (sym split) (in-left a pins fails h)
 
@@ -214,7 +216,8 @@ module _ (c : Ended) where
     told-to : (n : ℕ) → c.b.stands n ≡ true → moved-from c.m (c.b.address n) ≡ move_of c.b (booked c) n
     told-to n s = ap (λ (z : ℕ). record { from = byte_at (c.b.address n); to = byte_at z }) (sym (at-sent c n s))
 
-    told-move : (move : Move) → Contains report.moves move → (n : ℕ) × IsLoose c.g c.b c.ambiguous (booked c) n × HasMoved c.p c.g c.b (booked c) n × (move ≡ move_of c.b (booked c) n)
+    told-move : (move : Move) → Contains report.moves move → (n : ℕ) × IsLoose c.g c.b c.ambiguous (booked c) n × HasMoved c.p c.g c.b (booked c) n ×
+        (move ≡ move_of c.b (booked c) n)
     told-move move h =
         let e = (told.moves.exact move).0 h in
         let x = e.0 in
@@ -226,7 +229,8 @@ module _ (c : Ended) where
           e.2 ∙ ap (moved-from c.m) (sym k.at) ∙ told-to k.name k.stands,
         )
 
-    told-fail : (a : ℕ) → Contains report.fails a → (n : ℕ) × IsLoose c.g c.b c.ambiguous (booked c) n × HasFailed c.p c.g c.b (booked c) report.spares n × (a ≡ byte_at (c.b.address n))
+    told-fail : (a : ℕ) → Contains report.fails a → (n : ℕ) × IsLoose c.g c.b c.ambiguous (booked c) n × HasFailed c.p c.g c.b (booked c) report.spares n ×
+        (a ≡ byte_at (c.b.address n))
     told-fail a h =
         let e = (told.fails.exact a).0 h in
         let x = e.0 in
@@ -247,14 +251,16 @@ module _ (c : Ended) where
           e.2 ∙ ap byte_at (sym k.at),
         )
 
-    loose-told : (n : ℕ) → IsLoose c.g c.b c.ambiguous (booked c) n → Contains report.moves (move_of c.b (booked c) n) ⊎ Contains report.fails (byte_at (c.b.address n))
+    loose-told : (n : ℕ) → IsLoose c.g c.b c.ambiguous (booked c) n → Contains report.moves (move_of c.b (booked c) n) ⊎ Contains report.fails
+        (byte_at (c.b.address n))
     loose-told n h = elim (lies c n h.young.1 h.young.0) [
       | inr o ↦ absurd (let e : Young ≡ Old = sym h.young.2 ∙ o.section in cc)
       | inl i ↦ elim (is-kept c n h.kept i.young) [
         | inr moved ↦ inl ((told.moves.exact (move_of c.b (booked c) n)).1 (c.b.address n, moved, sym (told-to n h.young.1)))
         | inl stays ↦ elim (stays-cases (c.b.address n) stays) [
           | inr fell ↦ inr ((told.fails.exact (byte_at (c.b.address n))).1 (c.b.address n, fell, refl))
-          | inl pin ↦ absurd (let q = pinned.each (c.b.address n) pin in h.loose (subst (IsPinned c.g c.b c.ambiguous) (one-name c q.0 n q.1.0.1 h.young.1 q.2) q.1))
+          | inl pin ↦ absurd (let q = pinned.each (c.b.address n) pin in h.loose
+              (subst (IsPinned c.g c.b c.ambiguous) (one-name c q.0 n q.1.0.1 h.young.1 q.2) q.1))
         ]
       ]
     ]
@@ -297,7 +303,8 @@ module _ (c : Ended) where
     keeps : Keeping c.p c.g c.b c.ambiguous c.g (booked c)
     keeps = record {
       kept = stays_on;
-      pause = c.law.pause c.p c.g c.b c.ambiguous c.plain stays_on among (λ n d. (let e = exactly c.p c.area c.tie c.w c.g c.b c.ambiguous c.owner c.heap c.stays c.moves c.traced c.law c.plain n d in
+      pause = c.law.pause c.p c.g c.b c.ambiguous c.plain stays_on among
+          (λ n d. (let e = exactly c.p c.area c.tie c.w c.g c.b c.ambiguous c.owner c.heap c.stays c.moves c.traced c.law c.plain n d in
           ((λ k. e.0 (sym (stays_as n d) ∙ k)), (λ r. stays_as n d ∙ e.1 r))));
       nothing = (stands-nothing c, (nil-still c).address, (nil-still c).section);
       stands = λ n d. sym (stays_as n d);
@@ -319,7 +326,8 @@ module _ (c : Ended) where
       sound = record {
         apart = apart;
         slotted = λ n l s o. (let q = by.seated n l s o in (q.block, q.slot, q.seat));
-        one_size = λ m n j h k. same-size (slot_words (c.g.size m)) (slot_words (c.g.size n)) (sym (in_block c.p c.g (booked c) block used by m j h) ∙ in_block c.p c.g (booked c) block used by n j k);
+        one_size = λ m n j h k. same-size (slot_words (c.g.size m)) (slot_words (c.g.size n))
+            (sym (in_block c.p c.g (booked c) block used by m j h) ∙ in_block c.p c.g (booked c) block used by n j k);
       };
     }
 

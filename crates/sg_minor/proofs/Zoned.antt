@@ -1,14 +1,14 @@
 -- The blocks of a space that holds a graph by a book, and the words of its major heap that are no object's.
-use Rattle.std.proofs.Common.{◌≡◌, ◌≢◌, ℕ, ◌+◌, ◌*◌, ◌<◌, ◌≤◌, ◌⊎◌, inl, inr, cond, leb, ltb, Bool, true, false, refl, sym, ap, ◌∙◌, subst, arith}
+use Rattle.std.proofs.Common.{◌≡◌, ◌≢◌, ℕ, ◌<◌, ◌≤◌, ◌⊎◌, inl, inr, cond, leb, ltb, Bool, true, false, refl, sym, ap, ◌∙◌, subst, arith}
 use Rattle.std.specs.Int.{bit_at}
-use Rattle.std.proofs.lemmas.Bool.{cases_Bool, cases_lt, cond-true, cond-false, le-leb, lt-ltb, lt-leb, le-ltb, leb-true, ltb-true, false≢true}
-use Rattle.sg_words.specs.Blocks.{IsSizeClass, IsOf, is_taken, slots}
+use Rattle.std.proofs.lemmas.Bool.{cases_Bool, cond-true, cond-false, le-leb, lt-ltb, leb-true, ltb-true, false≢true}
+use Rattle.sg_words.specs.Blocks.{IsSizeClass, IsOf, is_taken}
 use Rattle.sg_words.specs.declared.steps.BlockWord.{BlockWord}
 use Rattle.sg_words.specs.declared.steps.BlockWord.TheVariants.{Free, Swept, Need, Sweeping}
 use Rattle.sg_words.proofs.Blocks.{slot_fits}
 use Rattle.sg_program.specs.declared.program.Program.{Program}
 use Rattle.sg_graph.specs.Graph.{Graph}
-use Rattle.sg_graph.specs.Book.{Book, Old, nursery_end, old_end, slot_words, IsInSlot}
+use Rattle.sg_graph.specs.Book.{Book, nursery_end, old_end, slot_words}
 use Rattle.sg_graph.specs.Blocks.{AreSettled}
 use Rattle.sg_graph.specs.Heap.{Owner, Of, Frag, Buf, Nobody, IsHeap}
 use Rattle.sg_space.specs.Space.{Contents, IsContents, words_of}
@@ -16,7 +16,7 @@ use Rattle.sg_space.specs.Standing.{word, block_in, used_in, marks_in}
 use Rattle.sg_round.specs.Round.{AreZoned}
 use Rattle.sg_minor.specs.Holding.{IsSpaceOf}
 use Rattle.sg_minor.proofs.Areas.{area_for}
-use Rattle.sg_minor.proofs.Mirrors.{AreBlocksBy, IsSeated, clear_empty}
+use Rattle.sg_minor.proofs.Mirrors.{AreBlocksBy, clear_empty}
 use Rattle.sg_minor.proofs.Sound.{owned_block, not_owing, few_fields, inside, old_there, owned, no_dirty, block_of}
 
 -- whether a word with this owner is no object's
@@ -78,10 +78,12 @@ states_of (Swept y) need sweeping sized = inr (y, sized y refl, refl)
 states_of (Need y) need sweeping sized = absurd (need y refl)
 states_of (Sweeping y) need sweeping sized = absurd (sweeping y refl)
 
-module _ (p : Program) (s : Contents) (g : Graph) (b : Book) (is : IsSpaceOf p s b) (owner : ℕ → Owner) (heap : IsHeap p (word s) g b owner) (contents : IsContents s)
+module _ (p : Program) (s : Contents) (g : Graph) (b : Book) (is : IsSpaceOf p s b) (owner : ℕ → Owner) (heap : IsHeap p (word s) g b owner)
+    (contents : IsContents s)
     (settled : AreSettled p (words_of s) g b owner) where
   not_need : (c y : ℕ) → c < p.config.blocks → block_in s c ≢ Need y
-  not_need c y there e = not_owing p s g b is owner heap contents (Need y) c y there (subst (λ (w : BlockWord). owned_block p s g b is owner heap contents w c) e (settled.blocks.each c there).owing) refl
+  not_need c y there e = not_owing p s g b is owner heap contents (Need y) c y there
+      (subst (λ (w : BlockWord). owned_block p s g b is owner heap contents w c) e (settled.blocks.each c there).owing) refl
 
   not_sweeping : (c y : ℕ) → c < p.config.blocks → block_in s c ≢ Sweeping y
   not_sweeping c y there e = settled.settled c y there e
@@ -113,7 +115,8 @@ module _ (p : Program) (s : Contents) (g : Graph) (b : Book) (is : IsSpaceOf p s
     inhabited = λ c z there e.
         let n = settled.inhabited c z there e in
         let some : n.0 ≢ 0 = λ k. (let l = n.1 in absurd (omega arith)) in
-        (n.0, record { some = n.1; stands = n.2; old = old_there p s g b is owner heap contents n.0 some n.2 (let low = n.3 in omega arith); above = n.3; below = n.4 });
+        (n.0, record { some = n.1; stands = n.2; old = old_there p s g b is owner heap contents n.0 some n.2 (let low = n.3 in omega arith); above = n.3;
+            below = n.4 });
     small = λ n l stands. let few = few_fields p s g b is owner heap contents n (λ k. absurd (omega arith)) stands in omega arith;
     others = λ n l stands. elim (inside p s g b is owner heap contents n (λ k. absurd (omega arith)) stands) [
       | inl young ↦ inr young.2
@@ -146,7 +149,9 @@ module _ (p : Program) (s : Contents) (g : Graph) (b : Book) (is : IsSpaceOf p s
         let to = inner.3 in
         is_zone p owner y (omega arith) (omega arith) (not-free (owner y) (λ n e.
         let o = owned p s g b is owner heap contents n y e in
-        let some : n ≢ 0 = λ k. (let nil = ap b.address k ∙ heap.laid.nothing.at_nil in let none = ap g.size k ∙ heap.laid.nothing.no_size in let end = o.2 in absurd (omega arith)) in
-        clear_empty p g b (block_in s) (used_in s) blocks_by c z i inner.1 clear n y (record { some = omega (arith, some); stands = o.0; above = o.1; below = o.2 }) from to));
+        let some : n ≢ 0 = λ k. (let nil = ap b.address k ∙ heap.laid.nothing.at_nil in let none = ap g.size k ∙ heap.laid.nothing.no_size in let end = o.2 in
+            absurd (omega arith)) in
+        clear_empty p g b (block_in s) (used_in s) blocks_by c z i inner.1 clear n y
+            (record { some = omega (arith, some); stands = o.0; above = o.1; below = o.2 }) from to));
     bare = λ c there e. (settled.blocks.each c there).bare e;
   }

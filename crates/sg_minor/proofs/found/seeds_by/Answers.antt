@@ -2,7 +2,6 @@ use Rattle.std.proofs.Common.{refl, sym, ap}
 use Rattle.std.proofs.lemmas.Result.{IfOk-weaker}
 use Rattle.sg_cards.specs.Numbering.{numbers_end}
 use Rattle.sg_space.specs.Space.{Contents, IsContents}
-use Rattle.sg_space.specs.Standing.{IsSoundBy}
 use Rattle.sg_minor.specs.Laws.{HeapLaw, IsSoundHeap}
 use Rattle.sg_minor.specs.Parts.{HoldsSome}
 use Rattle.sg_minor.proofs.found.seeds_by.Goals as goal

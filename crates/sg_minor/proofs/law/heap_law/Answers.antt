@@ -7,5 +7,6 @@ pub returns : goal.returns
 returns c = record {
   sound = sound_heap;
   plain = λ p s g b heap contents ambiguous pins pinned. plain_pins p s g b heap contents ambiguous pins pinned;
-  copies = λ p s g b heap contents ambiguous pins pinned found seeds tagged still tags. can_copy p s g b heap contents ambiguous pins pinned found seeds tagged still tags c.join_law.ensures;
+  copies = λ p s g b heap contents ambiguous pins pinned found seeds tagged still tags. can_copy p s g b heap contents ambiguous pins pinned found seeds tagged
+      still tags c.join_law.ensures;
 }

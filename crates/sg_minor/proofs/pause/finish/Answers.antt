@@ -21,7 +21,8 @@ returns c =
     let standing = lists.standing.items in
     let swept = c.sweep.new.space in
     let kept = subst (λ z. AreKept round.layout (word round) z pins standing lists.moves.items lists.fails.items) c.as_slice.ensures
-    (subst (λ z. AreKept round.layout (word round) c.as_slice.result.now z standing lists.moves.items lists.fails.items) c.as_slice-2.ensures c.in_ok-kept.ensures.kept) in
+    (subst (λ z. AreKept round.layout (word round) c.as_slice.result.now z standing lists.moves.items lists.fails.items) c.as_slice-2.ensures
+        c.in_ok-kept.ensures.kept) in
     record {
       finished = record {
         swept = swept;
@@ -31,7 +32,8 @@ returns c =
             (subst (λ (z : List ℕ). AreKept round.layout (word round) told pins standing lists.moves.items z) (sym c.from_vec-2.ensures) kept);
         cleaned = subst (λ z. AreCleaned z (word round) (word swept)) c.as_slice.ensures c.in_ok-kept.ensures.cleaned;
         tiles = subst (λ z. ArePieces swept.layout z c.in_ok-pieces.pieces) c.deref.ensures.value c.in_ok-pieces.ensures.pieces;
-        fitted = subst (λ (z : List Piece). c.set_fragments.new.self ≡ record swept { next = fronts_of z; ends = ends_of z }) c.as_slice-3.ensures c.set_fragments.ensures.set;
+        fitted = subst (λ (z : List Piece). c.set_fragments.new.self ≡ record swept { next = fronts_of z; ends = ends_of z }) c.as_slice-3.ensures
+            c.set_fragments.ensures.set;
         pins_are = refl;
         spares = refl;
       };

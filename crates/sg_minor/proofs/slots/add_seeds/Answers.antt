@@ -1,4 +1,4 @@
-use Rattle.std.proofs.Common.{◌≡◌, ℕ, ◌+◌, ◌∷◌, [], ◌++◌, List, length, map, take, sym, ap, ◌∙◌, arith}
+use Rattle.std.proofs.Common.{ℕ, ◌∷◌, [], ◌++◌, List, map, take, sym, ap, ◌∙◌}
 use Rattle.std.proofs.lemmas.List.{append_assoc, append-nil, map-append, map_push, take_more, take_all}
 use Rattle.sg_words.specs.Address.{word_at}
 use Rattle.sg_cards.specs.declared.found.Seed.{Seed}
@@ -18,7 +18,8 @@ loop-seed-preserved c =
     ∙ ap (λ (l : List ℕ). l ++ slot seed ∷ []) c.loop-seed.invariant
     ∙ append_assoc before (map slot (take i seeds)) (slot seed ∷ [])
     ∙ ap (λ (l : List ℕ). before ++ l) (sym (map-append slot (take i seeds) (seed ∷ [])))
-    ∙ ap (λ (l : List Seed). before ++ map slot l) (ap (λ (s : Seed). take i seeds ++ s ∷ []) c.seed-item.is ∙ sym (take_more seeds i seed c.loop-seed-test.true))
+    ∙ ap (λ (l : List Seed). before ++ map slot l) (ap (λ (s : Seed). take i seeds ++ s ∷ []) c.seed-item.is ∙ sym
+        (take_more seeds i seed c.loop-seed-test.true))
 
 pub returns : goal.returns
 returns c =
