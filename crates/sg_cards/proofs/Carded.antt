@@ -1,21 +1,20 @@
 -- A scan of a card, slot by slot or page by page.
-use Rattle.std.proofs.Common.{◌≡◌, ◌≢◌, ℕ, ◌+◌, ◌-◌, ◌*◌, ◌/◌, ◌%◌, ◌<◌, ◌≤◌, Option, Some, None, List, length, refl, sym, ap, ◌∙◌, subst, inl, inr, le_refl, min, arith}
+use Rattle.std.proofs.Common.{◌≡◌, ◌≢◌, ℕ, ◌+◌, ◌-◌, ◌*◌, ◌/◌, ◌%◌, ◌<◌, ◌≤◌, Option, Some, None, List, refl, sym, ap, ◌∙◌, subst, inl, inr, le_refl, min, arith}
 use Rattle.std.proofs.lemmas.Option.{none-some}
 use Rattle.std.proofs.lemmas.Bool.{cases_lt}
 use Rattle.std.proofs.lemmas.Nat.{mul-le}
 use Rattle.std.proofs.Math.Nat.{mul-div-le, lt-mul-div-succ}
 use Rattle.std.specs.Int.{bit_at}
 use Rattle.sg_words.specs.Blocks.{IsSizeClass, slots, block_base, slot_base, IsOf, is_taken}
-use Rattle.sg_words.specs.Sections.{old_base, large_base, globals_base}
 use Rattle.sg_words.specs.declared.steps.BlockWord.{BlockWord}
 use Rattle.sg_words.specs.declared.steps.BlockWord.TheVariants.{Free, Swept, Need, Sweeping}
 use Rattle.sg_words.specs.declared.layout.Layout.{Layout}
-use Rattle.sg_words.proofs.Blocks.{class_bounds, class_slots, slot_fits}
+use Rattle.sg_words.proofs.Blocks.{class_bounds}
 use Rattle.sg_desc.specs.declared.shapes.Shape.{Shape}
 use Rattle.sg_blocks.specs.Numbers.{IsBlockWord, block_number}
 use Rattle.sg_space.specs.Space.{Contents, cards_in}
 use Rattle.sg_space.specs.Laws.{PlacingLaw}
-use Rattle.sg_space.specs.Standing.{word, size_at, block_in, used_in, marks_in, page_in, page_base, IsSoundBy, IsSound}
+use Rattle.sg_space.specs.Standing.{size_at, block_in, used_in, marks_in, page_in, page_base, IsSoundBy, IsSound}
 use Rattle.sg_cards.specs.Seeds.{IsSeedAt}
 use Rattle.sg_cards.specs.Scanned.{card_base, IsScannedTo, AreSoundWords, IsOldFront, IsMaskOf}
 use Rattle.sg_cards.specs.Numbering.{blocks_from, pages_from}

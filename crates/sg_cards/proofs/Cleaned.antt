@@ -1,12 +1,10 @@
 -- A space whose cards alone differ, and the cards that a cleaning has come to.
-use Rattle.std.proofs.Common.{◌≡◌, ◌≢◌, ℕ, ◌+◌, ◌-◌, ◌*◌, ◌/◌, ◌%◌, ◌<◌, ◌≤◌, ◌↔◌, ◌⊎◌, inl, inr, List, length, Option, Some, refl, sym, ap, ◌∙◌, subst, le_refl, arith, slice_index}
+use Rattle.std.proofs.Common.{◌≡◌, ◌≢◌, ℕ, ◌+◌, ◌-◌, ◌*◌, ◌/◌, ◌%◌, ◌<◌, ◌≤◌, ◌↔◌, inl, inr, List, length, Option, refl, sym, ap, ◌∙◌, subst, le_refl, arith, slice_index}
 use Rattle.std.proofs.lemmas.Bool.{cases_eq, cases_lt}
-use Rattle.sg_words.specs.Address.{byte_at}
-use Rattle.sg_words.specs.Blocks.{card_of}
 use Rattle.sg_words.specs.Sections.{old_base}
-use Rattle.sg_space.specs.Space.{Contents, cards_in}
-use Rattle.sg_space.specs.Standing.{word, IsInNursery, IsInSlot, IsInPages, IsPlaced, IsSoundBlock, IsSoundPage, IsGarbage, IsSoundBy}
-use Rattle.sg_cards.specs.Seeds.{IsSeedAt, HasSeed, AreCarded}
+use Rattle.sg_space.specs.Space.{Contents}
+use Rattle.sg_space.specs.Standing.{word, IsPlaced, IsGarbage, IsSoundBy}
+use Rattle.sg_cards.specs.Seeds.{IsSeedAt, HasSeed}
 use Rattle.sg_cards.specs.Scanned.{card_base, IsScannedTo}
 
 -- the space with these cards

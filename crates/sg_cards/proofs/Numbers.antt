@@ -1,7 +1,6 @@
 -- What stands at a number.
-use Rattle.std.proofs.Common.{◌≡◌, ℕ, ◌+◌, ◌-◌, ◌*◌, ◌/◌, ◌%◌, ◌<◌, ◌≤◌, ◌==◌, nat_lt, if◌then◌else◌, List, refl, sym, ap, ◌∙◌, subst, slice_index, arith}
+use Rattle.std.proofs.Common.{◌≡◌, ℕ, ◌+◌, ◌-◌, ◌*◌, ◌/◌, ◌%◌, ◌<◌, ◌≤◌, nat_lt, if◌then◌else◌, List, sym, ap, ◌∙◌, slice_index, arith}
 use Rattle.std.proofs.lemmas.Bool.{cond-true, cond-false, lt-ltb, le-ltb}
-use Rattle.std.proofs.lemmas.Nat.{mod-mul-add}
 use Rattle.sg_words.specs.Sections.{nursery_base, words_end}
 use Rattle.sg_words.specs.declared.layout.Layout.{Layout}
 use Rattle.sg_desc.specs.declared.shapes.Shape.{Shape}

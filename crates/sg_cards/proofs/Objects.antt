@@ -1,19 +1,19 @@
 -- What is read of an old or large object, and which of its fields are seeds.
-use Rattle.std.proofs.Common.{◌≡◌, ◌≢◌, ℕ, ◌+◌, ◌-◌, ◌*◌, ◌/◌, ◌^◌, ◌<◌, ◌≤◌, ◌⊎◌, inl, inr, true, false, Option, Some, None, List, length, refl, sym, ap, ◌∙◌, subst, slice_get, arith}
+use Rattle.std.proofs.Common.{◌≡◌, ℕ, ◌+◌, ◌-◌, ◌^◌, ◌<◌, ◌≤◌, inl, inr, true, Option, Some, List, length, refl, sym, ap, ◌∙◌, subst, slice_get, arith}
 use Rattle.std.proofs.lemmas.Option.{same_Some, slice_get_within}
 use Rattle.sg_words.specs.Tags.{plain_word}
 use Rattle.sg_words.specs.Blocks.{slot_size}
-use Rattle.sg_words.specs.Sections.{nursery_base, old_base, large_base, globals_base, words_end}
+use Rattle.sg_words.specs.Sections.{nursery_base, old_base, globals_base}
 use Rattle.sg_words.specs.declared.layout.Layout.{Layout}
 use Rattle.sg_words.proofs.Blocks.{slot_size-holds, slot_fits}
 use Rattle.sg_desc.specs.declared.shapes.Shape.{Shape}
 use Rattle.sg_desc.specs.Shapes.{is_strong}
 use Rattle.sg_space.specs.Space.{Contents}
-use Rattle.sg_space.specs.Standing.{word, size_at, IsPlaced, IsSoundBy, IsSound}
-use Rattle.sg_cards.specs.Numbering.{numbers_end, AreWordsOf}
-use Rattle.sg_cards.specs.Seeds.{IsYoungWord, IsStrongField, IsSeedAt}
+use Rattle.sg_space.specs.Standing.{word, size_at, IsPlaced, IsSoundBy}
+use Rattle.sg_cards.specs.Numbering.{numbers_end}
+use Rattle.sg_cards.specs.Seeds.{IsYoungWord, IsSeedAt}
 use Rattle.sg_cards.specs.Scanned.{AreSoundWords, IsOldFront}
-use Rattle.sg_cards.proofs.Numbers.{count_same, word_is}
+use Rattle.sg_cards.proofs.Numbers.{word_is}
 
 -- an object that begins above the nursery ends before the globals
 pub place_ends : (s : Contents) (h : ℕ) → IsPlaced s h → old_base s.layout ≤ h → h + size_at s h ≤ globals_base s.layout

@@ -1,8 +1,7 @@
 -- A scan of an object's fields in a card.
-use Rattle.std.proofs.Common.{◌≡◌, ◌≢◌, ℕ, ◌+◌, ◌-◌, ◌/◌, ◌<◌, ◌≤◌, true, false, Option, Some, List, length, min, refl, sym, ap, ◌∙◌, subst, inl, inr, slice_get, slice_set, get_or, arith}
+use Rattle.std.proofs.Common.{◌≡◌, ℕ, ◌+◌, ◌-◌, ◌/◌, ◌<◌, ◌≤◌, true, false, Option, List, length, min, sym, ap, ◌∙◌, subst, inl, inr, slice_set, get_or, arith}
 use Rattle.std.proofs.lemmas.Bool.{cases_lt, false≢true}
 use Rattle.std.proofs.lemmas.Option.{get_or_from_slice_get}
-use Rattle.sg_words.specs.Tags.{plain_word}
 use Rattle.sg_words.specs.Sections.{nursery_base, globals_base}
 use Rattle.sg_words.specs.declared.layout.Layout.{Layout}
 use Rattle.sg_desc.specs.declared.shapes.Shape.{Shape}
@@ -10,7 +9,6 @@ use Rattle.sg_desc.specs.declared.shapes.Descriptor.{Descriptor}
 use Rattle.sg_desc.specs.Shapes.{is_strong}
 use Rattle.sg_space.specs.Space.{Contents}
 use Rattle.sg_space.specs.Standing.{word, size_at, IsSoundBy}
-use Rattle.sg_cards.specs.Numbering.{AreWordsOf}
 use Rattle.sg_cards.specs.Seeds.{IsYoungWord, IsSeedAt}
 use Rattle.sg_cards.specs.Scanned.{card_base, IsScannedTo, AreSoundWords, IsOldFront}
 use Rattle.sg_cards.proofs.Numbers.{word_is}

@@ -1,6 +1,6 @@
 -- The numbers of all words of a space: first the words from address 4096 on to the end of the weak links, by address; then a word for each
 -- card; then for each block its word's number, its occupancy and its marks; then a word for each page.
-use Rattle.std.specs.Prelude.{◌≡◌, ℕ, ◌+◌, ◌-◌, ◌*◌, ◌/◌, ◌%◌, ◌<◌, ◌==◌, nat_lt, if◌then◌else◌, List, length, slice_index}
+use Rattle.std.specs.Prelude.{◌≡◌, ℕ, ◌+◌, ◌-◌, ◌*◌, ◌/◌, ◌%◌, ◌<◌, ◌==◌, nat_lt, if◌then◌else◌, List, slice_index}
 use Rattle.sg_words.specs.Sections.{nursery_base, words_end}
 use Rattle.sg_words.specs.declared.layout.Layout.{Layout}
 use Rattle.sg_desc.specs.declared.shapes.Shape.{Shape}

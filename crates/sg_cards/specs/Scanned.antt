@@ -3,13 +3,13 @@ use Rattle.std.specs.Prelude.{◌≡◌, ◌≢◌, ℕ, ◌+◌, ◌*◌, ◌/�
 use Rattle.std.specs.List.Sorted.{IsStrictlyIncreasing}
 use Rattle.sg_words.specs.Address.{byte_at}
 use Rattle.sg_cards.specs.declared.found.Seed.{Seed}
-use Rattle.sg_words.specs.Sections.{old_base, large_base, globals_base}
+use Rattle.sg_words.specs.Sections.{old_base}
 use Rattle.sg_words.specs.Blocks.{IsOf, is_taken}
 use Rattle.std.specs.Int.{bit_at}
 use Rattle.sg_words.specs.declared.layout.Layout.{Layout}
 use Rattle.sg_desc.specs.declared.shapes.Shape.{Shape}
-use Rattle.sg_space.specs.Space.{Contents, cards_in}
-use Rattle.sg_space.specs.Standing.{word, size_at, block_in, used_in, marks_in, IsSoundBy, IsSound, IsFront}
+use Rattle.sg_space.specs.Space.{Contents}
+use Rattle.sg_space.specs.Standing.{word, block_in, used_in, marks_in, IsSoundBy, IsSound, IsFront}
 use Rattle.sg_cards.specs.Numbering.{AreWordsOf}
 use Rattle.sg_cards.specs.Seeds.{IsSeedAt}
 

@@ -1,5 +1,5 @@
 -- The strong fields of standing old and large objects that hold young references, and the cards that they need.
-use Rattle.std.specs.Prelude.{◌≡◌, ℕ, ◌+◌, ◌<◌, ◌≤◌, ◌↔◌, true, Option, Some, List, map, length, slice_get, slice_index}
+use Rattle.std.specs.Prelude.{◌≡◌, ℕ, ◌+◌, ◌<◌, ◌≤◌, true, Option, Some, List, map, slice_get, slice_index}
 use Rattle.std.specs.List.Sorted.{IsStrictlyIncreasing}
 use Rattle.sg_words.specs.Address.{byte_at}
 use Rattle.sg_words.specs.Tags.{plain_word}
@@ -8,7 +8,7 @@ use Rattle.sg_words.specs.Sections.{old_base, IsYoung}
 use Rattle.sg_words.specs.declared.layout.Layout.{Layout}
 use Rattle.sg_desc.specs.declared.shapes.Shape.{Shape}
 use Rattle.sg_desc.specs.Shapes.{is_strong}
-use Rattle.sg_space.specs.Space.{Contents, cards_in}
+use Rattle.sg_space.specs.Space.{Contents}
 use Rattle.sg_space.specs.Standing.{word, IsSoundBy}
 use Rattle.sg_cards.specs.declared.found.Seed.{Seed}
 

@@ -1,4 +1,4 @@
-use Rattle.std.proofs.Common.{◌≡◌, ℕ, ◌≤◌, ◌<◌, ◌↔◌, slice_index, ap, ◌∙◌, sym, subst, arith}
+use Rattle.std.proofs.Common.{◌≡◌, ℕ, ◌↔◌, slice_index, sym, subst}
 use Rattle.sg_space.specs.Space.{Contents}
 use Rattle.sg_cards.specs.Seeds.{HasSeed}
 use Rattle.sg_cards.proofs.Cleaned.{with_cards, sound_still, exactly_clean}

@@ -1,4 +1,4 @@
-use Rattle.std.proofs.Common.{◌≡◌, ℕ, true, length, slice_index, get_or, slice_set, ap, ◌∙◌, sym, subst, arith}
+use Rattle.std.proofs.Common.{◌≡◌, true, slice_index, ap, ◌∙◌, arith}
 use Rattle.std.proofs.lemmas.List.{get_or-set_same}
 use Rattle.sg_space.specs.Space.{Contents}
 use Rattle.sg_cards.proofs.cards.clean_card.Goals as goal

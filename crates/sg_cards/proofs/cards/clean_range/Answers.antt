@@ -1,4 +1,4 @@
-use Rattle.std.proofs.Common.{◌≡◌, ℕ, ◌≤◌, ◌<◌, ◌⊎◌, inl, inr, slice_index, ap, ◌∙◌, sym, subst, arith}
+use Rattle.std.proofs.Common.{inr, arith}
 use Rattle.sg_cards.proofs.Cleaned.{sound_still, cleaned_more, cleaned_all}
 use Rattle.sg_cards.proofs.cards.clean_range.Goals as goal
 

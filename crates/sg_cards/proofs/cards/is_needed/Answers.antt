@@ -1,6 +1,5 @@
-use Rattle.std.proofs.Common.{◌≡◌, ℕ, ◌+◌, length, ap, ◌∙◌, refl, sym, subst, arith}
+use Rattle.std.proofs.Common.{◌≡◌, ◌+◌, length, ap, refl, sym, subst, arith}
 use Rattle.sg_words.specs.declared.layout.Layout.{Layout}
-use Rattle.sg_space.specs.Standing.{IsSoundBy}
 use Rattle.sg_cards.specs.Scanned.{card_base, IsScannedTo, AreSoundWords}
 use Rattle.sg_cards.specs.Numbering.{numbers_end, numbered}
 use Rattle.sg_cards.proofs.Cleaned.{needed_exactly}

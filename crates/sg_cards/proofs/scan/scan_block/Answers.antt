@@ -1,10 +1,8 @@
 use Rattle.std.proofs.Common.{◌≡◌, ℕ, ◌+◌, ◌*◌, ◌/◌, Some, sym, ap, ◌∙◌, subst}
 use Rattle.std.proofs.lemmas.Option.{none-some, same_Some}
-use Rattle.sg_words.specs.declared.steps.BlockWord.TheVariants.{Free, Swept, Need, Sweeping}
 use Rattle.sg_words.specs.declared.layout.Layout.{Layout}
 use Rattle.sg_space.specs.Standing.{block_in}
 use Rattle.sg_space.specs.Space.{Contents}
-use Rattle.sg_cards.specs.Numbering.{blocks_from}
 use Rattle.sg_cards.specs.Scanned.{card_base, IsScannedTo, AreSoundWords}
 use Rattle.sg_cards.proofs.Carded.{block_read, swept_mask, need_mask, free_card, none_sweeping}
 use Rattle.sg_cards.proofs.scan.scan_block.Given.{Over}

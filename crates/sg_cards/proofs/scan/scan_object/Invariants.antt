@@ -2,8 +2,6 @@ use Rattle.std.proofs.Common.{◌≡◌, ◌+◌, ◌-◌, ◌<◌, ◌≤◌, �
 use Rattle.sg_desc.specs.Shapes.{is_strong}
 use Rattle.sg_space.specs.Space.{Contents}
 use Rattle.sg_cards.specs.Scanned.{IsScannedTo, AreSoundWords, IsOldFront, card_base}
-use Rattle.sg_cards.proofs.Scanning.{AreNoSeeds}
-use Rattle.sg_cards.proofs.Objects.{seed_at}
 use Rattle.sg_cards.proofs.scan.scan_object.Given as goal
 
 abbrev pub invariant-loop-i : goal.invariant-loop-i

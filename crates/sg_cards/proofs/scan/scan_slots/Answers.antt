@@ -1,13 +1,12 @@
-use Rattle.std.proofs.Common.{◌≡◌, ◌≢◌, ℕ, ◌+◌, ◌*◌, ◌/◌, ◌%◌, ◌<◌, ◌≤◌, min, List, sym, ap, ◌∙◌, subst, refl, arith, inl, inr}
-use Rattle.std.specs.Int.{bit_at}
+use Rattle.std.proofs.Common.{◌≡◌, ℕ, ◌+◌, ◌*◌, ◌/◌, ◌%◌, ◌<◌, min, List, sym, ap, ◌∙◌, subst, arith}
 use Rattle.std.proofs.lemmas.Nat.Bits.{shr_and_one}
 use Rattle.sg_words.specs.Sections.{old_base}
-use Rattle.sg_words.specs.Blocks.{slots, block_base, slot_base}
+use Rattle.sg_words.specs.Blocks.{slots, slot_base}
 use Rattle.sg_words.specs.declared.layout.Layout.{Layout}
 use Rattle.sg_words.proofs.Blocks.{class_bounds, class_slots}
 use Rattle.sg_space.specs.Standing.{size_at}
 use Rattle.sg_cards.specs.Scanned.{card_base, IsScannedTo, IsOldFront}
-use Rattle.sg_cards.proofs.Carded.{class, base_is, old_front, over_clear, over_set, last_slot}
+use Rattle.sg_cards.proofs.Carded.{class, old_front, over_clear, over_set, last_slot}
 use Rattle.sg_cards.proofs.scan.scan_slots.Goals.{then-mask-slot-eq1, else-mask-slot-eq1}
 use Rattle.sg_cards.proofs.scan.scan_slots.Goals as goal
 

@@ -1,4 +1,4 @@
-use Rattle.std.proofs.Common.{◌≡◌, ℕ, sym, subst, replicate}
+use Rattle.std.proofs.Common.{subst, replicate}
 use Rattle.std.proofs.lemmas.List.{get_or-replicate}
 use Rattle.sg_words.specs.declared.layout.Layout.{Layout}
 use Rattle.sg_cards.specs.Scanned.{card_base, IsScannedTo}

@@ -1,5 +1,4 @@
 use Rattle.std.proofs.Common.{◌≡◌, ℕ, ◌+◌, ◌*◌, ◌<◌, sym, ap, ◌∙◌, subst, arith}
-use Rattle.sg_space.specs.Space.{cards_in}
 use Rattle.sg_cards.specs.Numbering.{cards_from}
 use Rattle.sg_cards.specs.Scanned.{card_base, AreSeedsTo}
 use Rattle.sg_cards.proofs.Seeding.{seeds_over, four_zero, zero_four}

@@ -1,4 +1,4 @@
-use Rattle.std.proofs.Common.{◌≡◌, ℕ, ◌-◌, ◌/◌, ◌%◌, ◌<◌, ◌≤◌, sym, ap, ◌∙◌, subst}
+use Rattle.std.proofs.Common.{ℕ, ◌-◌, ◌/◌, ◌%◌, ◌<◌, ◌≤◌, sym, ap, ◌∙◌, subst}
 use Rattle.sg_space.specs.Standing.{page_in}
 use Rattle.sg_cards.specs.Numbering.{blocks_from, pages_from, of_block}
 use Rattle.sg_cards.proofs.Numbers.{numbered_block, numbered_page}

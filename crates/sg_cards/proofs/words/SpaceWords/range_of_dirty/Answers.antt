@@ -1,7 +1,6 @@
-use Rattle.std.proofs.Common.{◌≡◌, ℕ, ◌+◌, ◌-◌, ◌<◌, ◌≤◌, sym, ap, ◌∙◌, subst, arith, slice_index}
-use Rattle.sg_words.specs.declared.layout.Layout.{Layout}
+use Rattle.std.proofs.Common.{◌≡◌, ℕ, ◌+◌, ◌-◌, ap, ◌∙◌, arith, slice_index}
 use Rattle.sg_space.specs.Space.{cards_in}
-use Rattle.sg_cards.specs.Numbering.{cards_from, blocks_from, numbered}
+use Rattle.sg_cards.specs.Numbering.{cards_from, numbered}
 use Rattle.sg_cards.proofs.Numbers.{numbered_card}
 use Rattle.sg_cards.proofs.words.SpaceWords.range_of_dirty.Goals as goal
 
