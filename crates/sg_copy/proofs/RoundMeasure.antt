@@ -1,10 +1,9 @@
 -- Each turn of one worker alone leaves it less to do.
-use Rattle.std.proofs.Common.{◌≡◌, ◌≢◌, ℕ, zero, suc, ◌+◌, ◌-◌, ◌*◌, ◌<◌, ◌≤◌, ◌⊎◌, nat_lt, if◌then◌else◌, Bool}
-use Rattle.std.proofs.Common.{true, false, List, [], ◌∷◌, ◌++◌, length, inl, inr, refl, sym, ap, ◌∙◌, subst, arith}
+use Rattle.std.proofs.Common.{◌≡◌, ℕ, zero, suc, ◌+◌, ◌-◌, ◌*◌, ◌<◌, ◌≤◌, ◌⊎◌, nat_lt, Bool}
+use Rattle.std.proofs.Common.{List, [], ◌∷◌, length, inl, inr, refl, sym, ap, ◌∙◌, subst, arith}
 use Rattle.std.proofs.lemmas.Bool.{cases_eq, cases_lt, cases_Bool, cond-true, cond-false, lt-ltb, le-ltb}
 use Rattle.std.proofs.lemmas.List.{length-append}
 use Rattle.std.specs.Int.{bit_at}
-use Rattle.sg_words.specs.Address.{byte_at}
 use Rattle.sg_words.specs.Tags.{plain_word}
 use Rattle.sg_words.specs.Objects.{strong_slots}
 use Rattle.sg_words.specs.Words.{put, Words, Saw, after_step, replayed, IsLegal}
@@ -13,10 +12,10 @@ use Rattle.sg_words.specs.declared.steps.BlockWord.{BlockWord}
 use Rattle.sg_words.specs.declared.steps.BlockWord.TheVariants.{Free, Swept, Need, Sweeping}
 use Rattle.sg_words.specs.declared.steps.Step.{Step}
 use Rattle.sg_words.proofs.Puts.{put-same, put-other}
-use Rattle.sg_round.specs.Area.{Area, IsYoung, place, class_of}
-use Rattle.sg_round.specs.Items.{Item, SlotOf, WholeOf, cell_word, slots_by}
+use Rattle.sg_round.specs.Area.{Area, IsYoung}
+use Rattle.sg_round.specs.Items.{Item, SlotOf, WholeOf, cell_word}
 use Rattle.sg_round.specs.Worker.{Object, Stage, Look, Size, Room, Take, Slots, Mark, Body, Puts, Swap, Pin, Send, Dirty, Mid, Idle, Took, Count, On, Offer}
-use Rattle.sg_round.specs.Worker.{Seek, Grab, Over, Worker, size_for, idle, on, looking}
+use Rattle.sg_round.specs.Worker.{Seek, Grab, Over, Worker, size_for, looking}
 use Rattle.sg_round.specs.Rules.{Effect, Nothing, Ends, Moves, Fails, FailsEnding, IsNext, IsLooking, Comes}
 use Rattle.sg_round.specs.Rules.IsNext.{Of_hand, Of_list, Of_cell}
 use Rattle.sg_round.specs.Rules.Comes.{opens, counts, sees_none, sees, looks_forwarded, looks_fixed, looks_bare, looks_plain, has_spare, has_none, finds_free}

@@ -1,21 +1,21 @@
 -- A round of one worker over a plain space, in its midst.
-use Rattle.std.proofs.Common.{◌≡◌, ◌≢◌, ℕ, ◌+◌, ◌-◌, ◌*◌, ◌<◌, ◌≤◌, Bool, List, []}
-use Rattle.std.proofs.Common.{◌∷◌, ◌++◌, length, map, slice_index, replicate, refl, sym, ap, ◌∙◌, subst, arith}
-use Rattle.sg_words.specs.Words.{Words, Saw, replayed, IsLegal}
-use Rattle.sg_words.specs.Programs.{FollowsBy, Guides}
+use Rattle.std.proofs.Common.{◌≡◌, ℕ, ◌<◌, Bool, List, []}
+use Rattle.std.proofs.Common.{◌∷◌, length, refl, sym, ap, ◌∙◌, subst}
+use Rattle.sg_words.specs.Words.{Words, Saw}
+use Rattle.sg_words.specs.Programs.{FollowsBy}
 use Rattle.sg_words.specs.declared.steps.Step.{Step}
 use Rattle.sg_words.specs.declared.steps.Call.{Call}
-use Rattle.sg_space.specs.Space.{Contents, IsContents}
+use Rattle.sg_space.specs.Space.{IsContents}
 use Rattle.sg_round.specs.Area.{Area}
 use Rattle.sg_round.specs.Acting.{RestsAt}
-use Rattle.sg_round.specs.Round.{Start, IsRoundOpening}
-use Rattle.sg_round.specs.Laws.{OpensSoFar, TellsSoFar, BoundedLaw, GoesAlways}
+use Rattle.sg_round.specs.Round.{Start}
+use Rattle.sg_round.specs.Laws.{TellsSoFar, BoundedLaw, GoesAlways}
 use Rattle.sg_copy.specs.declared.gray.Gray.{Gray}
 use Rattle.sg_copy.specs.declared.plain.PlainRound.{PlainRound}
 use Rattle.sg_copy.specs.Copying.{area_of, IsStillBeside}
 use Rattle.sg_copy.specs.State.{Copying, teller_of, seat_of, worker_of, IsSameCopier}
-use Rattle.sg_copy.specs.Telling.{Seat, Teller, Tells, TellsOn, IsSaneTeller, IsOn, HasTurned}
-use Rattle.sg_copy.specs.Plain.{words_with, LeadsOn, Allows, still_none, still_then}
+use Rattle.sg_copy.specs.Telling.{Seat, Teller, Tells, TellsOn, IsOn, HasTurned}
+use Rattle.sg_copy.specs.Plain.{words_with, LeadsOn, Allows, still_then}
 use Rattle.sg_copy.specs.Rounds.{start_of}
 use Rattle.sg_copy.proofs.RoundGuided.{Stood, stood-later, stood-sane, stood-next, seat_in, may-call}
 use Rattle.sg_copy.proofs.RoundMeasure.{IsAlone, left, eased-turn}

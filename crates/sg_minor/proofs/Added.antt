@@ -84,7 +84,7 @@ tests-young area v false is = elim (cases_Bool (is_young_word area v)) [
 pub global-more : (layout : Layout) (x : ℕ) → global_slots layout (x + 1) ≡ global_slots layout x ++ (globals_base layout + x) ∷ []
 global-more layout x =
     ap (λ (z : ℕ). global_slots layout z) (let e : x + 1 ≡ suc x = omega arith in e) ∙ map-append (λ (z : ℕ). globals_base layout + z) (numbers_below x)
-        (x ∷ [])
+    (x ∷ [])
 
 module _ (p : Program) (w : ℕ → ℕ) (area : Area) (g : Graph) (b : Book) (slots : List ℕ) (seeds : AreSlots p w area g b slots) where
   pub outside-is : (s : ℕ) → In s (slots_outside p g b seeds.old) → IsSeed p g b s
@@ -104,11 +104,11 @@ module _ (p : Program) (w : ℕ → ℕ) (area : Area) (g : Graph) (b : Book) (s
   outside : (s : ℕ) → IsSeed p g b s → In s (slots_outside p g b seeds.old)
   outside s (Global x l e) = in-left s (global_slots (layout_of p) 64) (flat_map (slots_of_name p g b) seeds.old)
       (subst (λ (z : ℕ). In z (global_slots (layout_of p) 64)) (sym e)
-          (in_map (λ (x : ℕ). globals_base (layout_of p) + x) x (numbers_below 64) (below-in 64 x l)))
+      (in_map (λ (x : ℕ). globals_base (layout_of p) + x) x (numbers_below 64) (below-in 64 x l)))
   outside s (Field n i d st o l e q) = in-right s (global_slots (layout_of p) 64) (flat_map (slots_of_name p g b) seeds.old)
       (flat-in (slots_of_name p g b) n s seeds.old ((seeds.old_are.exact n).1 (d, st, o))
       (subst (λ (z : ℕ). In z (slots_of_name p g b n)) (sym q)
-          (slots-in (λ (i : ℕ). is_strong_by (kind_of p (g.class n)) i (g.size n)) (b.address n) 0 (g.size n) i (omega arith) (omega arith) e)))
+      (slots-in (λ (i : ℕ). is_strong_by (kind_of p (g.class n)) i (g.size n)) (b.address n) 0 (g.size n) i (omega arith) (omega arith) e)))
 
   pub seeds-all : (s x : ℕ) → IsSeed p g b s → w s ≡ byte_at x → IsYoung area x → In s slots
   seeds-all s x k e y = subst (λ (l : List ℕ). In s l) (sym seeds.list)
@@ -122,7 +122,7 @@ module _ (f : ℕ → Bool) where
   pub adds-more : (xs ys zs slots more : List ℕ) → ys ≡ xs ++ filter f slots → zs ≡ ys ++ filter f more → zs ≡ xs ++ filter f (slots ++ more)
   adds-more xs ys zs slots more d e =
       e ∙ ap (λ (l : List ℕ). l ++ filter f more) d ∙ append_assoc xs (filter f slots) (filter f more) ∙ ap (λ (l : List ℕ). xs ++ l)
-          (sym (filter-append f slots more))
+      (sym (filter-append f slots more))
 
   pub adds-one : (xs ys : List ℕ) (s : ℕ) → f s ≡ true → ys ≡ xs ++ s ∷ [] → ys ≡ xs ++ filter f (s ∷ [])
   adds-one xs ys s is e = e ∙ ap (λ (l : List ℕ). xs ++ l) (sym (cond-true _ _ _ is))

@@ -44,11 +44,11 @@ module _ (p : Program) (v : Contents) (g : Graph) (b : Book) (heap : HoldsHeap p
         let low = lies.0 in
         let high = lies.1 in
         let seed = seeded p v g b heap.0 heap.1.0 heap.1.1 contents heap.1.2 x
-            (record { name = n; field = i; some = d; stands = stands; old = old; within = within; strong = strong; at = refl })
+        (record { name = n; field = i; some = d; stands = stands; old = old; within = within; strong = strong; at = refl })
         (b.address m, held, (low, omega arith)) in
         ap (λ c. slice_index w.cards c) (sym layout)
         ∙ (cleaned.dirty (owner_of p v g b heap.0 heap.1.0 heap.1.1 contents) (sound_by p v g b heap.0 heap.1.0 heap.1.1 contents heap.1.2) (card_of v.layout x)
-            (omega arith)).1
+        (omega arith)).1
         (ap (λ c. slice_index v.cards c) layout ∙ before, (x, seed, refl));
   }
     where

@@ -90,8 +90,11 @@ module _ (c : Ended) where
         let other : m ≢ n = λ e. fresh-not n names fresh (subst (λ (z : ℕ). In z names) e i) in
         (put-other d.address n x m other ∙ q.0, put-other d.section n Old m other ∙ q.1);
     done = λ m s out. elim (cases_eq m n) [
-      | inl e ↦ (ap (put d.address n x) e ∙ put-same d.address n x ∙ sym at ∙ ap (address_of c) (sym e), ap (put d.section n Old) e ∙ put-same d.section n Old ∙
-          sym old ∙ ap (section_of c) (sym e))
+      | inl e ↦ (
+        ap (put d.address n x) e ∙ put-same d.address n x ∙ sym at ∙ ap (address_of c) (sym e),
+        ap (put d.section n Old) e ∙ put-same d.section n Old ∙
+            sym old ∙ ap (section_of c) (sym e),
+      )
       | inr other ↦
           let q = a.done m s (λ i. elim (has-cases m n names i) [
             | inl e ↦ other e
@@ -123,12 +126,15 @@ module _ (c : Ended) where
   module _ (block' : ℕ → BlockWord) (used' : ℕ → ℕ) where
     copied-all : (d : Book) (block : ℕ → BlockWord) (used : ℕ → ℕ) (moves fails names : List ℕ) →
         Fits (area_for c.p) c.w c.m block used moves fails (map c.b.address names) block' used' → AreBlocksBy c.p c.g d block used → IsAgreed d names →
-            AreDistinct names →
+        AreDistinct names →
         ((a : ℕ) → In a moves → In a c.moves) → ((a : ℕ) → In a fails → In a c.stays) →
-            ((n : ℕ) → In n names → (n ≢ 0) × (c.b.stands n ≡ true) × (c.b.section n ≡ Young)) →
+        ((n : ℕ) → In n names → (n ≢ 0) × (c.b.stands n ≡ true) × (c.b.section n ≡ Young)) →
         IsCopiedBy d names block' used'
-    copied-all d block used moves fails [] f by a once moved failed each = (tt, blocks_as c.p c.g d (booked c) block block' used used' by (is-old-as d a)
-        (λ j. ap (λ (h : ℕ → BlockWord). h j) f.2) (λ j. ap (λ (h : ℕ → ℕ). h j) f.3))
+    copied-all d block used moves fails [] f by a once moved failed each = (
+      tt,
+      blocks_as c.p c.g d (booked c) block block' used used' by (is-old-as d a)
+          (λ j. ap (λ (h : ℕ → BlockWord). h j) f.2) (λ j. ap (λ (h : ℕ → ℕ). h j) f.3),
+    )
     copied-all d block used moves fails (n ∷ names) f by a once moved failed each =
         let x = c.b.address n in
         let o = each n (in-here n n names refl) in
@@ -143,7 +149,7 @@ module _ (c : Ended) where
               let at : address_of c n ≡ slot_at c.p q.0 (slot_words (c.g.size n)) q.1 = at-sent c n o.1 ∙ q.4 in
               let old = moved-section c n o.1 in_moves in
               let rest = copied-all (moved_to_slot d n (slot_at c.p q.0 (slot_words (c.g.size n)) q.1)) (put block q.0 (Swept (slot_words (c.g.size n))))
-                  (put used q.0 (bit_or (used q.0) (2 ^ q.1)))
+              (put used q.0 (bit_or (used q.0) (2 ^ q.1)))
               q.2 fails names q.6
               (moved_by c.p c.g d block used by n q.0 q.1 (some-name n o.0) (a.stands n ∙ o.1) not_old q.3)
               (moved-on d n names (slot_at c.p q.0 (slot_words (c.g.size n)) q.1) a once.0 at old) once.1
@@ -153,9 +159,15 @@ module _ (c : Ended) where
               let stays = failed x (subst (λ (l : List ℕ). In x l) (sym q.2) (in-here x x q.0 refl)) in
               let still = stays-still c n stays in
               let rest = copied-all d block used moves q.0 names q.3 by (failed-on d n names a still) once.1 moved
-              (λ z i. failed z (subst (λ (l : List ℕ). In z l) (sym q.2) (in-there z x q.0 i))) more in
-              (inr ((λ j there. passed_shut c.p c.g d block used by (slot_words (c.g.size n)) j there
-                  (subst (λ (z : ℕ). IsPassed block used z j) size (q.1 j there))), still, rest.0), rest.1)
+              (λ z i. failed z (subst (λ (l : List ℕ). In z l) (sym q.2) (in-there z x q.0 i))) more in (
+                inr (
+                  (λ j there. passed_shut c.p c.g d block used by (slot_words (c.g.size n)) j there
+                      (subst (λ (z : ℕ). IsPassed block used z j) size (q.1 j there))),
+                  still,
+                  rest.0,
+                ),
+                rest.1,
+              )
         ]
 
     -- what moves is found

@@ -42,7 +42,7 @@ module _ (c : Ended) where
       let s = stood c n k in
       let len = size-is c.p c.area c.tie c.w c.g c.b c.ambiguous c.owner c.heap n d s in
       let st = strong-of c.p c.area c.tie c.w c.g c.b c.ambiguous c.owner c.heap n i s d ∙ c.law.strong c.p c.g c.plain n i (some-name n d)
-          (c.heap.laid.objects.given n s) in
+      (c.heap.laid.objects.given n s) in
       ap (λ (z : ℕ). c.v (z + 2 + i)) (at-sent c n s)
       ∙ (pictured c n d s (place c n d k)).fields i (omega arith)
       ∙ entry-word c.b.address (address_of c) c.m (c.g.field n i) (is_strong c.area c.w (c.b.address n) i) (c.w (c.b.address n + 2 + i))
@@ -73,7 +73,7 @@ module _ (c : Ended) where
     | inr d ↦
         let s = stood c n h in
         let r = sort-of-ref (holds_reference (kind_of c.p (c.g.class n)) i (c.g.size n)) k
-            (subst (λ z. IsOfSort (holds_reference (kind_of c.p (c.g.class n)) i (c.g.size n)) z) e (c.heap.laid.fields.sorted n i s l)) in
+        (subst (λ z. IsOfSort (holds_reference (kind_of c.p (c.g.class n)) i (c.g.size n)) z) e (c.heap.laid.fields.sorted n i s l)) in
         let here = c.law.strong c.p c.g c.plain n i (some-name n (has-field n i l)) (c.heap.laid.objects.given n s) ∙ r in
         target-kept c.p c.area c.tie c.w c.g c.b c.ambiguous c.owner c.heap c.stays c.moves c.traced n k (has-field n i l) h (d, (i, l, here, e))
   ]

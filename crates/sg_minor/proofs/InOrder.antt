@@ -103,7 +103,7 @@ split-at f q (n ∷ xs) [] x rest e = elim (cases_Bool (q n)) [
 split-at f q (n ∷ xs) (y ∷ passed) x rest e = elim (cases_Bool (q n)) [
   | inl is ↦ (let k = passing f q n xs (y ∷ (passed ++ x ∷ rest)) e is in
       split-over f q n xs y passed x (same-head (f n) y (map f (filter q xs)) (passed ++ x ∷ rest) k)
-          (split-at f q xs passed x rest (same-tail (f n) y (map f (filter q xs)) (passed ++ x ∷ rest) k)))
+      (split-at f q xs passed x rest (same-tail (f n) y (map f (filter q xs)) (passed ++ x ∷ rest) k)))
   | inr is ↦ split-skip f q n xs (y ∷ passed) x is (split-at f q xs (y ∷ passed) x rest (failing f q n xs (y ∷ (passed ++ x ∷ rest)) e is))
 ]
 
@@ -112,7 +112,7 @@ module _ (area : Area) (w : ℕ → ℕ) where
   target-at v a e =
       let q : word_at v ≡ a = ap word_at e ∙ word_at-byte_at a in
       cond-true _ (cond (is_plain area w (word_at v)) (word_at v ∷ []) []) [] (eq-eqb v (byte_at (word_at v)) (e ∙ ap byte_at (sym q))) ∙ ap
-          (λ (z : ℕ). cond (is_plain area w z) (z ∷ []) []) q
+      (λ (z : ℕ). cond (is_plain area w z) (z ∷ []) []) q
 
   plain-of : (x : ℕ) → is_plain area w x ≡ true → IsYoung area x × (w x ≡ plain_word (class_of (w x)))
   plain-of x e = ((grind (arith, nat_tests), grind (arith, nat_tests)), grind (arith, nat_tests))
@@ -170,7 +170,7 @@ module _ (p : Program) (w : ℕ → ℕ) (g : Graph) (b : Book) (owner : ℕ →
       elim (tag-of p w g b owner t ambiguous pins ps w1 tg n m.0.1 m.0.0) [
         | inl h ↦ absurd (let q = ps.each (b.address n) h.0 in
             let same = common p w g b owner t q.0 n (b.address n) q.1.0.1 m.0.1 (let e = q.2 in omega arith) (let e = q.2 in omega arith) (le_refl _)
-                (omega arith) in
+            (omega arith) in
             m.1 (subst (IsPinned g b ambiguous) same q.1))
         | inr h ↦ (let e = h.1 in let same : w1 (b.address n) ≡ plain_word (class_of (w1 (b.address n))) = omega arith in
             cond-true _ _ _ (le-leb nursery_base (b.address n) i.0) ∙ cond-true _ _ _ (lt-ltb (b.address n) (nursery_end p) (omega arith)) ∙ eq-eqb _ _ same)
@@ -208,17 +208,22 @@ module _ (p : Program) (w : ℕ → ℕ) (g : Graph) (b : Book) (owner : ℕ →
   hold-globals (suc k) l =
       subst (λ (names : List ℕ). Hold (global_slots (layout_of p) (suc k)) names) (sym (map-append g.global (numbers_below k) (k ∷ [])))
       (subst (λ (slots : List ℕ). Hold slots (map g.global (numbers_below k) ++ g.global k ∷ []))
-          (sym (map-append (λ (x : ℕ). globals_base (layout_of p) + x) (numbers_below k) (k ∷ [])))
+      (sym (map-append (λ (x : ℕ). globals_base (layout_of p) + x) (numbers_below k) (k ∷ [])))
       (hold-append (global_slots (layout_of p) k) (map g.global (numbers_below k)) ((globals_base (layout_of p) + k) ∷ []) (g.global k ∷ [])
-          (hold-globals k (omega arith))
-      ((outer p w g b owner t ambiguous pins ps w1 tg (globals_base (layout_of p) + k) (λ y. (let u = y.1 in omega arith)) ∙ t.laid.globals.holds k
-          (omega arith), (t.laid.globals.known k (omega arith)).0), tt)))
+      (hold-globals k (omega arith)) (
+        (
+          outer p w g b owner t ambiguous pins ps w1 tg (globals_base (layout_of p) + k) (λ y. (let u = y.1 in omega arith)) ∙ t.laid.globals.holds k
+              (omega arith),
+          (t.laid.globals.known k (omega arith)).0,
+        ),
+        tt,
+      )))
 
   -- a strong field and the name in it
   field-ref : (n i : ℕ) → b.stands n ≡ true → i < g.size n → field_refers p g n i ≡ true → (k : ℕ) × (g.field n i ≡ Ref k) × Holds (b.address n + 2 + i) k
   field-ref n i s l e =
       let k = ref-of (g.field n i) (subst (λ (z : Bool). IsOfSort z (g.field n i)) (strong_holds (kind_of p (g.class n)) i (g.size n) e)
-          (t.laid.fields.sorted n i s l)) in (
+      (t.laid.fields.sorted n i s l)) in (
         k.0,
         k.1,
         (
@@ -238,7 +243,7 @@ module _ (p : Program) (w : ℕ → ℕ) (g : Graph) (b : Book) (owner : ℕ →
         | inl e ↦ (let f = field-ref n i s (omega arith) e in
             subst (λ (xs : List ℕ). Hold xs (names_in (field_refers p g n) (g.field n) i (suc k))) (sym (cond-true _ ((b.address n + 2 + i) ∷ slots) slots e))
             (subst (λ (ns : List ℕ). Hold ((b.address n + 2 + i) ∷ slots) ns)
-                (sym (cond-true _ (name_in (g.field n i) ++ names) names e ∙ ap (λ (z : Entry). name_in z ++ names) f.1)) (f.2, more)))
+            (sym (cond-true _ (name_in (g.field n i) ++ names) names e ∙ ap (λ (z : Entry). name_in z ++ names) f.1)) (f.2, more)))
         | inr e ↦ subst (λ (xs : List ℕ). Hold xs (names_in (field_refers p g n) (g.field n) i (suc k)))
             (sym (cond-false _ ((b.address n + 2 + i) ∷ slots) slots e))
             (subst (λ (ns : List ℕ). Hold slots ns) (sym (cond-false _ (name_in (g.field n i) ++ names) names e)) more)
@@ -256,9 +261,9 @@ module _ (p : Program) (w : ℕ → ℕ) (g : Graph) (b : Book) (owner : ℕ →
   slots-named (n ∷ names) each =
       let o = each n (in-here n n names refl) in
       ap (λ (f : ℕ → Bool). strong_slots f (b.address n) 0 (w1 (b.address n + 1)) ++ strong_of (area_for p) w1 (map b.address names))
-          (fun_ext (λ i. strong p w g b owner t ambiguous pins ps w1 tg n i o.1 o.0))
+      (fun_ext (λ i. strong p w g b owner t ambiguous pins ps w1 tg n i o.1 o.0))
       ∙ ap (λ (z : ℕ). strong_slots (field_refers p g n) (b.address n) 0 z ++ strong_of (area_for p) w1 (map b.address names))
-          (len p w g b owner t ambiguous pins ps w1 tg n o.1 o.0)
+      (len p w g b owner t ambiguous pins ps w1 tg n o.1 o.0)
       ∙ ap (λ (l : List ℕ). slots_of_name p g b n ++ l) (slots-named names (λ m i. each m (in-there m n names i)))
 
   same-object : (m n : ℕ) → b.stands m ≡ true → b.stands n ≡ true → b.address m ≡ b.address n → m ≡ n
@@ -275,13 +280,13 @@ module _ (p : Program) (w : ℕ → ℕ) (g : Graph) (b : Book) (owner : ℕ →
       (outside : (s : ℕ) → In s (slots_outside p g b old) → w1 s ≡ w s) where
     all-hold : (found : List ℕ) → ((n : ℕ) → In n found → b.stands n ≡ true) →
         Hold ((slots_outside p g b old ++ flat_map (slots_of_name p g b) pinned) ++ flat_map (slots_of_name p g b) found)
-            (leads_of p g (items_of p g old pinned) found)
+        (leads_of p g (items_of p g old pinned) found)
     all-hold found each = hold-append (slots_outside p g b old ++ flat_map (slots_of_name p g b) pinned) (items_of p g old pinned)
         (flat_map (slots_of_name p g b) found) (flat_map (targets_of p g) found)
         (hold-append (slots_outside p g b old) (map g.global (numbers_below 64) ++ flat_map (targets_of p g) old) (flat_map (slots_of_name p g b) pinned)
-            (flat_map (targets_of p g) pinned)
+        (flat_map (targets_of p g) pinned)
         (hold-append (global_slots (layout_of p) 64) (map g.global (numbers_below 64)) (flat_map (slots_of_name p g b) old) (flat_map (targets_of p g) old)
-            (hold-globals 64 (le_refl _)) (hold-all old olds))
+        (hold-globals 64 (le_refl _)) (hold-all old olds))
         (hold-all pinned pinneds))
         (hold-all found each)
 
@@ -331,7 +336,7 @@ module _ (p : Program) (w : ℕ → ℕ) (g : Graph) (b : Book) (owner : ℕ →
         sym (leads-are q.names q.each) ∙ ap (λ (l : List ℕ). leads (area_for p) w1 items l) q.at ∙ first.split in
         let s = split-at b.address moves (leads_of p g (items_of p g old pinned) q.names) first.passed x first.rest e in
         let mine : In s.name (leads_of p g (items_of p g old pinned) q.names) = subst (λ (l : List ℕ). In s.name l) (sym s.split)
-            (in-middle s.before s.name s.rest) in
+        (in-middle s.before s.name s.rest) in
         let is = movable s.name (leads-stand q.names q.each s.name mine) s.passes in
         record {
           names = q.names ++ s.name ∷ [];
@@ -376,7 +381,7 @@ module _ (p : Program) (w : ℕ → ℕ) (g : Graph) (b : Book) (owner : ℕ →
                 (subst (λ (l : List ℕ). In (b.address n) l) (sym q.at) (s.all (b.address n)
                 (subst (λ (l : List ℕ). In (b.address n) l) (sym (leads-are q.names q.each) ∙ ap (λ (l : List ℕ). leads (area_for p) w1 items l) q.at)
                 (in_map b.address n (filter moves (leads_of p g (items_of p g old pinned) q.names))
-                    (filter-in moves n (leads_of p g (items_of p g old pinned) q.names) h (moves-is n k)))) tt));
+                (filter-in moves n (leads_of p g (items_of p g old pinned) q.names) h (moves-is n k)))) tt));
           };
         }
 

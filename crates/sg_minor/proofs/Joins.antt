@@ -59,7 +59,7 @@ rises-globals : (layout : Layout) (n : ℕ) → Rises 0 (global_slots layout n)
 rises-globals layout zero = tt
 rises-globals layout (suc n) = subst (Rises 0) (sym (map-append (λ (x : ℕ). globals_base layout + x) (numbers_below n) (n ∷ [])))
     (rises-append 0 (globals_base layout + n) (global_slots layout n) ((globals_base layout + n) ∷ []) (rises-globals layout n) (omega arith) (below n)
-        (omega arith, tt))
+    (omega arith, tt))
   where
     in-below : (n x : ℕ) → In x (numbers_below n) → x < n
     in-below zero x h = absurd (let z = h in cc)
@@ -140,11 +140,11 @@ module _ (p : Program) (s : Contents) (g : Graph) (b : Book) (ambiguous pins : L
   once-slots : AreDistinct slots_before
   once-slots =
       distinct-append (filter (holds_young (area_of s) (word s)) (global_slots s.layout 64))
-          (found_slots p s g b begun.heap.0 owner heap begun.contents settled found of-owner)
+      (found_slots p s g b begun.heap.0 owner heap begun.contents settled found of-owner)
       (rises-distinct 0 (filter (holds_young (area_of s) (word s)) (global_slots s.layout 64))
-          (rises-filter (holds_young (area_of s) (word s)) 0 (global_slots s.layout 64) (rises-globals s.layout 64)))
+      (rises-filter (holds_young (area_of s) (word s)) 0 (global_slots s.layout 64) (rises-globals s.layout 64)))
       (rises-distinct 0 (found_slots p s g b begun.heap.0 owner heap begun.contents settled found of-owner)
-          (found_rise p s g b begun.heap.0 owner heap begun.contents settled found of-owner))
+      (found_rise p s g b begun.heap.0 owner heap begun.contents settled found of-owner))
       (λ a i j.
       let from = globals-above a (in-filter (holds_young (area_of s) (word s)) a (global_slots s.layout 64) i).0 in
       let q = in-filter (holds_young (area_of s) (word s)) a (flat_map (slots_of_name p g b) (old_names p s g b begun.heap.0 owner heap begun.contents settled))
@@ -206,10 +206,10 @@ module _ (p : Program) (s : Contents) (g : Graph) (b : Book) (ambiguous pins : L
   search-for : (names : PinNames) (objects : List ℕ) → IsSearched (λ _. Unit {0}) (leads (area_for p) (word tagged) items) objects →
       IsNamedSearch p (word s) g b owner heap ambiguous pins begun.pinned (word tagged) begun.tags slots-for.old names.0
       (λ n i. ((slots-for.old_are.exact n).0 i).1) (λ n i. (names.2 n i).0.1) items (items-are names)
-          (λ t i. outside-same t (outside-is p (word s) (area_for p) g b slots_before slots-for t i)) objects
+      (λ t i. outside-same t (outside-is p (word s) (area_for p) g b slots_before slots-for t i)) objects
   search-for names objects searched = named-search p (word s) g b owner heap ambiguous pins begun.pinned (word tagged) begun.tags slots-for.old names.0
       (λ n i. ((slots-for.old_are.exact n).0 i).1) (λ n i. (names.2 n i).0.1) items (items-are names)
-          (λ t i. outside-same t (outside-is p (word s) (area_for p) g b slots_before slots-for t i)) objects searched
+      (λ t i. outside-same t (outside-is p (word s) (area_for p) g b slots_before slots-for t i)) objects searched
 
   module _ (round : Contents) (told_moves : List Move) (told_fails : List ℕ) (copied : HasCopiedTo tagged slots_before pins round told_moves told_fails) where
     pub image_for : IsImage (area_for p) (word tagged) items (λ _. true) copied.went copied.stayed copied.m (word round) (λ _. false)
@@ -263,7 +263,7 @@ module _ (p : Program) (s : Contents) (g : Graph) (b : Book) (ambiguous pins : L
           at = subst (λ (z : ℕ). copied.m a ≡ nursery_end p + 256 * q.b + z * q.i) size (let e = q.is in omega arith);
           empty = subst (λ (z : ℕ). IsEmptySlot p g b q.b z q.i) size
               (clear_empty p g b (block_in s) (used_in s) (blocks_by p s g b begun.heap.0 owner heap begun.contents settled) q.b
-                  (slot_size (size_of (word tagged) a)) q.i q.fits
+              (slot_size (size_of (word tagged) a)) q.i q.fits
               (clear-slot q.b (slot_size (size_of (word tagged) a)) q.i q.state q.clear));
         }
 
@@ -314,22 +314,22 @@ module _ (p : Program) (s : Contents) (g : Graph) (b : Book) (ambiguous pins : L
             parts = subst (λ (l : List ℕ). Fits (area_of s) (word s) copied.m (block_in s) (used_in s) copied.went copied.stayed l (block_in v) (used_in v))
                 (sym q.at)
                 (subst (λ (a : Area). Fits a (word s) copied.m (block_in s) (used_in s) copied.went copied.stayed o.found (block_in v) (used_in v))
-                    (sym area_before)
+                (sym area_before)
                 (fits-same (area_for p) (word tagged) (word s) copied.m (block_in s) (block_in v) (used_in s) (used_in v) copied.went copied.stayed o.found
-                    (λ a i.
+                (λ a i.
                 let k = map_in b.address a q.names (subst (λ (l : List ℕ). In a l) (sym q.at) i) in
                 let m = q.each k.0 k.1 in
                 ap (λ (z : ℕ). word tagged (z + 1)) (sym k.2) ∙ inner p (word s) g b owner heap ambiguous pins begun.pinned (word tagged) begun.tags k.0 1 m.0.1
-                    (omega arith) (omega arith)
+                (omega arith) (omega arith)
                 ∙ ap (λ (z : ℕ). word s (z + 1)) k.2)
                 (subst (λ (a : Area). Fits a (word tagged) copied.m (block_in s) (used_in s) copied.went copied.stayed o.found (block_in v) (used_in v))
-                    area_tagged
+                area_tagged
                 (subst (λ (z : Contents). Fits (area_of tagged) (word tagged) copied.m (block_in z) (used_in z) copied.went copied.stayed o.found (block_in v)
-                    (used_in v)) begun.still.0
+                (used_in v)) begun.still.0
                 (subst (λ l. Fits (area_of tagged) (word tagged) copied.m (block_in tagged) (used_in tagged) copied.went copied.stayed o.found
-                    (λ c. slice_index_or l c Free) (used_in v)) (sym blocks.blocks)
+                (λ c. slice_index_or l c Free) (used_in v)) (sym blocks.blocks)
                 (subst (λ l. Fits (area_of tagged) (word tagged) copied.m (block_in tagged) (used_in tagged) copied.went copied.stayed o.found (block_in round)
-                    (λ c. slice_index l c)) (sym blocks.used)
+                (λ c. slice_index l c)) (sym blocks.used)
                 o.parts))))));
           }
 
@@ -350,14 +350,14 @@ module _ (p : Program) (s : Contents) (g : Graph) (b : Book) (ambiguous pins : L
           let now : word v x ≡ byte_at (copied.m (b.address k.0)) =
           ap (word v) (at ∙ ap (λ (z : ℕ). z + 2 + i) (sym still)) ∙ (picture_for.old n d st o).fields i (omega arith)
           ∙ ap (λ (z : Bool). cond z (sent copied.m (word s (b.address n + 2 + i))) (word s (b.address n + 2 + i)))
-              (strong-of p (word s) g b owner heap n i st d ∙ e)
+          (strong-of p (word s) g b owner heap n i st d ∙ e)
           ∙ sent-at copied.m (word s (b.address n + 2 + i)) (b.address k.0) k.2 in
           let target : copied.m (b.address k.0) ≡ y = byte-same (copied.m (b.address k.0)) y (sym now ∙ refers) in
           elim (young-or (b.address k.0)) [
             | inl yes_young ↦ begins.all x (b.address k.0) (AtField n i d st (inl o) l e at) (ap (word s) at ∙ k.2) yes_young
             | inr no_young ↦ absurd (no_young (subst (IsYoung (area_for p))
                 (sym target ∙ picture_for.others (b.address k.0) (out (b.address k.0) copied.went
-                    (λ h. no_young (young-of (b.address k.0) (image_for.moved (b.address k.0) h).0)))) young))
+                (λ h. no_young (young-of (b.address k.0) (image_for.moved (b.address k.0) h).0)))) young))
           ]
         where
           young-or : (a : ℕ) → IsYoung (area_for p) a ⊎ (IsYoung (area_for p) a → ⊥)
@@ -378,7 +378,7 @@ module _ (p : Program) (s : Contents) (g : Graph) (b : Book) (ambiguous pins : L
           let length = length-back a tr in
           let strong-same : is_strong (area_for p) (word tagged) a i ≡ is_strong (area_for p) (word s) a i =
           ap (λ (z : ℕ). is_strong (area_for p) (word tagged) z i) (sym n.3) ∙ strong p (word s) g b owner heap ambiguous pins begun.pinned (word tagged)
-              begun.tags n.0 i n.2 n.1
+          begun.tags n.0 i n.2 n.1
           ∙ sym (strong-of p (word s) g b owner heap n.0 i n.2 n.1) ∙ ap (λ (z : ℕ). is_strong (area_for p) (word s) z i) n.3 in
           Copied a i h (omega arith) (strong-same ∙ e) at
 
@@ -421,7 +421,7 @@ module _ (p : Program) (s : Contents) (g : Graph) (b : Book) (ambiguous pins : L
       closes = record {
         traced = subst (λ (a : Area). IsTraced p a (word s) g b ambiguous (pins ++ copied.stayed) copied.went) (sym area_before)
             (traced p (word s) g b owner heap ambiguous pins begun.pinned (word tagged) begun.tags items begins copied.went copied.stayed copied.m (word round)
-                image_for);
+            image_for);
         picture = subst (λ (a : Area). IsPicture p a (word s) g b (pins ++ copied.stayed) copied.went copied.m (word v)) (sym area_before) picture_for;
         failed = fail-loose p (word s) g b owner heap ambiguous pins begun.pinned (word tagged) begun.tags items begins copied.went copied.stayed copied.m
             (word round) image_for;

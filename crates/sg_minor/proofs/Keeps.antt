@@ -54,9 +54,22 @@ module _ (p : Program) (w : ℕ → ℕ) (g : Graph) (b : Book) (owner : ℕ →
   points-tagged n c d s q =
       let i = q.1.0 in
       let l : i < g.size n = let u = q.1.1 in let z = length p w g b owner t n s d in omega arith in
-      let e : field_refers p g n i ≡ true = sym (strong-of p w g b owner t n i s d) ∙ q.1.2 in
-      (i, l, e, q.1.3, (q.0, (i, let z = len p w g b owner t ambiguous pins ps w1 tg n s d in omega arith, strong p w g b owner t ambiguous pins ps w1 tg n i s
-          d ∙ e, inner-field p w g b owner t ambiguous pins ps w1 tg n i s l ∙ q.1.3)))
+      let e : field_refers p g n i ≡ true = sym (strong-of p w g b owner t n i s d) ∙ q.1.2 in (
+        i,
+        l,
+        e,
+        q.1.3,
+        (
+          q.0,
+          (
+            i,
+            let z = len p w g b owner t ambiguous pins ps w1 tg n s d in omega arith,
+            strong p w g b owner t ambiguous pins ps w1 tg n i s
+                d ∙ e,
+            inner-field p w g b owner t ambiguous pins ps w1 tg n i s l ∙ q.1.3,
+          ),
+        ),
+      )
 
   points-back : (n c i : ℕ) → n ≢ 0 → b.stands n ≡ true → IsYoung (area_for p) c → i < g.size n → field_refers p g n i ≡ true → w (b.address n + 2 + i) ≡
       byte_at c → Points (area_for p) w (b.address n) c

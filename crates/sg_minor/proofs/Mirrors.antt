@@ -250,7 +250,7 @@ module _ (p : Program) (g : Graph) (d : Book) (block : ℕ → BlockWord) (used 
           (m.0, subst (λ b. IsInSlot p g d' m.0 b y k) (sym here) (subst (λ u. IsInSlot p g d' m.0 j u k) size m.1))
       | inr other ↦
           let m = by.filled c y k there (sym (put-other block j (Swept z) c other) ∙ e)
-              (sym (ap (λ u. bit_at u k) (put-other used j (bit_or (used j) (2 ^ i)) c other)) ∙ set) in
+          (sym (ap (λ u. bit_at u k) (put-other used j (bit_or (used j) (2 ^ i)) c other)) ∙ set) in
           (m.0, keeps_slot m.0 c y k m.1)
     ]
 

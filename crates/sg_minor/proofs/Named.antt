@@ -82,9 +82,12 @@ module _ (p : Program) (w : ℕ → ℕ) (g : Graph) (b : Book) (owner : ℕ →
       (w (b.address n + 2 + i) ≡ byte_at (b.address k))
   field-name n i s l e =
       let k = ref-of (g.field n i) (subst (λ (z : Bool). IsOfSort z (g.field n i)) (strong_holds (kind_of p (g.class n)) i (g.size n) e)
-          (t.laid.fields.sorted n i s l)) in
-      (k.0, (subst (λ (z : Entry). IsKnownEntry w g b z) k.1 (t.laid.fields.known n i s l)).0, t.laid.fields.holds n i s l ∙ ap
-          (λ (z : Entry). word_of b.address z) k.1)
+      (t.laid.fields.sorted n i s l)) in (
+        k.0,
+        (subst (λ (z : Entry). IsKnownEntry w g b z) k.1 (t.laid.fields.known n i s l)).0,
+        t.laid.fields.holds n i s l ∙ ap
+            (λ (z : Entry). word_of b.address z) k.1,
+      )
 
   module _ (ambiguous pins : List ℕ) (ps : ArePins g b ambiguous pins) where
     pub pin-named : (a : ℕ) → In a pins → (n : ℕ) × (n ≢ 0) × (b.stands n ≡ true) × (b.section n ≡ Young) × (b.address n ≡ a)

@@ -142,8 +142,14 @@ module _ (p : Program) (area : Area) (tie : IsAreaOf p area) (w : ℕ → ℕ) (
           let d = young-named (g.global h.0) (subst (IsYoung area) (sym e) y) in
           let s = (t.laid.globals.known h.0 h.1).0 in
           record { name = g.global h.0; some = d; stands = s; at = e; reached = Root (g.global h.0) (d, s, inr (inr (inr (inl (h.0, h.1, refl))))) })
-      | inr h ↦ (let f = field-name h.0 a h.1 h.2 h.4 in record { name = f.0; some = f.1; stands = f.2; at = f.3; reached = Next h.0 f.0
-          (Root h.0 (h.1, h.2, inl h.3)) f.4 })
+      | inr h ↦ (let f = field-name h.0 a h.1 h.2 h.4 in record {
+        name = f.0;
+        some = f.1;
+        stands = f.2;
+        at = f.3;
+        reached = Next h.0 f.0
+            (Root h.0 (h.1, h.2, inl h.3)) f.4;
+      })
     ]
   ]
   name-of _ (Next a c r q) =
@@ -216,7 +222,7 @@ module _ (p : Program) (area : Area) (tie : IsAreaOf p area) (w : ℕ → ℕ) (
     unfolding kept
     kept-has n k y =
         let e : cond (has (b.address n) stays) true (has (b.address n) moves) ≡ true = sym
-            (cond-true _ _ _ (kept-stands n k) ∙ cond-true _ _ _ (young-yes (b.address n) y)) ∙ k in
+        (cond-true _ _ _ (kept-stands n k) ∙ cond-true _ _ _ (young-yes (b.address n) y)) ∙ k in
         elim (cases_Bool (has (b.address n) stays)) [
           | inl q ↦ inl q
           | inr q ↦ inr (sym (cond-false _ true (has (b.address n) moves) q) ∙ e)

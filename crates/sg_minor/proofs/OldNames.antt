@@ -161,7 +161,7 @@ module _ (p : Program) (s : Contents) (g : Graph) (b : Book) (is : IsSpaceOf p s
       (λ n i. rises-lower (b.address n + 2 + 0) (b.address n) (slots_of_name p g b n) (omega arith)
       (rises-slots (λ j. is_strong_by (kind_of p (g.class n)) j (g.size n)) (b.address n) 0 (g.size n)))
       (λ n i a h. let q = slots-are (λ j. is_strong_by (kind_of p (g.class n)) j (g.size n)) (b.address n) 0 (g.size n) a h in let l = q.1 in let e = q.3 in
-          omega arith)
+      omega arith)
       (λ n i. omega arith)
       (λ m n i j less. apart p s g b is owner heap contents m n (each m i) (each n j) less)
       at from
@@ -190,14 +190,17 @@ module _ (p : Program) (s : Contents) (g : Graph) (b : Book) (is : IsSpaceOf p s
         (get_or-map (λ (seed : Seed). word_at seed.slot) xs h.0 seed 0 h.1 ∙ ap (λ (z : Seed). word_at z.slot) h.2)
         (in_contains (get_or (map (λ (seed : Seed). word_at seed.slot) xs) h.0 0) (map (λ (seed : Seed). word_at seed.slot) xs)
         (Contains-get_or (map (λ (seed : Seed). word_at seed.slot) xs) h.0 0
-            (let n = length-map xs (λ (seed : Seed). word_at seed.slot) in let l = h.1 in omega arith)))
+        (let n = length-map xs (λ (seed : Seed). word_at seed.slot) in let l = h.1 in omega arith)))
 
     at_seed : (seed : Seed) → Contains found seed → (x : ℕ) × IsSown p s g b is owner heap contents settled x × (seed.slot ≡ byte_at x) ×
         ((y : ℕ) × (word s x ≡ byte_at y) × IsYoung s.layout y)
     at_seed seed h =
-        let q = seeds.each h.0 seed (slice_get_read found _ h.0 seed refl h.1 (sym h.2)) in
-        (q.0, sown p s g b is owner heap contents settled (owner_of p s g b is owner heap contents) (sound_by p s g b is owner heap contents settled) q.0 q.1,
-            q.2, q.1.young)
+        let q = seeds.each h.0 seed (slice_get_read found _ h.0 seed refl h.1 (sym h.2)) in (
+          q.0,
+          sown p s g b is owner heap contents settled (owner_of p s g b is owner heap contents) (sound_by p s g b is owner heap contents settled) q.0 q.1,
+          q.2,
+          q.1.young,
+        )
 
     young_is : (y : ℕ) → IsYoung s.layout y → (512 ≤ y) × (y < nursery_end p)
     young_is y h = let nursery = nursery_is p s g b is owner heap contents in let to = h.1 in (h.0, omega arith)
@@ -214,7 +217,7 @@ module _ (p : Program) (s : Contents) (g : Graph) (b : Book) (is : IsSpaceOf p s
         (flat-in (slots_of_name p g b) f.name x old_names (named_old f.name (f.some, f.stands, f.old))
         (subst (λ (z : ℕ). In z (slots_of_name p g b f.name)) (sym f.at)
         (slots-in (λ i. is_strong_by (kind_of p (g.class f.name)) i (g.size f.name)) (b.address f.name) 0 (g.size f.name) f.field (omega arith)
-            (let l = f.within in omega arith) f.strong)))
+        (let l = f.within in omega arith) f.strong)))
         (young-word (area_of s) (word s x) k.3.0 k.3.1 k.3.2))
 
     field_found : (a : ℕ) → In a (filter (holds_young (area_of s) (word s)) (flat_map (slots_of_name p g b) old_names)) → In a found_slots
@@ -240,7 +243,7 @@ module _ (p : Program) (s : Contents) (g : Graph) (b : Book) (is : IsSpaceOf p s
     pub found_rise : Rises 0 found_slots
     found_rise = strict-rises 0 found_slots
         (subst (λ (l : List ℕ). IsStrictlyIncreasing l) slot_bytes (words_in_order (map (λ (seed : Seed). seed.slot) found) seeds.in_order
-            (λ a h. whole a (in_contains a (map (λ (seed : Seed). seed.slot) found) h))))
+        (λ a h. whole a (in_contains a (map (λ (seed : Seed). seed.slot) found) h))))
         (λ a i. omega arith)
       where
         of_slot : (xs : List Seed) (a : ℕ) → In a (map (λ (seed : Seed). seed.slot) xs) → (seed : Seed) × Contains xs seed × (seed.slot ≡ a)
@@ -257,7 +260,7 @@ module _ (p : Program) (s : Contents) (g : Graph) (b : Book) (is : IsSpaceOf p s
     found_are = rises-one 0 found_slots (filter (holds_young (area_of s) (word s)) (flat_map (slots_of_name p g b) old_names)) found_rise
         (rises-filter (holds_young (area_of s) (word s)) 0 (flat_map (slots_of_name p g b) old_names)
         (fields_rise (nursery_end p) 0 old_names (names_rise b.address owner (nursery_end p) (256 * p.config.blocks)) (λ n i. (old_named n i).1)
-            (λ n i. omega arith)))
+        (λ n i. omega arith)))
         found_field field_found
 
     -- the slots with which a round begins

@@ -57,9 +57,16 @@ module _ (p : Program) (w : ℕ → ℕ) (g : Graph) (b : Book) (owner : ℕ →
   start-apart s n (AtField k i dk sk (inl o) l e u) st d y a c = absurd
       (let z = (nursery p w g b owner t n st y).1 in let v = in-old p w g b owner t k sk dk o in let v0 = v.0 in let q = u in omega arith)
   start-apart s n (AtField k i dk sk (inr o) l e u) st d y a c =
-      let q : k ≡ n = common p w g b owner t k n s sk st (let z = u in omega arith) (let z = u in omega arith) a c in
-      (subst (λ (z : ℕ). In (b.address z) pins) q o, (i, u ∙ ap (λ (z : ℕ). b.address z + 2 + i) q, subst (λ (z : ℕ). i < g.size z) q l, subst
-          (λ (z : ℕ). field_refers p g z i ≡ true) q e))
+      let q : k ≡ n = common p w g b owner t k n s sk st (let z = u in omega arith) (let z = u in omega arith) a c in (
+        subst (λ (z : ℕ). In (b.address z) pins) q o,
+        (
+          i,
+          u ∙ ap (λ (z : ℕ). b.address z + 2 + i) q,
+          subst (λ (z : ℕ). i < g.size z) q l,
+          subst
+              (λ (z : ℕ). field_refers p g z i ≡ true) q e,
+        ),
+      )
 
   size-is : (a n : ℕ) → b.stands n ≡ true → n ≢ 0 → b.address n ≡ a → w1 (a + 1) ≡ g.size n
   size-is = size-at p w g b owner t ambiguous pins ps w1 tg
@@ -163,7 +170,7 @@ module _ (p : Program) (w : ℕ → ℕ) (g : Graph) (b : Book) (owner : ℕ →
       item_out = λ s a c i ta e u v. (let n = named a ta in let en = n.3 in let z = size-is a n.0 n.2 n.1 en in
           let q = start-apart s n.0 (sd.each s i) n.2 n.1 (subst (IsYoung (area_for p)) (sym en) (traced-young a ta)) (omega arith) (omega arith) in
           let tp = tg.tagged (b.address n.0) q.0 in let f = first p w g b owner t n.0 n.2 n.1 in let e2 : w1 a ≡ w1 (b.address n.0) = ap w1 (sym en) in absurd
-              (omega arith));
+          (omega arith));
       item_zone = λ s i. zone-out s (sd.each s i);
       whole = λ a c i x ta q l e f y. (let n = named a ta in let en = n.3 in let z = size-is a n.0 n.2 n.1 en in
           let l' : i < g.size n.0 = omega arith in
@@ -171,6 +178,6 @@ module _ (p : Program) (w : ℕ → ℕ) (g : Graph) (b : Book) (owner : ℕ →
           let wd : w1 (a + 2 + i) ≡ w (a + 2 + i) = ap w1 e' ∙ inner-field p w g b owner t ambiguous pins ps w1 tg n.0 i n.2 l' ∙ ap w (sym e') in
           sd.all (a + 2 + i) x
           (AtField n.0 i n.1 n.2 (inr (fixed-tag a c n.0 n.2 n.1 en q).0) l'
-              (sym (strong p w g b owner t ambiguous pins ps w1 tg n.0 i n.2 n.1) ∙ ap (λ (z : ℕ). is_strong (area_for p) w1 z i) en ∙ e) e')
+          (sym (strong p w g b owner t ambiguous pins ps w1 tg n.0 i n.2 n.1) ∙ ap (λ (z : ℕ). is_strong (area_for p) w1 z i) en ∙ e) e')
           (sym wd ∙ f) y);
     }

@@ -40,7 +40,7 @@ module _ (w : ℕ → ℕ) (m : ℕ → ℕ) where
         let at = ap m e in
         let size : size_of w a ≡ size_of w b = ap (λ (z : ℕ). size_of w z) e in
         settled-out old moves (within_range o (m b) (m b + size_of w b) (old b)) x
-            (λ c j q. not-in a moves out (subst (λ (z : ℕ). In z moves) (one c (in-there c b moves j) q) j))
+        (λ c j q. not-in a moves out (subst (λ (z : ℕ). In z moves) (one c (in-there c b moves j) q) j))
         ∙ range-in o (m b) (m b + size_of w b) (old b) x (omega arith) (omega arith) ∙ ap old (sym e)
   ]
 

@@ -66,10 +66,10 @@ module _ (p : Program) (w : ℕ → ℕ) (g : Graph) (b : Book) (owner : ℕ →
   field-back a n i x s d e l q =
       let z = length p w g b owner t n s d in let ze : w (b.address n + 1) ≡ w (a + 1) = ap (λ (z : ℕ). w (z + 1)) e in
       let wd : w1 (a + 2 + i) ≡ w (a + 2 + i) = ap (λ (z : ℕ). w1 (z + 2 + i)) (sym e) ∙ inner-field p w g b owner t ambiguous pins ps w1 tg n i s (omega arith)
-          ∙ ap (λ (z : ℕ). w (z + 2 + i)) e in
+      ∙ ap (λ (z : ℕ). w (z + 2 + i)) e in
       let st : is_strong (area_for p) w1 a i ≡ is_strong (area_for p) w a i =
       ap (λ (z : ℕ). is_strong (area_for p) w1 z i) (sym e) ∙ strong p w g b owner t ambiguous pins ps w1 tg n i s d ∙ sym (strong-of p w g b owner t n i s d) ∙
-          ap (λ (z : ℕ). is_strong (area_for p) w z i) e in
+      ap (λ (z : ℕ). is_strong (area_for p) w z i) e in
       q ∙ ap (λ (z : ℕ). cond (is_strong (area_for p) w1 a i) (sent m z) z) wd ∙ ap (λ (z : Bool). cond z (sent m (w (a + 2 + i))) (w (a + 2 + i))) st
 
   -- a field by its name, from the graph's sorts to those of the words
@@ -98,15 +98,15 @@ module _ (p : Program) (w : ℕ → ℕ) (g : Graph) (b : Book) (owner : ℕ →
       record {
         first = ap v me ∙ (let u = sw.untagged a h in let tag = tg.tagged a i in
             let r0 : round a ≡ w1 a = ap round (sym e) ∙ first-word p w g b owner t ambiguous pins ps w1 tg items sd moves fails m round cp n.0 n.2 n.1 nm' nf'
-                (young-uncopied _ (omega arith)) ∙ ap w1 e in
+            (young-uncopied _ (omega arith)) ∙ ap w1 e in
             omega arith);
         length = ap (λ (z : ℕ). v (z + 1)) me ∙ sw.kept a (a + 1) h (omega arith) (omega arith) ∙ ap (λ (z : ℕ). round (z + 1)) (sym e)
             ∙ length-word p w g b owner t ambiguous pins ps w1 tg items sd moves fails m round cp n.0 n.2 n.1 (young-uncopied _ (omega arith)) ∙ ap
-                (λ (z : ℕ). w1 (z + 1)) e ∙ size-back a n.0 n.2 n.1 e;
+            (λ (z : ℕ). w1 (z + 1)) e ∙ size-back a n.0 n.2 n.1 e;
         fields = λ j l. field-named a n.0 j (v (m a + 2 + j)) n.2 n.1 e
             (ap (λ (z : ℕ). v (z + 2 + j)) me ∙ sw.kept a (a + 2 + j) h (omega arith) (omega arith) ∙ ap (λ (z : ℕ). round (z + 2 + j)) (sym e)
             ∙ field-word p w g b owner t ambiguous pins ps w1 tg items sd moves fails m round cp n.0 j n.2 n.1 (omega arith) nm' nf'
-                (inr (subst (λ (z : ℕ). In z pins) (sym e) i)) (young-uncopied _ (omega arith)));
+            (inr (subst (λ (z : ℕ). In z pins) (sym e) i)) (young-uncopied _ (omega arith)));
       }
 
   by-fail : (a : ℕ) → In a fails → IsPictured (area_for p) w v m a
@@ -123,7 +123,7 @@ module _ (p : Program) (w : ℕ → ℕ) (g : Graph) (b : Book) (owner : ℕ →
         first = ap v me ∙ (let u = sw.untagged a h in let z = cp.pinned a i in omega arith);
         length = ap (λ (z : ℕ). v (z + 1)) me ∙ sw.kept a (a + 1) h (omega arith) (omega arith) ∙ ap (λ (z : ℕ). round (z + 1)) (sym e)
             ∙ length-word p w g b owner t ambiguous pins ps w1 tg items sd moves fails m round cp n.0 n.2 n.1 (young-uncopied _ (omega arith)) ∙ ap
-                (λ (z : ℕ). w1 (z + 1)) e ∙ size-back a n.0 n.2 n.1 e;
+            (λ (z : ℕ). w1 (z + 1)) e ∙ size-back a n.0 n.2 n.1 e;
         fields = λ j l. field-back a n.0 j (v (m a + 2 + j)) n.2 n.1 e l
             (ap (λ (z : ℕ). v (z + 2 + j)) me ∙ sw.kept a (a + 2 + j) h (omega arith) (omega arith) ∙ ap (λ (z : ℕ). round (z + 2 + j)) (sym me)
             ∙ cp.fields a j (inr i) (let z = size-back a n.0 n.2 n.1 e in omega arith));
@@ -153,24 +153,24 @@ module _ (p : Program) (w : ℕ → ℕ) (g : Graph) (b : Book) (owner : ℕ →
   old n d s o =
       let i = in-old p w g b owner t n s d o in let i0 = i.0 in let i1 = i.1 in
       let nm : has (b.address n) moves ≡ false = out (b.address n) moves
-          (λ h. (let y = (young-of (b.address n) (cp.moved (b.address n) h).0).1 in absurd (omega arith))) in
+      (λ h. (let y = (young-of (b.address n) (cp.moved (b.address n) h).0).1 in absurd (omega arith))) in
       let nf : has (b.address n) fails ≡ false = out (b.address n) fails
-          (λ h. (let y = (young-of (b.address n) (cp.failed (b.address n) h).0).1 in absurd (omega arith))) in
+      (λ h. (let y = (young-of (b.address n) (cp.failed (b.address n) h).0).1 in absurd (omega arith))) in
       let me = cp.others (b.address n) nm in
       let ln = length p w g b owner t n s d in
       let mine = λ (x : ℕ) (l : b.address n ≤ x) (u : x < b.address n + (g.size n + 2)). old-uncopied n x
-          (record { some = omega (arith, d); stands = s; above = l; below = u }) in
+      (record { some = omega (arith, d); stands = s; above = l; below = u }) in
       record {
         first = ap v me ∙ sw.others (b.address n) (λ y. (let z = y.1 in absurd (omega arith)))
             ∙ first-word p w g b owner t ambiguous pins ps w1 tg items sd moves fails m round cp n s d nm nf (mine (b.address n) (omega arith) (omega arith))
             ∙ outer p w g b owner t ambiguous pins ps w1 tg (b.address n) (λ y. (let z = y.1 in absurd (omega arith)));
         length = ap (λ (z : ℕ). v (z + 1)) me ∙ sw.others (b.address n + 1) (λ y. (let z = y.1 in absurd (omega arith)))
             ∙ length-word p w g b owner t ambiguous pins ps w1 tg items sd moves fails m round cp n s d (mine (b.address n + 1) (omega arith) (omega arith)) ∙
-                inner p w g b owner t ambiguous pins ps w1 tg n 1 s (le_refl _) (omega arith);
+            inner p w g b owner t ambiguous pins ps w1 tg n 1 s (le_refl _) (omega arith);
         fields = λ j l. field-named (b.address n) n j (v (m (b.address n) + 2 + j)) s d refl
             (ap (λ (z : ℕ). v (z + 2 + j)) me ∙ sw.others (b.address n + 2 + j) (λ y. (let z = y.1 in absurd (omega arith)))
             ∙ field-word p w g b owner t ambiguous pins ps w1 tg items sd moves fails m round cp n j s d (omega arith) nm nf (inl o)
-                (mine (b.address n + 2 + j) (omega arith) (omega arith)));
+            (mine (b.address n + 2 + j) (omega arith) (omega arith)));
       }
 
   globals : (x : ℕ) → x < 64 → v (globals_base (layout_of p) + x) ≡ sent m (w (globals_base (layout_of p) + x))
@@ -191,7 +191,7 @@ module _ (p : Program) (w : ℕ → ℕ) (g : Graph) (b : Book) (owner : ℕ →
   same x l n none run =
       sw.others x (λ y. (let z = y.1 in absurd (omega arith)))
       ∙ same-word p w g b owner t ambiguous pins ps w1 tg items sd moves fails m round cp x (no-start x n none)
-          (λ a i h k. run a i h (let size = moved-size a h in omega arith))
+      (λ a i h k. run a i h (let size = moved-size a h in omega arith))
       (quiet-behind p w g b owner t ambiguous pins ps w1 tg items sd moves fails m round cp x l)
       ∙ outer p w g b owner t ambiguous pins ps w1 tg x (λ y. (let z = y.1 in absurd (omega arith)))
 

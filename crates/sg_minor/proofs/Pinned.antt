@@ -35,9 +35,12 @@ module _ (p : Program) (s : Contents) (g : Graph) (b : Book) (is : IsSpaceOf p s
       let low = o.1 in
       let high = o.2 in
       let nursery = nursery_is p s g b is owner heap contents in
-      let below = young.1 in
-      (n, ((name.1, o.0, young_there p s g b is owner heap contents n name.1 o.0 (omega arith)), (into.0, into.1, (omega arith, omega arith))), q.1 ∙ ap byte_at
-          (sym at))
+      let below = young.1 in (
+        n,
+        ((name.1, o.0, young_there p s g b is owner heap contents n name.1 o.0 (omega arith)), (into.0, into.1, (omega arith, omega arith))),
+        q.1 ∙ ap byte_at
+            (sym at),
+      )
 
   pub are_pins : ArePins g b ambiguous (map word_at pins)
   are_pins = record {
@@ -57,11 +60,11 @@ module _ (p : Program) (s : Contents) (g : Graph) (b : Book) (is : IsSpaceOf p s
         let to = place.1 in
         let nursery = nursery_is p s g b is owner heap contents in
         let mine = is_owned p s g b is owner heap contents n (word_at v) some
-            (owns p s g b is owner heap contents n (word_at v) stands (omega arith) (omega arith)) in
+        (owns p s g b is owner heap contents n (word_at v) stands (omega arith) (omega arith)) in
         let first = is_owned p s g b is owner heap contents n (b.address n) some (owns_first p s g b is owner heap contents n stands) in
         let there = pinned.all (b.address n) first (from, omega arith) (v, is_pinned.1.1, mine) in
         subst (λ z. In z (map word_at pins)) (word_at-byte_at (b.address n))
-            (in_map word_at (byte_at (b.address n)) pins (in_contains (byte_at (b.address n)) pins there));
+        (in_map word_at (byte_at (b.address n)) pins (in_contains (byte_at (b.address n)) pins there));
   }
 
   pub are_plain : ArePlain s pins
@@ -77,7 +80,10 @@ module _ (p : Program) (s : Contents) (g : Graph) (b : Book) (is : IsSpaceOf p s
         (omega arith, omega arith);
     plain = λ a in_pins.
         let n = pin_named a in_pins in
-        let at : word_at a ≡ b.address n.0 = ap word_at n.2 ∙ word_at-byte_at (b.address n.0) in
-        (g.class n.0, few_classes p s g b is owner heap contents n.0 n.1.0.0 n.1.0.1, ap (word s) at ∙ class_is p s g b is owner heap contents n.0 n.1.0.0
-            n.1.0.1);
+        let at : word_at a ≡ b.address n.0 = ap word_at n.2 ∙ word_at-byte_at (b.address n.0) in (
+          g.class n.0,
+          few_classes p s g b is owner heap contents n.0 n.1.0.0 n.1.0.1,
+          ap (word s) at ∙ class_is p s g b is owner heap contents n.0 n.1.0.0
+              n.1.0.1,
+        );
   }

@@ -43,8 +43,7 @@ module _ (p : Program) (w : ℕ → ℕ) (g : Graph) (b : Book) (owner : ℕ →
       | inl k ↦ (omega arith)
       | inr k ↦ not-in (b.address n) moves k.0 (subst (λ (z : ℕ). In z moves) e h)
     ]));
-    failed = out (b.address n + j) fails (λ h. (let e = one n j (b.address n + j) 0 s l (cp.failed (b.address n + j) h).0 (omega arith) (omega arith) in elim o
-        [
+    failed = out (b.address n + j) fails (λ h. (let e = one n j (b.address n + j) 0 s l (cp.failed (b.address n + j) h).0 (omega arith) (omega arith) in elim o [
       | inl k ↦ (omega arith)
       | inr k ↦ not-in (b.address n) fails k.1 (subst (λ (z : ℕ). In z fails) e h)
     ]));
@@ -99,7 +98,7 @@ module _ (p : Program) (w : ℕ → ℕ) (g : Graph) (b : Book) (owner : ℕ →
   no-start-plain n i s d l k (AtGlobal x u e) = let h = inside-heap n (b.address n + 2 + i) s d (omega arith) in let q = e in omega arith
   no-start-plain n i s d l k (AtField j c dj sj o u x e) =
       let same : n ≡ j = common p w g b owner t n j (b.address n + 2 + i) s sj (omega arith) (omega arith) (let z = e in omega arith)
-          (let z = e in omega arith) in
+      (let z = e in omega arith) in
       let a : b.address n ≡ b.address j = ap b.address same in
       let ic : i ≡ c = let z = e in omega arith in
       let f : true ≡ false = sym x ∙ ap (λ (z : ℕ). field_refers p g z c) (sym same) ∙ ap (λ (z : ℕ). field_refers p g n z) (sym ic) ∙ k in cc
@@ -114,12 +113,12 @@ module _ (p : Program) (w : ℕ → ℕ) (g : Graph) (b : Book) (owner : ℕ →
   first-word n s d nm nf run =
       let z : b.address n + 0 ≡ b.address n = omega arith in
       same-word (b.address n) (λ h. no-start-head n 0 s d (omega arith) (subst (IsStart p g b pins) (sym z) h)) run
-          (subst IsQuiet z (quiet n 0 s (omega arith) (inr (nm, nf))))
+      (subst IsQuiet z (quiet n 0 s (omega arith) (inr (nm, nf))))
 
   pub field-word : (n i : ℕ) → b.stands n ≡ true → n ≢ 0 → i < g.size n → has (b.address n) moves ≡ false → has (b.address n) fails ≡ false →
       (b.section n ≡ Old) ⊎ In (b.address n) pins →
       IsUncopied w1 moves m (b.address n + 2 + i) → round (b.address n + 2 + i) ≡ cond (field_refers p g n i) (sent m (w (b.address n + 2 + i)))
-          (w (b.address n + 2 + i))
+      (w (b.address n + 2 + i))
   field-word n i s d l nm nf o run =
       let e : b.address n + (2 + i) ≡ b.address n + 2 + i = omega arith in
       let q = subst IsQuiet e (quiet n (2 + i) s (omega arith) (inr (nm, nf))) in

@@ -59,7 +59,7 @@ rises-slots strong at i (suc n) =
 pub rises-flat : (address end : ℕ → ℕ) (f : ℕ → List ℕ) (lo : ℕ) (names : List ℕ) → Rises lo (map address names) →
     ((n : ℕ) → In n names → Rises (address n) (f n)) → ((n : ℕ) → In n names → (a : ℕ) → In a (f n) → a < end n) → ((n : ℕ) → In n names → address n ≤ end n) →
     ((m n : ℕ) → In m names → In n names → address m < address n → end m ≤ address n) → (at : ℕ) → ((n : ℕ) → In n names → at ≤ address n) → Rises at
-        (flat_map f names)
+    (flat_map f names)
 rises-flat address end f lo [] r each below whole apart at l = tt
 rises-flat address end f lo (n ∷ names) r each below whole apart at l =
     let here = in-here n n names refl in
@@ -67,10 +67,10 @@ rises-flat address end f lo (n ∷ names) r each below whole apart at l =
     (let a = l n here in let z = whole n here in omega arith)
     (below n here)
     (rises-flat address end f (address n + 1) names r.1 (λ m i. each m (in-there m n names i)) (λ m i. below m (in-there m n names i))
-        (λ m i. whole m (in-there m n names i))
+    (λ m i. whole m (in-there m n names i))
     (λ m k i j. apart m k (in-there m n names i) (in-there k n names j)) (end n)
     (λ m i. apart n m here (in-there m n names i) (let k = rises-from (address n + 1) (map address names) r.1 (address m) (in_address m names i) in omega
-        arith)))
+    arith)))
   where
     in_address : (m : ℕ) (ns : List ℕ) → In m ns → In (address m) (map address ns)
     in_address m [] i = absurd (let z = i in cc)
@@ -120,7 +120,7 @@ strict-rises lo (x ∷ y ∷ ys) up l = (
   l x (in-here x x (y ∷ ys) refl),
   let first : x < y = up 0 (omega arith) in
       let more = strict-rises 0 (y ∷ ys) (λ k u. subst (λ (z : ℕ). get_or (x ∷ y ∷ ys) (suc k) 0 < get_or (x ∷ y ∷ ys) z 0)
-          (let e : suc k + 1 ≡ suc (k + 1) = omega arith in e) (up (suc k) (omega arith)))
+      (let e : suc k + 1 ≡ suc (k + 1) = omega arith in e) (up (suc k) (omega arith)))
       (λ a i. omega arith) in
       (omega arith, more.1),
 )

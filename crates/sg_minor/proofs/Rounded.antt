@@ -46,7 +46,7 @@ named_or_free Nobody = inr (λ n e. (let z = e in cc))
 module _ (p : Program) (s : Contents) (g : Graph) (b : Book) (is : IsSpaceOf p s b) (owner : ℕ → Owner) (heap : IsHeap p (word s) g b owner)
     (contents : IsContents s)
     (ambiguous pins : List ℕ) (ps : ArePins g b ambiguous pins) (tagged : Contents) (tags : HasTagged (word s) pins (word tagged)) (items : List ℕ)
-        (begins : AreStarts p (word s) g b pins items) where
+    (begins : AreStarts p (word s) g b pins items) where
   -- a name that is the young object at a
   abbrev pub IsYoungAt : ℕ → Type 0
   IsYoungAt a = (n : ℕ) × (n ≢ 0) × (b.stands n ≡ true) × (b.section n ≡ Young) × (b.address n ≡ a)
@@ -223,7 +223,7 @@ module _ (p : Program) (s : Contents) (g : Graph) (b : Book) (is : IsSpaceOf p s
           let to = place.1 in
           let nursery = nursery_is p s g b is owner heap contents in
           let t = tells.all (b.address n) (is_owned p s g b is owner heap contents n (b.address n) some (owns_first p s g b is owner heap contents n stands))
-              (from, omega arith) in
+          (from, omega arith) in
           let o = t.1 in
           let in_told : Contains told o = (t.0, slice_get_within told t.0 o t.2, get_or_from_slice_get told t.0 o o t.2) in
           let q = told_name o in_told in
@@ -350,7 +350,7 @@ module _ (p : Program) (s : Contents) (g : Graph) (b : Book) (is : IsSpaceOf p s
             let high = young.1 in
             let nursery = nursery_is p s g b is owner heap contents in
             let some : n ≢ 0 = λ z. (let at = ap b.address z ∙ heap.laid.nothing.at_nil in let nil = ap g.size z ∙ heap.laid.nothing.no_size in absurd
-                (omega arith)) in
+            (omega arith)) in
             let is_young = young_there p s g b is owner heap contents n some o.0 (omega arith) in
             let t = name_told n some o.0 is_young in
             let at = t.2 in

@@ -64,7 +64,7 @@ module _ (c : Ended) (w : Words) (is : (x : ℕ) → w.word x ≡ c.v x) (by : A
       ∙ clear x (omega arith) (omega arith) (λ n e.
       let o = c.heap.laid.objects.owned n x e in
       let some : n ≢ 0 = λ z. (let nil = ap c.b.address z ∙ c.heap.laid.nothing.at_nil in let size = ap c.g.size z ∙ c.heap.laid.nothing.no_size in let end =
-          o.2 in absurd (omega arith)) in
+      o.2 in absurd (omega arith)) in
       none n (old-word n x (omega arith) (record { some = some-name n some; stands = o.0; above = o.1; below = o.2 })))
 
   are-blocks : AreBlocks c.p w.marks w.block w.used w.word c.g.size (stands_on c) (address_of c) (section_of c) c.b.owed (owner3 c)
@@ -104,7 +104,7 @@ module _ (c : Ended) (w : Words) (is : (x : ℕ) → w.word x ≡ c.v x) (by : A
       let d = name-some n l in
       let size = size-is c.p c.area c.tie c.w c.g c.b c.ambiguous c.owner c.heap n d here in
       OfCopy (c.b.address n) i h (omega arith) (strong-of c.p c.area c.tie c.w c.g c.b c.ambiguous c.owner c.heap n i here d ∙ strong)
-          (ap (λ (z : ℕ). z + 2 + i) (at-sent c n here))
+      (ap (λ (z : ℕ). z + 2 + i) (at-sent c n here))
   old-field n i l s o within strong (Older old q e) = OfOld n i (name-some n l) (stood c n s) old.section within strong (ap (λ (z : ℕ). z + 2 + i) e)
 
   young-at : (n : ℕ) → section_of c n ≡ Young → Place c n → IsYoung c.area (address_of c n)

@@ -150,7 +150,7 @@ module _ (p : Program) (s : Contents) (g : Graph) (b : Book) (is : IsSpaceOf p s
         same_Some _ _ (sym shape_is_it ∙ ap (λ c. slice_get s.shapes c) class_same ∙ shape_is p s g b is owner heap contents n q.1 o.0) in
         let r = reference n i o.0 (omega arith)
         (ap (λ (z : ℕ). holds_reference (kind_of p (g.class n)) i z) (sym length) ∙ ap (λ (z : Shape). holds_reference z.kind i (word s (h + 1)))
-            (sym shape_same) ∙ holds) in
+        (sym shape_same) ∙ holds) in
         refers_to (word s (h + 2 + i)) r.0 (ap (λ z. word s (z + 2 + i)) (sym at) ∙ r.3) r.2;
     globals = λ x l. refers_to (word s (globals_base s.layout + x)) (g.global x) (ap (λ z. word s (z + x)) globals_are ∙ heap.laid.globals.holds x l)
         (heap.laid.globals.known x l).0;

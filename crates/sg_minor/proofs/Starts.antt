@@ -82,7 +82,7 @@ module _ (p : Program) (w : ℕ → ℕ) (g : Graph) (b : Book) (owner : ℕ →
       of-field s n d st i h =
           let q = slots-are ((area_of tagged).strong (class_of (word tagged (b.address n)))) (b.address n) 0 (word tagged (b.address n + 1)) s h in
           AtField n q.0 d st (inr i) (let l = q.1 in let z = size-at p w g b owner t ambiguous pins ps (word tagged) tg (b.address n) n st d refl in omega
-              arith) (sym (strong-as n q.0 d st) ∙ q.2) q.3
+          arith) (sym (strong-as n q.0 d st) ∙ q.2) q.3
 
       held : (s x : ℕ) → IsStart p g b pins s → w s ≡ byte_at x → IsYoung (area_for p) x → In s (slots ++ fields)
       held s x (AtGlobal j l e) q y = in-left s slots fields (seeds-all p w (area_for p) g b slots sd s x (Global j l e) q y)

@@ -145,8 +145,14 @@ module _ (c : Ended) where
           let low = h.above in
           let high = h.below in
           let kept = stands-kept c m h.stands (λ y. absurd (old-not-young m h.some h.stands h.old y)) in
-          let here : IsInBlock c.p (booked c) m l.block = record { some = h.some; stands = kept; old = still.section ∙ h.old; above = omega arith; below = omega
-              arith } in
+          let here : IsInBlock c.p (booked c) m l.block = record {
+            some = h.some;
+            stands = kept;
+            old = still.section ∙ h.old;
+            above = omega arith;
+            below = omega
+                arith;
+          } in
           n.2 (same-size (slot_words (c.g.size n.0)) z (sym (in_block c.p c.g (booked c) block used by n.0 l.block n.1)
           ∙ in_block c.p c.g (booked c) block used by m l.block here ∙ ap Swept l.before.2))
     ]
@@ -182,7 +188,7 @@ module _ (c : Ended) where
       (failed : (a : ℕ) → In a fails → has a pins ≡ false)
       (block : ℕ → BlockWord) (used : ℕ → ℕ) (by : AreBlocksBy c.p c.g (booked c) block used)
       (full : (a j : ℕ) → In a fails → j < c.p.config.blocks → IsPassed block used (slot_size (size_of c.w a)) j) (report : MinorReport)
-          (told : IsReportOf report pins c.moves fails c.m) where
+      (told : IsReportOf report pins c.moves fails c.m) where
     pin-stays : (a : ℕ) → In a pins → In a c.stays
     pin-stays a h = subst (λ (l : List ℕ). In a l) (sym split) (in-left a pins fails h)
 

@@ -33,7 +33,7 @@ use Rattle.sg_minor.proofs.Rounded.{told_rounded, told_staying, has_swept, told_
 pub pins_told : (s : Contents) (told seen : List Object) (ambiguous pins : List ℕ) → seen ≡ told →
     ((owner : ℕ → Option ℕ) → IsSoundBy s owner → TellsYoung s owner told) →
     ((t : Contents) (owner : ℕ → Option ℕ) → IsSoundBy t owner → TellsYoung t owner seen → ArePinned t.layout owner ambiguous pins) → ArePinnedIn s ambiguous
-        pins
+    pins
 pins_told s told seen ambiguous pins e tells pinned owner sound = pinned s owner sound (subst (TellsYoung s owner) (sym e) (tells owner sound))
 
 module _ (p : Program) (s : Contents) (g : Graph) (b : Book) (heap : HoldsHeap p s g b) (contents : IsContents s) (ambiguous bytes : List ℕ)
@@ -74,16 +74,16 @@ module _ (p : Program) (s : Contents) (g : Graph) (b : Book) (heap : HoldsHeap p
       pub is_rounded : AreRounded round.layout (word round) told
       is_rounded = subst (λ l. AreRounded l (word round) told) (sym round_layout)
           (told_rounded p s g b heap.0 heap.1.0 heap.1.1 contents ambiguous (map word_at bytes) named_pins tagged tags
-              (items p s g b ambiguous (map word_at bytes) found tagged begun) (begins p s g b ambiguous (map word_at bytes) found tagged begun)
+          (items p s g b ambiguous (map word_at bytes) found tagged begun) (begins p s g b ambiguous (map word_at bytes) found tagged begun)
           copied.went copied.stayed copied.m (word round) (image_for p s g b ambiguous (map word_at bytes) found tagged begun round moves fails copied)
-              (homes p s g b ambiguous (map word_at bytes) found tagged begun round moves fails copied)
+          (homes p s g b ambiguous (map word_at bytes) found tagged begun round moves fails copied)
           told told_of_heap)
 
       pub is_staying : AreStaying (word round) told bytes
       is_staying = told_staying p s g b heap.0 heap.1.0 heap.1.1 contents ambiguous (map word_at bytes) named_pins tagged tags
           (items p s g b ambiguous (map word_at bytes) found tagged begun) (begins p s g b ambiguous (map word_at bytes) found tagged begun)
           copied.went copied.stayed copied.m (word round) (image_for p s g b ambiguous (map word_at bytes) found tagged begun round moves fails copied)
-              (homes p s g b ambiguous (map word_at bytes) found tagged begun round moves fails copied)
+          (homes p s g b ambiguous (map word_at bytes) found tagged begun round moves fails copied)
           told told_of_heap bytes pins_of_heap.in_order plain_pins.whole refl
 
       card_bit : (c : ℕ) → slice_index round.cards c ≤ 1
@@ -131,15 +131,22 @@ module _ (p : Program) (s : Contents) (g : Graph) (b : Book) (heap : HoldsHeap p
         ended : JoinLaw → IsEnded p s g b ambiguous (map word_at bytes) copied.went copied.stayed copied.m final
         ended join = join.closes p s g b ambiguous (map word_at bytes) found tagged round moves fails begun copied final blocks_of
             (subst (λ (a : Area). HasSwept a (word s) (map word_at bytes ++ copied.stayed) (word round) (word final))
-                (sym (area_before p s g b ambiguous (map word_at bytes) found tagged begun))
+            (sym (area_before p s g b ambiguous (map word_at bytes) found tagged begun))
             (has_swept p s g b heap.0 heap.1.0 heap.1.1 contents ambiguous (map word_at bytes) named_pins tagged tags
-                (items p s g b ambiguous (map word_at bytes) found tagged begun) (begins p s g b ambiguous (map word_at bytes) found tagged begun)
+            (items p s g b ambiguous (map word_at bytes) found tagged begun) (begins p s g b ambiguous (map word_at bytes) found tagged begun)
             copied.went copied.stayed copied.m (word round) (image_for p s g b ambiguous (map word_at bytes) found tagged begun round moves fails copied)
-                (homes p s g b ambiguous (map word_at bytes) found tagged begun round moves fails copied)
+            (homes p s g b ambiguous (map word_at bytes) found tagged begun round moves fails copied)
             told told_of_heap (word final) (subst (λ l. AreCleaned told (word round) (λ x. slice_index l x)) (sym words_is) f.cleaned)))
 
-        after : final ≡ record s { words = f.swept.words; next = fronts_of report.pieces; ends = ends_of report.pieces; blocks = round.blocks; used =
-            round.used; cards = round.cards }
+        after : final ≡ record s {
+          words = f.swept.words;
+          next = fronts_of report.pieces;
+          ends = ends_of report.pieces;
+          blocks = round.blocks;
+          used =
+              round.used;
+          cards = round.cards;
+        }
         after =
             f.fitted ∙ ap (λ (z : Contents). record z { next = fronts_of report.pieces; ends = ends_of report.pieces }) f.still.0
             ∙ ap (λ (z : Contents). record z { words = f.swept.words; next = fronts_of report.pieces; ends = ends_of report.pieces }) copied.still.same
@@ -171,34 +178,41 @@ module _ (p : Program) (s : Contents) (g : Graph) (b : Book) (heap : HoldsHeap p
             (record {
               pins = subst (λ (z : List ℕ). AreTold z (map word_at bytes)) (sym f.pins_are)
                   (told_pins p s g b heap.0 heap.1.0 heap.1.1 contents ambiguous (map word_at bytes) named_pins tagged tags
-                      (items p s g b ambiguous (map word_at bytes) found tagged begun) (begins p s g b ambiguous (map word_at bytes) found tagged begun)
+                  (items p s g b ambiguous (map word_at bytes) found tagged begun) (begins p s g b ambiguous (map word_at bytes) found tagged begun)
                   copied.went copied.stayed copied.m (word round) (image_for p s g b ambiguous (map word_at bytes) found tagged begun round moves fails copied)
-                      (homes p s g b ambiguous (map word_at bytes) found tagged begun round moves fails copied)
+                  (homes p s g b ambiguous (map word_at bytes) found tagged begun round moves fails copied)
                   told told_of_heap bytes pins_of_heap.in_order plain_pins.whole refl);
               moves = told_moves p s g b heap.0 heap.1.0 heap.1.1 contents ambiguous (map word_at bytes) named_pins tagged tags
                   (items p s g b ambiguous (map word_at bytes) found tagged begun) (begins p s g b ambiguous (map word_at bytes) found tagged begun)
                   copied.went copied.stayed copied.m (word round) (image_for p s g b ambiguous (map word_at bytes) found tagged begun round moves fails copied)
-                      (homes p s g b ambiguous (map word_at bytes) found tagged begun round moves fails copied)
+                  (homes p s g b ambiguous (map word_at bytes) found tagged begun round moves fails copied)
                   told told_of_heap bytes pins_of_heap.in_order plain_pins.whole refl f.standing report.moves report.fails kept_here;
               fails = told_fails p s g b heap.0 heap.1.0 heap.1.1 contents ambiguous (map word_at bytes) named_pins tagged tags
                   (items p s g b ambiguous (map word_at bytes) found tagged begun) (begins p s g b ambiguous (map word_at bytes) found tagged begun)
                   copied.went copied.stayed copied.m (word round) (image_for p s g b ambiguous (map word_at bytes) found tagged begun round moves fails copied)
-                      (homes p s g b ambiguous (map word_at bytes) found tagged begun round moves fails copied)
+                  (homes p s g b ambiguous (map word_at bytes) found tagged begun round moves fails copied)
                   told told_of_heap bytes pins_of_heap.in_order plain_pins.whole refl f.standing report.moves report.fails kept_here;
               spares = f.spares;
             })
             (have_words p s g b heap.0 heap.1.0 heap.1.1 contents ambiguous (map word_at bytes) named_pins tagged tags
-                (items p s g b ambiguous (map word_at bytes) found tagged begun) (begins p s g b ambiguous (map word_at bytes) found tagged begun)
+            (items p s g b ambiguous (map word_at bytes) found tagged begun) (begins p s g b ambiguous (map word_at bytes) found tagged begun)
             copied.went copied.stayed copied.m (word round) (image_for p s g b ambiguous (map word_at bytes) found tagged begun round moves fails copied)
-                (homes p s g b ambiguous (map word_at bytes) found tagged begun round moves fails copied)
+            (homes p s g b ambiguous (map word_at bytes) found tagged begun round moves fails copied)
             told told_of_heap bytes pins_of_heap.in_order plain_pins.whole refl f.standing report.moves report.fails kept_here)
             (subst (λ l. ArePieces l f.standing report.pieces) swept_layout f.tiles) refitted
 
 -- nothing but words, fragments, blocks, occupancies and cards changes
 pub same_after : (s final : Contents) (ambiguous pins : List ℕ) (found : List Seed) (told : List Object) (round : Contents) (report : MinorReport) →
     (t : HasTraced s ambiguous found told pins round) → (f : HasFinished round told pins final report) →
-    final ≡ record s { words = f.swept.words; next = fronts_of report.pieces; ends = ends_of report.pieces; blocks = round.blocks; used = round.used; cards =
-        round.cards }
+    final ≡ record s {
+      words = f.swept.words;
+      next = fronts_of report.pieces;
+      ends = ends_of report.pieces;
+      blocks = round.blocks;
+      used = round.used;
+      cards =
+          round.cards;
+    }
 same_after s final ambiguous pins found told round report t f =
     f.fitted ∙ ap (λ (z : Contents). record z { next = fronts_of report.pieces; ends = ends_of report.pieces }) f.still.0
     ∙ ap (λ (z : Contents). record z { words = f.swept.words; next = fronts_of report.pieces; ends = ends_of report.pieces }) t.copied.still.same

@@ -114,9 +114,16 @@ module _ (p : Program) (s : Contents) (g : Graph) (b : Book) (is : IsSpaceOf p s
     bare = λ c there e. (settled.blocks.each c there).bare e;
     inhabited = λ c z there e.
         let n = settled.inhabited c z there e in
-        let some : n.0 ≢ 0 = λ k. (let l = n.1 in absurd (omega arith)) in
-        (n.0, record { some = n.1; stands = n.2; old = old_there p s g b is owner heap contents n.0 some n.2 (let low = n.3 in omega arith); above = n.3;
-            below = n.4 });
+        let some : n.0 ≢ 0 = λ k. (let l = n.1 in absurd (omega arith)) in (
+          n.0,
+          record {
+            some = n.1;
+            stands = n.2;
+            old = old_there p s g b is owner heap contents n.0 some n.2 (let low = n.3 in omega arith);
+            above = n.3;
+            below = n.4;
+          },
+        );
     small = λ n l stands. let few = few_fields p s g b is owner heap contents n (λ k. absurd (omega arith)) stands in omega arith;
     others = λ n l stands. elim (inside p s g b is owner heap contents n (λ k. absurd (omega arith)) stands) [
       | inl young ↦ inr young.2
@@ -150,8 +157,8 @@ module _ (p : Program) (s : Contents) (g : Graph) (b : Book) (is : IsSpaceOf p s
         is_zone p owner y (omega arith) (omega arith) (not-free (owner y) (λ n e.
         let o = owned p s g b is owner heap contents n y e in
         let some : n ≢ 0 = λ k. (let nil = ap b.address k ∙ heap.laid.nothing.at_nil in let none = ap g.size k ∙ heap.laid.nothing.no_size in let end = o.2 in
-            absurd (omega arith)) in
+        absurd (omega arith)) in
         clear_empty p g b (block_in s) (used_in s) blocks_by c z i inner.1 clear n y
-            (record { some = omega (arith, some); stands = o.0; above = o.1; below = o.2 }) from to));
+        (record { some = omega (arith, some); stands = o.0; above = o.1; below = o.2 }) from to));
     bare = λ c there e. (settled.blocks.each c there).bare e;
   }

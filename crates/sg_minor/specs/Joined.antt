@@ -153,16 +153,16 @@ pub data IsOldField (p : Program) (area : Area) (w : ℕ → ℕ) (g : Graph) (b
 
 -- where the objects are after a pause, what stayed and what moved, and how blocks and cards are
 pub record IsEnded (p : Program) (s : Contents) (g : Graph) (b : Book) (ambiguous pins : List ℕ) (moves fails : List ℕ) (m : ℕ → ℕ) (v : Contents) : Type 0
-    where
-  pub traced : IsTraced p (area_of s) (word s) g b ambiguous (pins ++ fails) moves
-  pub picture : IsPicture p (area_of s) (word s) g b (pins ++ fails) moves m (word v)
-  -- what failed wasn't pinned by a word, and no block has a place for it
-  pub failed : (a : ℕ) → In a fails → has a pins ≡ false
-  pub full : (a c : ℕ) → In a fails → c < p.config.blocks → IsPassed (block_in v) (used_in v) (slot_size (size_of (word s) a)) c
-  pub order : IsOrdered p s g b ambiguous moves fails m v
-  -- each strong field of an old object that refers to a young one has a dirty card
-  pub carded : (x y : ℕ) → IsOldField p (area_of s) (word s) g b moves m x → word v x ≡ byte_at y → IsYoung (area_of s) y → card_in v (card_of (layout_of p) x)
-      ≡ 1
+  where
+    pub traced : IsTraced p (area_of s) (word s) g b ambiguous (pins ++ fails) moves
+    pub picture : IsPicture p (area_of s) (word s) g b (pins ++ fails) moves m (word v)
+    -- what failed wasn't pinned by a word, and no block has a place for it
+    pub failed : (a : ℕ) → In a fails → has a pins ≡ false
+    pub full : (a c : ℕ) → In a fails → c < p.config.blocks → IsPassed (block_in v) (used_in v) (slot_size (size_of (word s) a)) c
+    pub order : IsOrdered p s g b ambiguous moves fails m v
+    -- each strong field of an old object that refers to a young one has a dirty card
+    pub carded : (x y : ℕ) → IsOldField p (area_of s) (word s) g b moves m x → word v x ≡ byte_at y → IsYoung (area_of s) y → card_in v (card_of (layout_of p) x)
+        ≡ 1
 
 -- The parts up to the round open it, and after it, with what it moved and failed, a sweep ends the pause.
 pub record JoinLaw : Type 0 where

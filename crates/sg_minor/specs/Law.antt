@@ -58,8 +58,8 @@ pub record HasPaused (p : Program) (g : Graph) (b : Book) (ambiguous : List ℕ)
 abbrev pub PauseLaw : Type 0
 PauseLaw =
     (p : Program) (s : Contents) (g : Graph) (b : Book) (ambiguous pins moves fails : List ℕ) (m : ℕ → ℕ) (v : Contents) (standing : List Object)
-        (report : MinorReport) →
+    (report : MinorReport) →
     HoldsHeap p s g b → IsPlain p g → IsContents s → ArePins g b ambiguous pins → IsEnded p s g b ambiguous pins moves fails m v → IsReportOf report pins moves
-        fails m →
+    fails m →
     HaveWords standing (word s) (pins ++ fails) → ArePieces s.layout standing report.pieces → IsRefitted s v report.pieces →
     HasPaused p g b ambiguous v report

@@ -22,7 +22,7 @@ returns c =
     let swept = c.sweep.new.space in
     let kept = subst (λ z. AreKept round.layout (word round) z pins standing lists.moves.items lists.fails.items) c.as_slice.ensures
     (subst (λ z. AreKept round.layout (word round) c.as_slice.result.now z standing lists.moves.items lists.fails.items) c.as_slice-2.ensures
-        c.in_ok-kept.ensures.kept) in
+    c.in_ok-kept.ensures.kept) in
     record {
       finished = record {
         swept = swept;

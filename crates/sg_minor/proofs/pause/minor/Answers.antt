@@ -1,6 +1,5 @@
-use Rattle.std.proofs.Common.{List, sym, ap, ◌∙◌, subst}
+use Rattle.std.proofs.Common.{sym, ap, ◌∙◌, subst}
 use Rattle.sg_space.specs.Space.{Contents}
-use Rattle.sg_cards.specs.declared.found.Seed.{Seed}
 use Rattle.sg_minor.specs.Joined.{AreFound}
 use Rattle.sg_minor.proofs.Sound.{sound_of_heap}
 use Rattle.sg_minor.proofs.Whole.{is_rounded, is_staying, is_paused, round_contents, same_after}
@@ -17,7 +16,7 @@ finish-requires-clause-contents c =
     let t = c.in_ok-traced.ensures.traced in
     let found = subst (AreFound c.args.space) (sym c.all.ensures) c.requires.found in
     round_contents h.0 c.args.space h.1 h.2 h.3 c.in_ok-traced.ensures.before c.args.ambiguous.now r.pins t.pinned c.all.result.now found t.tagged t.still
-        t.tags r.told t.tells r.space t.moves t.fails
+    t.tags r.told t.tells r.space t.moves t.fails
     t.copied
 
 pub finish-requires-clause-rounded : goal.finish-requires-clause-rounded
@@ -27,7 +26,7 @@ finish-requires-clause-rounded c =
     let t = c.in_ok-traced.ensures.traced in
     let found = subst (AreFound c.args.space) (sym c.all.ensures) c.requires.found in
     is_rounded h.0 c.args.space h.1 h.2 h.3 c.in_ok-traced.ensures.before c.args.ambiguous.now r.pins t.pinned c.all.result.now found t.tagged t.still t.tags
-        r.told t.tells r.space t.moves t.fails
+    r.told t.tells r.space t.moves t.fails
     t.copied
 
 pub finish-requires-clause-pins : goal.finish-requires-clause-pins
@@ -37,7 +36,7 @@ finish-requires-clause-pins c =
     let t = c.in_ok-traced.ensures.traced in
     let found = subst (AreFound c.args.space) (sym c.all.ensures) c.requires.found in
     is_staying h.0 c.args.space h.1 h.2 h.3 c.in_ok-traced.ensures.before c.args.ambiguous.now r.pins t.pinned c.all.result.now found t.tagged t.still t.tags
-        r.told t.tells r.space t.moves t.fails
+    r.told t.tells r.space t.moves t.fails
     t.copied
 
 pub clean-requires : goal.clean-requires
@@ -47,7 +46,7 @@ clean-requires c =
     let t = c.in_ok-traced.ensures.traced in
     let found = subst (AreFound c.args.space) (sym c.all.ensures) c.requires.found in
     let paused = is_paused h.0 c.args.space h.1 h.2 h.3 c.in_ok-traced.ensures.before c.args.ambiguous.now r.pins t.pinned c.all.result.now found t.tagged
-        t.still t.tags r.told t.tells r.space
+    t.still t.tags r.told t.tells r.space
     t.moves t.fails t.copied c.in_ok-space.space c.in_ok-space.report c.in_ok-space.ensures.finished c.join_law.ensures c.pause_law.ensures h.4 in
     sound_of_heap h.0 c.in_ok-space.space h.1 paused.book paused.heap c.in_ok-space.ensures.contents
 
@@ -58,11 +57,11 @@ returns c =
     let t = c.in_ok-traced.ensures.traced in
     let found = subst (AreFound c.args.space) (sym c.all.ensures) c.requires.found in
     let after = same_after s c.in_ok-space.space c.args.ambiguous.now r.pins c.all.result.now r.told r.space c.in_ok-space.report t
-        c.in_ok-space.ensures.finished in
+    c.in_ok-space.ensures.finished in
     record {
       paused = λ p g b heap plain. paused_clean p c.in_ok-space.space g b c.args.ambiguous.now c.in_ok-space.report
           (is_paused p s g b heap c.in_ok-traced.ensures.before c.args.ambiguous.now r.pins t.pinned c.all.result.now found t.tagged t.still t.tags r.told
-              t.tells r.space
+          t.tells r.space
           t.moves t.fails t.copied c.in_ok-space.space c.in_ok-space.report c.in_ok-space.ensures.finished c.join_law.ensures c.pause_law.ensures plain)
           c.in_ok-space.ensures.contents c.clean.new.space (record { still = c.clean.ensures.still; dirty = c.clean.ensures.dirty });
       contents = c.layout-layout.ensures.contents;

@@ -17,7 +17,7 @@ pinned_among-requires c =
     let h = c.requires.some in
     let sound = sound_of_heap h.0 c.args.space h.1 h.2 h.3 c.layout-layout.ensures.contents in
     subst (λ (told : List Object). IsStrictlyIncreasing (map (λ (o : Object). o.at) told)) (sym c.as_slice.ensures)
-        (c.in_ok-told.ensures sound.0 sound.1).in_order
+    (c.in_ok-told.ensures sound.0 sound.1).in_order
 
 pub tag-requires-clause-in_order : goal.tag-requires-clause-in_order
 tag-requires-clause-in_order c =
@@ -25,13 +25,13 @@ tag-requires-clause-in_order c =
     let sound = sound_of_heap h.0 c.args.space h.1 h.2 h.3 c.layout-layout.ensures.contents in
     subst IsStrictlyIncreasing (sym c.as_slice-2.ensures)
     (pins_told c.args.space c.in_ok-told.told _ c.args.ambiguous.now c.in_ok-pins.pins c.as_slice.ensures c.in_ok-told.ensures c.in_ok-pins.ensures.pinned
-        sound.0 sound.1).in_order
+    sound.0 sound.1).in_order
 
 pub tag-requires-clause-plain : goal.tag-requires-clause-plain
 tag-requires-clause-plain c =
     let h = c.requires.some in
     subst (ArePlain c.args.space) (sym c.as_slice-2.ensures)
-        (plain_pins h.0 c.args.space h.1 h.2 h.3 c.layout-layout.ensures.contents c.args.ambiguous.now c.in_ok-pins.pins
+    (plain_pins h.0 c.args.space h.1 h.2 h.3 c.layout-layout.ensures.contents c.args.ambiguous.now c.in_ok-pins.pins
     (pins_told c.args.space c.in_ok-told.told _ c.args.ambiguous.now c.in_ok-pins.pins c.as_slice.ensures c.in_ok-told.ensures c.in_ok-pins.ensures.pinned))
 
 pub copy_one-requires : goal.copy_one-requires
@@ -65,9 +65,9 @@ returns c =
         fails = round.fails.items;
         copied = subst (λ (z : List ℕ). HasCopiedTo tagged z (map word_at bytes) round.space round.moves.items round.fails.items) c.in_ok-slots.ensures
             (subst (λ (z : List ℕ). HasCopiedTo tagged (map word_at z) (map word_at bytes) round.space round.moves.items round.fails.items)
-                c.deref.ensures.value
+            c.deref.ensures.value
             (subst (λ (z : List ℕ). HasCopiedTo tagged (map word_at c.deref.result.now) (map word_at z) round.space round.moves.items round.fails.items)
-                c.as_slice-3.ensures
+            c.as_slice-3.ensures
             c.in_ok-round.ensures.copied));
       };
       before = c.layout-layout.ensures.contents;

@@ -18,11 +18,11 @@ loop-x-preserved c =
     subst (λ (l : List ℕ). map word_at c.add_slot.new.slots.items ≡ map word_at c.args.slots.now.items ++ filter (holds_young (area_of s) (word s)) l)
     (ap (λ (z : ℕ). global_slots s.layout x ++ z ∷ []) slot ∙ sym (global-more s.layout x))
     (adds-more (holds_young (area_of s) (word s)) (map word_at c.args.slots.now.items) (map word_at c.loop-x.slots.items)
-        (map word_at c.add_slot.new.slots.items) (global_slots s.layout x) (word_at c.global.result ∷ []) c.loop-x.invariant c.in_ok-add_slot.ensures)
+    (map word_at c.add_slot.new.slots.items) (global_slots s.layout x) (word_at c.global.result ∷ []) c.loop-x.invariant c.in_ok-add_slot.ensures)
 
 pub returns : goal.returns
 returns c =
     let s = c.args.space.now in
     let end : c.loop-x.x ≡ 64 = let above = c.loop-x-test.false in let within = c.loop-x.auto.x-end in omega arith in
     subst (λ (z : ℕ). map word_at c.loop-x.slots.items ≡ map word_at c.args.slots.now.items ++ filter (holds_young (area_of s) (word s))
-        (global_slots s.layout z)) end c.loop-x.invariant
+    (global_slots s.layout z)) end c.loop-x.invariant

@@ -19,7 +19,7 @@ loop-seed-preserved c =
     ∙ append_assoc before (map slot (take i seeds)) (slot seed ∷ [])
     ∙ ap (λ (l : List ℕ). before ++ l) (sym (map-append slot (take i seeds) (seed ∷ [])))
     ∙ ap (λ (l : List Seed). before ++ map slot l) (ap (λ (s : Seed). take i seeds ++ s ∷ []) c.seed-item.is ∙ sym
-        (take_more seeds i seed c.loop-seed-test.true))
+    (take_more seeds i seed c.loop-seed-test.true))
 
 pub returns : goal.returns
 returns c =

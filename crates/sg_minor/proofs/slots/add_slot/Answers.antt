@@ -12,7 +12,7 @@ returns-in_ok-push c =
     let s = c.args.space.now in
     adds-one (holds_young (area_of s) (word s)) (map word_at c.args.slots.now.items) _ (word_at c.args.slot)
     (ap (λ v. is_young_word (area_of s) v) (sym c.read.ensures.value) ∙ tests-young (area_of s) c.read.result c.is_young.result c.is_young.ensures ∙
-        c.if-is_young.true)
+    c.if-is_young.true)
     (ap (map word_at) c.in_ok-push.ensures.items ∙ map_push word_at c.args.slots.now.items c.args.slot)
 
 pub returns-else-is_young : goal.returns-else-is_young
@@ -20,4 +20,4 @@ returns-else-is_young c =
     let s = c.args.space.now in
     adds-not (holds_young (area_of s) (word s)) (map word_at c.args.slots.now.items) (word_at c.args.slot)
     (ap (λ v. is_young_word (area_of s) v) (sym c.read.ensures.value) ∙ tests-young (area_of s) c.read.result c.is_young.result c.is_young.ensures ∙
-        c.if-is_young.false)
+    c.if-is_young.false)
