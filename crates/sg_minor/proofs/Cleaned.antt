@@ -1,22 +1,19 @@
 -- Where the cards that aren't needed become clean, the space still holds the graph.
-use Rattle.std.proofs.Common.{◌≡◌, ◌≢◌, ℕ, ◌+◌, ◌*◌, ◌/◌, ◌<◌, ◌≤◌, ◌↔◌, List, Option, true, refl, sym, ap, ◌∙◌, subst, arith, slice_index}
+use Rattle.std.proofs.Common.{◌≡◌, ◌≢◌, ℕ, ◌+◌, ◌<◌, ◌↔◌, List, Option, true, refl, sym, ap, ◌∙◌, subst, arith, slice_index}
 use Rattle.sg_words.specs.Address.{byte_at}
 use Rattle.sg_words.specs.Blocks.{card_of}
-use Rattle.sg_words.specs.Sections.{IsYoung}
-use Rattle.sg_desc.specs.Shapes.{strong_holds}
 use Rattle.sg_program.specs.declared.program.Program.{Program}
-use Rattle.sg_program.specs.Scripts.{kind_of}
 use Rattle.sg_graph.specs.Graph.{Graph, Entry, Ref}
-use Rattle.sg_graph.specs.Book.{Book, Young, nursery_end, word_of}
+use Rattle.sg_graph.specs.Book.{Book, word_of}
 use Rattle.sg_graph.specs.Heap.{layout_of, IsKnownEntry}
 use Rattle.sg_graph.specs.Blocks.{AreCarded}
 use Rattle.sg_graph.specs.declared.reports.MinorReport.{MinorReport}
 use Rattle.sg_space.specs.Space.{Contents, IsContents, cards_in}
 use Rattle.sg_space.specs.Standing.{word, IsSoundBy}
-use Rattle.sg_cards.specs.Seeds.{IsSeedAt, HasSeed}
+use Rattle.sg_cards.specs.Seeds.{HasSeed}
 use Rattle.sg_minor.specs.Holding.{HoldsHeap}
 use Rattle.sg_minor.specs.Law.{HasPaused}
-use Rattle.sg_minor.proofs.Sound.{owner_of, owned, young_inside, old_inside, nursery_is, blocks_is, sound_by}
+use Rattle.sg_minor.proofs.Sound.{owner_of, young_inside, old_inside, nursery_is, blocks_is, sound_by}
 use Rattle.sg_minor.proofs.Soundly.{seeded}
 
 -- the space but for its cards, of which those are dirty that were and are needed

@@ -1,5 +1,5 @@
 -- How the parts of a pause meet.
-use Rattle.std.proofs.Common.{◌≡◌, ◌≢◌, ℕ, zero, suc, ◌+◌, ◌*◌, ◌<◌, ◌≤◌, ◌⊎◌, Bool, true, false, List, [], ◌∷◌, ◌++◌, map, filter, length, slice_index, slice_index_or, cond, sym, refl, ap, ◌∙◌, subst, inl, inr, arith}
+use Rattle.std.proofs.Common.{◌≡◌, ◌≢◌, ℕ, zero, suc, ◌+◌, ◌*◌, ◌<◌, ◌≤◌, ◌⊎◌, Bool, true, false, List, [], ◌∷◌, ◌++◌, map, filter, length, slice_index, slice_index_or, cond, sym, ap, ◌∙◌, subst, inl, inr, arith}
 use Rattle.std.specs.List.{flat_map}
 use Rattle.std.specs.List.Sorted.{IsStrictlyIncreasing}
 use Rattle.std.specs.Int.{bit_at}
@@ -7,50 +7,48 @@ use Rattle.std.proofs.lemmas.List.{map-append}
 use Rattle.sg_words.specs.Address.{byte_at}
 use Rattle.sg_words.specs.Blocks.{slot_size, slots, card_of, card_from}
 use Rattle.sg_words.specs.Found.{IsSearched}
-use Rattle.sg_words.specs.Lists.{In, has}
+use Rattle.sg_words.specs.Lists.{In}
 use Rattle.sg_words.specs.Objects.{size_of, sent}
 use Rattle.sg_words.specs.Reach.{AreDistinct}
 use Rattle.sg_words.specs.Sections.{globals_base}
 use Rattle.sg_words.specs.declared.layout.Layout.{Layout}
 use Rattle.sg_words.specs.declared.pieces.Move.{Move}
 use Rattle.sg_words.specs.declared.steps.BlockWord.TheVariants.{Free, Swept}
-use Rattle.sg_words.proofs.Members.{map_in, in-left, in-right, in-cases, in-filter, in-flat, last-cases, out}
+use Rattle.sg_words.proofs.Members.{map_in, in-filter, in-flat, last-cases, out}
 use Rattle.sg_words.proofs.Blocks.{slot_size-holds, slot_fits}
 use Rattle.std.proofs.lemmas.Bool.{cases_lt}
 use Rattle.sg_words.proofs.Objects.{sent-at, slots-are}
-use Rattle.sg_program.specs.declared.program.Class.{Class}
 use Rattle.sg_program.specs.declared.program.Program.{Program}
 use Rattle.sg_program.specs.Scripts.{kind_of}
-use Rattle.sg_desc.specs.Shapes.{is_strong as is_strong_by, strong_holds}
+use Rattle.sg_desc.specs.Shapes.{is_strong as is_strong_by}
 use Rattle.sg_graph.specs.Graph.{Graph}
 use Rattle.sg_graph.specs.Book.{Book, Old, nursery_end, old_end, IsEmptySlot}
 use Rattle.sg_graph.specs.Epoch.{numbers_below}
 use Rattle.sg_graph.specs.Heap.{Owner, layout_of, IsHeap}
 use Rattle.sg_graph.specs.Blocks.{AreSettled}
 use Rattle.sg_graph.specs.Pause.{IsPinned}
-use Rattle.sg_space.specs.Space.{Contents, IsContents, words_of}
+use Rattle.sg_space.specs.Space.{Contents, words_of}
 use Rattle.sg_space.specs.Standing.{word, block_in, used_in}
 use Rattle.sg_space.specs.Changes.{contents_still}
 use Rattle.sg_cards.specs.declared.found.Seed.{Seed}
 use Rattle.sg_cards.specs.Seeds.{AreSeeds}
 use Rattle.sg_round.specs.Area.{Area, IsYoung, is_strong, Traces, card_at}
 use Rattle.sg_round.specs.Image.{IsImage}
-use Rattle.sg_round.specs.Order.{strong_of, leads, Fits, IsInOrder}
+use Rattle.sg_round.specs.Order.{strong_of, leads, Fits}
 use Rattle.sg_round.specs.Round.{IsOpening, AreZoned, IsPassed, IsClear, Slot, Given, Copied}
-use Rattle.sg_copy.specs.Copying.{area_of, items_of, card_in, CanCopy, AreFilled, AreMarked, HasCopiedTo}
-use Rattle.sg_minor.specs.Holding.{IsSpaceOf}
-use Rattle.sg_minor.specs.Joined.{ArePins, global_slots, holds_young, slots_from, IsHome, IsPicture, IsTraced, HasSwept, HasBlocksOf, IsBegun, IsOrdered, IsOldField, OfOld, OfCopy, IsEnded, JoinLaw}
+use Rattle.sg_copy.specs.Copying.{area_of, items_of, card_in, CanCopy, HasCopiedTo}
+use Rattle.sg_minor.specs.Joined.{global_slots, holds_young, slots_from, IsHome, IsPicture, IsTraced, HasSwept, HasBlocksOf, IsBegun, IsOrdered, IsOldField, OfOld, OfCopy, IsEnded, JoinLaw}
 use Rattle.sg_minor.proofs.Areas.{area_for, area_is, classes_are}
 use Rattle.sg_minor.proofs.Added.{AreSlots, slots_of_name, slots_outside, IsSeed, Global, Field, outside-is, seeds-each}
 use Rattle.sg_minor.proofs.InOrder.{IsNamedSearch, named-search, names-of, slots-named, in-names, fits-same}
 use Rattle.sg_minor.proofs.Keeps.{fail-loose, traced}
 use Rattle.sg_minor.proofs.Mirrors.{clear_empty}
-use Rattle.sg_minor.proofs.Named.{field_refers, byte-same, field-name, inner, inner-field, outer, in-nursery, in-old, length as length-of, nursery, size-at, strong, strong-of}
+use Rattle.sg_minor.proofs.Named.{byte-same, field-name, inner, inner-field, outer, in-nursery, in-old, length as length-of, size-at, strong, strong-of}
 use Rattle.sg_minor.proofs.OldNames.{old_names, old_named, are_slots, found_slots, found_are, found_rise, fields_rise}
 use Rattle.sg_minor.proofs.Opens.{named, traced-young, opening}
 use Rattle.sg_minor.proofs.Pictures.{picture}
 use Rattle.sg_minor.proofs.Rises.{Rises, rises-append, rises-filter, rises-distinct, strict-rises, distinct-append}
-use Rattle.sg_minor.proofs.Starts.{IsStart, AtGlobal, AtField, AreStarts, starts}
+use Rattle.sg_minor.proofs.Starts.{AtField, AreStarts, starts}
 use Rattle.sg_minor.proofs.Sound.{owner_of, sound_by}
 use Rattle.sg_minor.proofs.Zoned.{zone_in, zone_zero, zoned, blocks_by}
 

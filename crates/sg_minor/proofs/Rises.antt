@@ -1,12 +1,12 @@
 -- Lists of numbers in increasing order from some number on: what keeps them so, and that there is one of the same members.
-use Rattle.std.proofs.Common.{◌≡◌, ◌≢◌, ℕ, zero, suc, ◌+◌, ◌<◌, ◌≤◌, Bool, inl, inr, List, [], ◌∷◌, ◌++◌, map, filter, length, get_or, sym, refl, ap, ◌∙◌, subst, arith, add-one}
+use Rattle.std.proofs.Common.{◌≡◌, ℕ, zero, suc, ◌+◌, ◌<◌, ◌≤◌, Bool, inl, inr, List, [], ◌∷◌, ◌++◌, map, filter, get_or, sym, refl, ap, ◌∙◌, subst, arith}
 use Rattle.std.specs.List.{flat_map}
 use Rattle.std.specs.List.Sorted.{IsStrictlyIncreasing}
 use Rattle.std.proofs.lemmas.Bool.{cases_Bool, cond-true, cond-false}
 use Rattle.sg_words.specs.Lists.{In}
 use Rattle.sg_words.specs.Objects.{strong_slots}
 use Rattle.sg_words.specs.Reach.{AreDistinct, IsFreshIn}
-use Rattle.sg_words.proofs.Members.{has-cases, in-here, in-there, in-left, in-right, in-cases, fresh-out}
+use Rattle.sg_words.proofs.Members.{has-cases, in-here, in-there, in-cases, fresh-out}
 
 -- each number is at least `lo`, and above the one before it
 abbrev pub Rises : ℕ → List ℕ → Type 0

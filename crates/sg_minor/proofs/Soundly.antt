@@ -1,26 +1,26 @@
 -- A space that holds a graph by a book refers soundly, and the fields that need a dirty card have one.
-use Rattle.std.proofs.Common.{◌≡◌, ◌≢◌, ℕ, ◌+◌, ◌<◌, ◌≤◌, inl, inr, Bool, List, length, Option, Some, None, true, false, refl, sym, ap, ◌∙◌, subst, arith, slice_get, slice_index, le_refl}
-use Rattle.std.proofs.lemmas.Bool.{cases_eq, false≢true}
+use Rattle.std.proofs.Common.{◌≡◌, ◌≢◌, ℕ, ◌+◌, ◌<◌, ◌≤◌, inl, inr, Bool, length, Option, Some, true, sym, ap, ◌∙◌, subst, arith, slice_get, slice_index, le_refl}
+use Rattle.std.proofs.lemmas.Bool.{cases_eq}
 use Rattle.std.proofs.lemmas.Option.{same_Some}
 use Rattle.sg_words.specs.Address.{byte_at}
-use Rattle.sg_words.specs.Blocks.{card_of, slot_size, slot_base}
+use Rattle.sg_words.specs.Blocks.{card_of, slot_size}
 use Rattle.sg_words.specs.Sections.{old_base, globals_base, ready_base, links_base, IsYoung}
 use Rattle.sg_words.specs.Tags.{plain_word}
 use Rattle.sg_desc.specs.declared.shapes.Shape.{Shape}
 use Rattle.sg_desc.specs.Shapes.{holds_reference, is_strong, strong_holds}
 use Rattle.sg_program.specs.declared.program.Program.{Program}
 use Rattle.sg_program.specs.Scripts.{shape_of, kind_of}
-use Rattle.sg_graph.specs.Graph.{Graph, Entry, Ref, Int, Inner}
-use Rattle.sg_graph.specs.Book.{Book, Young, Old, nursery_end, word_of}
+use Rattle.sg_graph.specs.Graph.{Graph, Entry, Ref}
+use Rattle.sg_graph.specs.Book.{Book, Old, word_of}
 use Rattle.sg_graph.specs.Blocks.{AreSettled}
 use Rattle.sg_graph.specs.Heap.{Owner, IsOfSort, IsKnownEntry, IsHeap, layout_of}
 use Rattle.sg_space.specs.Space.{Contents, IsContents, words_of}
-use Rattle.sg_space.specs.Standing.{word, page_in, page_base, size_at, IsInSlot, IsInPages, IsSoundBy, Refers, RefersSoundly, AreRows}
+use Rattle.sg_space.specs.Standing.{word, size_at, IsSoundBy, Refers, RefersSoundly, AreRows}
 use Rattle.sg_cards.specs.Seeds.{IsSeedAt, AreCarded}
 use Rattle.sg_minor.specs.Holding.{IsSpaceOf, HoldsHeap}
 use Rattle.sg_minor.specs.Laws.{IsSoundHeap}
 use Rattle.sg_minor.proofs.Names.{ref-of}
-use Rattle.sg_minor.proofs.Sound.{owner_of, named_front, is_owned, owns_first, owned, length_is, class_is, shape_is, old_inside, young_there, taken_named, nursery_is, blocks_is, sound_by}
+use Rattle.sg_minor.proofs.Sound.{owner_of, named_front, is_owned, owns_first, owned, length_is, class_is, shape_is, old_inside, young_there, taken_named, nursery_is, sound_by}
 
 module _ (p : Program) (s : Contents) (g : Graph) (b : Book) (is : IsSpaceOf p s b) (owner : ℕ → Owner) (heap : IsHeap p (word s) g b owner)
     (contents : IsContents s)

@@ -1,5 +1,5 @@
 -- A pause as a whole: from its parts to the law.
-use Rattle.std.proofs.Common.{◌≡◌, ℕ, ◌+◌, ◌≤◌, List, ◌++◌, map, length, slice_index, Option, inl, inr, refl, sym, ap, ◌∙◌, subst, arith}
+use Rattle.std.proofs.Common.{◌≡◌, ℕ, ◌≤◌, List, ◌++◌, map, length, slice_index, Option, inl, inr, refl, sym, ap, ◌∙◌, subst, arith}
 use Rattle.sg_words.specs.Address.{word_at}
 use Rattle.sg_words.specs.Pieces.{fronts_of, ends_of}
 use Rattle.sg_words.specs.declared.pieces.Move.{Move}
@@ -14,7 +14,7 @@ use Rattle.sg_space.specs.Standing.{word, IsSoundBy, TellsYoung}
 use Rattle.sg_space.specs.Changes.{IsStill, contents_still}
 use Rattle.sg_cards.specs.declared.found.Seed.{Seed}
 use Rattle.sg_round.specs.Area.{Area}
-use Rattle.sg_copy.specs.Copying.{area_of, CanCopy, HasCopiedTo}
+use Rattle.sg_copy.specs.Copying.{CanCopy, HasCopiedTo}
 use Rattle.sg_pins.specs.Pins.{ArePinned}
 use Rattle.sg_nursery.specs.Parts.{HasTagged, AreRounded, AreStaying, AreKept, AreCleaned, ArePlain}
 use Rattle.sg_nursery.specs.Pieces.{ArePieces}

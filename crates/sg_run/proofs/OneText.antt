@@ -1,5 +1,5 @@
 -- An input and a list of turns have one text.
-use Rattle.std.proofs.Common.{◌≡◌, ℕ, List, ap, sym, ◌∙◌, subst}
+use Rattle.std.proofs.Common.{◌≡◌, sym, ◌∙◌, subst}
 use Rattle.sg_program.specs.declared.program.Program.{Program}
 use Rattle.sg_grammar.specs.Text.{HasOneReading}
 use Rattle.sg_graph.specs.Follows.{IsWholeRunBy}

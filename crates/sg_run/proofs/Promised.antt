@@ -1,10 +1,9 @@
 -- What is promised of a job is promised of the words that ask for it.
 use Rattle.std.specs.Prelude.{Option, Some, None, IfSome}
-use Rattle.std.proofs.Common.{[], ◌≡◌, ◌≢◌, ℕ, ◌⊎◌, ◌≤◌, inl, inr, List, refl, sym, ◌∙◌, subst, arith}
+use Rattle.std.proofs.Common.{[], ◌≡◌, ◌≢◌, ℕ, ◌≤◌, inl, inr, List, refl, subst, arith}
 use Rattle.std.specs.Io.KnownBytes.{Appends, Keeps}
 use Rattle.sg_io.specs.Progress.{TakesSome}
 use Rattle.sg_command.specs.declared.job.Job.{Job}
-use Rattle.sg_command.specs.declared.job.Job.TheVariants.{Run, Replay}
 use Rattle.sg_command.specs.Command.{IsCommand, IsAnyCommand, usage_lines, HasOneJob}
 use Rattle.sg_run.specs.Ends.{Ends, WriteFails, Gives}
 use Rattle.sg_run.specs.Top.{IsCutShort, Promises}

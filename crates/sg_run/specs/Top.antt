@@ -1,6 +1,6 @@
 -- What the top call promises, by its status: 0 done, 1 no command, 2 not accepted, 3 the source failed, 4 the sink
 -- failed, 5 no memory. Clauses on bytes hold where the source and the sink tell their bytes.
-use Rattle.std.specs.Prelude.{◌≡◌, ◌≢◌, ℕ, ◌≤◌, ◌⊎◌, Option, List, [], IfSome}
+use Rattle.std.specs.Prelude.{◌≡◌, ◌≢◌, ℕ, ◌≤◌, ◌⊎◌, List, [], IfSome}
 use Rattle.std.specs.Io.KnownBytes.{Appends, Keeps, IsAtEnd}
 use Rattle.sg_io.specs.Progress.{TakesSome}
 use Rattle.sg_parse.specs.declared.refusal.Refusal.TheVariants.{Memory}

@@ -40,4 +40,4 @@ returns g c =
         words = λ i l. refl;
       };
       sound = (heap.owner, heap.sound);
-    }) heap.carded sound) c.seeds.ensures
+    }) heap.carded sound) c.seeds.ensures.exact

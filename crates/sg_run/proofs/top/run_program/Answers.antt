@@ -1,4 +1,4 @@
-use Rattle.std.proofs.Common.{rules, List, arith}
+use Rattle.std.proofs.Common.{rules, List}
 use Rattle.std.specs.Io.KnownBytes.{Appends}
 use Rattle.std.specs.Prelude.{IfSome}
 use Rattle.sg_graph.specs.Run.{Phase}
