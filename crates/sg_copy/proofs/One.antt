@@ -1,12 +1,9 @@
 -- A space with one object of one plain field at the nursery's front, to which the first global refers.
-use Rattle.std.proofs.Common.{◌≡◌, ◌≢◌, ℕ, ◌+◌, ◌*◌, ◌<◌, ◌≤◌, ◌⊎◌, nat_le, nat_lt, if◌then◌else◌, Bool, true, false, List, [], ◌∷◌, length, Some, slice_get, slice_set}
+use Rattle.std.proofs.Common.{◌≡◌, ◌≢◌, ℕ, ◌+◌, ◌<◌, ◌≤◌, nat_le, nat_lt, if◌then◌else◌, Bool, true, false, List, [], ◌∷◌, length, Some, slice_get, slice_set}
 use Rattle.std.proofs.Common.{inl, inr, refl, sym, ap, ◌∙◌, subst, arith, get_or, replicate, length-set, get_or-set_same, get_or-set_other}
 use Rattle.std.proofs.lemmas.List.{get_or-replicate}
 use Rattle.std.proofs.lemmas.Bool.{cases_lt, cond-true, cond-false, lt-ltb, le-ltb, le-leb, lt-leb}
-use Rattle.sg_words.specs.Address.{byte_at, word_at}
-use Rattle.sg_words.specs.Tags.{plain_word}
-use Rattle.sg_words.specs.Lists.{In}
-use Rattle.sg_words.specs.Blocks.{slots}
+use Rattle.sg_words.specs.Address.{word_at}
 use Rattle.sg_words.proofs.Blocks.{slot_fits}
 use Rattle.sg_words.specs.Reach.Reached.{Root, Next}
 use Rattle.sg_words.specs.declared.layout.Layout.{Layout}
@@ -17,9 +14,9 @@ use Rattle.sg_desc.specs.declared.shapes.Descriptor.TheVariants.{PtrFree}
 use Rattle.sg_space.specs.Space.{Contents, IsContents, clear_space}
 use Rattle.sg_space.specs.Changes.{contents_still}
 use Rattle.sg_space.specs.Standing.{word, block_in, used_in}
-use Rattle.sg_round.specs.Area.{Area, class_of, is_strong, IsFixed, Traces}
-use Rattle.sg_round.specs.Round.{IsMet, IsOpening, AreZoned, InSlot, IsClear}
-use Rattle.sg_copy.specs.Copying.{is_strong_in, area_of, items_of, CanCopy}
+use Rattle.sg_round.specs.Area.{class_of, is_strong, IsFixed, Traces}
+use Rattle.sg_round.specs.Round.{IsMet, IsOpening, AreZoned}
+use Rattle.sg_copy.specs.Copying.{is_strong_in, area_of, CanCopy}
 
 -- the words of blocks
 heap_word : Layout → ℕ → Bool
@@ -130,9 +127,9 @@ one_written layout shapes shape s0 s1 s2 s3 a b g first plain c0 e0 ea eb eg e1 
     let l2 : s2.layout ≡ layout = ap (λ (z : Contents). z.layout) e2 ∙ l1 in
     let l3 : s3.layout ≡ layout = ap (λ (z : Contents). z.layout) e3 ∙ l2 in
     let h3 : s3.shapes ≡ shapes =
-        ap (λ (z : Contents). z.shapes) e3 ∙ ap (λ (z : Contents). z.shapes) e2 ∙ ap (λ (z : Contents). z.shapes) e1 ∙ ap (λ (z : Contents). z.shapes) e0 in
+    ap (λ (z : Contents). z.shapes) e3 ∙ ap (λ (z : Contents). z.shapes) e2 ∙ ap (λ (z : Contents). z.shapes) e1 ∙ ap (λ (z : Contents). z.shapes) e0 in
     let u3 : s3.used ≡ replicate layout.blocks 0 =
-        ap (λ (z : Contents). z.used) e3 ∙ ap (λ (z : Contents). z.used) e2 ∙ ap (λ (z : Contents). z.used) e1 ∙ ap (λ (z : Contents). z.used) e0 in
+    ap (λ (z : Contents). z.used) e3 ∙ ap (λ (z : Contents). z.used) e2 ∙ ap (λ (z : Contents). z.used) e1 ∙ ap (λ (z : Contents). z.used) e0 in
     let least = subst (λ l. 256 ≤ l.nursery) l0 c0.layout.nursery_least in
     let w0 = c0.words ∙ ap words_end l0 in
     let w1 = c1.words ∙ ap words_end l1 in
@@ -144,8 +141,8 @@ one_written layout shapes shape s0 s1 s2 s3 a b g first plain c0 e0 ea eb eg e1 
     let len : word s3 513 ≡ 1 = st3.1 513 (λ e. absurd (omega arith)) ∙ ap (word s2) (sym eb) ∙ st2.0 in
     let refers : word s3 (globals_base layout) ≡ 4096 = ap (word s3) (sym eg) ∙ st3.0 in
     let zero : (y : ℕ) → old_base layout ≤ y → y < large_base layout → word s3 y ≡ 0 = λ y l m.
-        st3.1 y (λ e. absurd (omega arith)) ∙ st2.1 y (λ e. absurd (omega arith)) ∙ st1.1 y (λ e. absurd (omega arith))
-        ∙ ap (λ (z : Contents). word z y) e0 ∙ get_or-replicate (words_end layout) y 0 0 (omega arith) in
+    st3.1 y (λ e. absurd (omega arith)) ∙ st2.1 y (λ e. absurd (omega arith)) ∙ st1.1 y (λ e. absurd (omega arith))
+    ∙ ap (λ (z : Contents). word z y) e0 ∙ get_or-replicate (words_end layout) y 0 0 (omega arith) in
     let bare : (b : ℕ) → b < layout.blocks → used_in s3 b ≡ 0 = λ b l. ap (λ (used : List ℕ). get_or used b 0) u3 ∙ get_or-replicate layout.blocks b 0 0 l in
     subst (λ (z : ℕ). CanCopy s3 (z ∷ []) []) (ap globals_base l3 ∙ sym eg)
     (one_can_move s3 c3 shape (ap (λ (z : List Shape). slice_get z 0) h3 ∙ first) plain tag len (ap (λ l. word s3 (globals_base l)) l3 ∙ refers)

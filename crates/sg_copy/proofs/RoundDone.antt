@@ -1,30 +1,22 @@
 -- What a round of one worker leaves.
-use Rattle.std.proofs.Common.{◌≡◌, ◌≢◌, ℕ, zero, suc, ◌+◌, ◌-◌, ◌*◌, ◌/◌, ◌%◌, ◌<◌, ◌≤◌, ◌^◌, ◌⊎◌, Bool, true}
-use Rattle.std.proofs.Common.{false, List, [], ◌∷◌, ◌++◌, length, map, slice_index, inl, inr, refl, sym, ap, ◌∙◌, subst, arith}
+use Rattle.std.proofs.Common.{◌≡◌, ℕ, true}
+use Rattle.std.proofs.Common.{false, List, [], map, inl, inr, refl, ap, ◌∙◌, subst, arith}
 use Rattle.std.proofs.lemmas.Bool.{cases_Bool}
-use Rattle.std.specs.Int.{bit_at}
-use Rattle.sg_words.specs.Address.{byte_at, word_at}
-use Rattle.sg_words.specs.Lists.{In}
-use Rattle.sg_words.specs.Blocks.{slot_size}
-use Rattle.sg_words.specs.Objects.{size_of}
-use Rattle.sg_words.specs.Words.{Words}
+use Rattle.sg_words.specs.Address.{byte_at}
 use Rattle.sg_words.specs.declared.pieces.Move.{Move}
 use Rattle.sg_space.specs.Space.{Contents}
 use Rattle.sg_space.specs.Standing.{word, block_in, used_in}
-use Rattle.sg_round.specs.Area.{Area, place}
+use Rattle.sg_round.specs.Area.{place}
 use Rattle.sg_round.specs.Image.{IsImage}
 use Rattle.sg_round.specs.Items.{slots_of}
 use Rattle.sg_round.specs.Order.{IsInOrder}
-use Rattle.sg_round.specs.Worker.{Worker, starting}
+use Rattle.sg_round.specs.Worker.{Worker}
 use Rattle.sg_round.specs.Rules.{WorkEvent, moved_by, failed_by}
-use Rattle.sg_round.specs.Round.{Start}
 use Rattle.sg_round.specs.Laws.{IsDoneAlone}
-use Rattle.sg_round.specs.Laws as law
 use Rattle.sg_copy.specs.declared.gray.Gray.{Gray}
-use Rattle.sg_copy.specs.Grays.{item_of}
 use Rattle.sg_copy.specs.Copying.{area_of, items_of, CanCopy, IsStillBeside, HasCopiedTo, AreMarked, AreFilled, moved_by as told_by}
 use Rattle.sg_copy.specs.Plain.{words_with}
-use Rattle.sg_copy.specs.Rounds.{alone, start_of, AreItems}
+use Rattle.sg_copy.specs.Rounds.{start_of, AreItems}
 use Rattle.sg_copy.proofs.RoundStart.{first-slots, alone-list}
 
 module _ (s : Contents) (slots wholes : List ℕ) (items : List Gray) (can : CanCopy s slots wholes) (are : AreItems slots wholes items)

@@ -1,14 +1,13 @@
 -- The worker of a round of one is guided over the plain space.
-use Rattle.std.proofs.Common.{◌≡◌, ◌≢◌, ℕ, zero, suc, ◌+◌, ◌-◌, ◌*◌, ◌/◌, ◌%◌, ◌<◌, ◌≤◌, ◌^◌}
-use Rattle.std.proofs.Common.{◌⊎◌, List, [], ◌∷◌, ◌++◌, length, inl, inr, refl, sym, ap, ◌∙◌, subst, arith}
+use Rattle.std.proofs.Common.{◌≡◌, ℕ, ◌+◌, ◌-◌, ◌*◌, ◌%◌, ◌<◌, ◌≤◌}
+use Rattle.std.proofs.Common.{List, [], ◌∷◌, ◌++◌, length, inl, inr, refl, sym, ap, ◌∙◌, subst, arith}
 use Rattle.std.proofs.lemmas.Bool.{cases_eq}
-use Rattle.std.proofs.lemmas.List.{append-nil, append_assoc}
+use Rattle.std.proofs.lemmas.List.{append-nil}
 use Rattle.std.proofs.Math.Path.{fun_ext}
-use Rattle.sg_words.specs.Lists.{In}
 use Rattle.sg_words.specs.Words.{put, Words, Saw, after_step, replayed, IsLegal}
 use Rattle.sg_words.specs.Programs.{FollowsBy, SeesNext}
 use Rattle.sg_words.specs.Calls.{call_of}
-use Rattle.sg_words.specs.Sections.{words_end, IsLayout}
+use Rattle.sg_words.specs.Sections.{words_end}
 use Rattle.sg_words.specs.declared.layout.Layout.{Layout}
 use Rattle.sg_words.specs.declared.steps.Step.{Step}
 use Rattle.sg_words.proofs.Puts.{put-at, put-same, put-other}
@@ -17,7 +16,7 @@ use Rattle.sg_words.proofs.Blocks.{class_bounds, class_slots, slot_size-class, s
 use Rattle.sg_space.specs.Space.{Contents, IsContents}
 use Rattle.sg_round.specs.Area.{Area, HasCard, card_at}
 use Rattle.sg_round.specs.Items.{Item, SlotOf, WholeOf}
-use Rattle.sg_round.specs.Worker.{Object, Mid, Idle, Took, Worker, size_for}
+use Rattle.sg_round.specs.Worker.{Object, Worker, size_for}
 use Rattle.sg_round.specs.Rules.{Effect, Nothing, Ends, Moves, Fails, FailsEnding, IsNext, Comes}
 use Rattle.sg_round.specs.Rules.{Deed, WorkEvent, by_one, Follows, moved, failed, moved_by, failed_by}
 use Rattle.sg_round.specs.Rules.IsNext.{Of_hand, Of_list, Of_cell}
@@ -25,12 +24,12 @@ use Rattle.sg_round.specs.Rules.Comes.{opens, counts, sees_none, sees, looks_for
 use Rattle.sg_round.specs.Rules.Comes.{finds_swept, finds_other, takes, takes_not, finds_clear, finds_full, marks, marks_not, reads, writes, clears, heads}
 use Rattle.sg_round.specs.Rules.Comes.{forwards, loses, fails, fails_bare, fails_not, sends, dirties}
 use Rattle.sg_round.specs.Rules.Comes.{keeps, prepares, offers, offers_not, seeks, ends, finds, grabs, grabs_not}
-use Rattle.sg_round.specs.Sane.{IsWord, IsSaneItem, AreSaneItems, IsSaneAt, IsSane}
+use Rattle.sg_round.specs.Sane.{IsWord, IsSaneItem, IsSane}
 use Rattle.sg_round.specs.Round.{Start}
 use Rattle.sg_round.specs.Laws.{IsSoFar, Went, steps_of, TellsSoFar, BoundedLaw, GoesAlways}
 use Rattle.sg_copy.specs.Copying.{area_of, IsStillBeside}
 use Rattle.sg_copy.specs.Telling.{Seat, Teller, moves_with, fails_with, Tells, IsSaneTeller}
-use Rattle.sg_copy.specs.Plain.{words_with, LeadsOn, Allows, IsWordIn}
+use Rattle.sg_copy.specs.Plain.{Allows, IsWordIn}
 use Rattle.sg_copy.specs.Rounds.{resting, alone}
 
 -- worker 0 of one over an area of a space
@@ -223,7 +222,7 @@ module _ (tells : TellsSoFar) (bounded : BoundedLaw) (always : GoesAlways) (t : 
     worker = subst (IsSane t.area t.team t.most 0) (alone-first a.worker) ((always t v (alone a.worker) st.so).sane 0);
     few = subst (λ (l : List ℕ). length l + length a.fails ≤ t.area.high - t.area.low) (sym st.moves)
         (subst (λ (l : List ℕ). length (moved_by [] st.so.events) + length l ≤ t.area.high - t.area.low) (sym st.fails)
-            (bounded t v (alone a.worker) st.so).settled);
+        (bounded t v (alone a.worker) st.so).settled);
   }
 
   -- whatever a call for a next step sees, a step comes next

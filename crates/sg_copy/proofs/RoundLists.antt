@@ -1,5 +1,5 @@
 -- Lists of a round.
-use Rattle.std.proofs.Common.{◌≡◌, ℕ, ◌+◌, ◌-◌, ◌<◌, ◌≤◌, List, [], ◌∷◌, ◌++◌, length, map, take, drop, get_or, refl, sym, ap, ◌∙◌, arith}
+use Rattle.std.proofs.Common.{◌≡◌, ℕ, ◌-◌, ◌<◌, List, [], ◌∷◌, ◌++◌, length, map, take, drop, get_or, refl, ap, ◌∙◌, arith}
 use Rattle.std.proofs.lemmas.List.{length-map, length-take, get_or-drop, get_or-append_right, map-append}
 use Rattle.sg_words.specs.Address.{word_at}
 use Rattle.sg_round.specs.Items.{Item, SlotOf, WholeOf}

@@ -1,10 +1,9 @@
 -- Each turn of one worker alone leaves it less to do.
-use Rattle.std.proofs.Common.{◌≡◌, ◌≢◌, ℕ, zero, suc, ◌+◌, ◌-◌, ◌*◌, ◌<◌, ◌≤◌, ◌⊎◌, nat_lt, if◌then◌else◌, Bool}
-use Rattle.std.proofs.Common.{true, false, List, [], ◌∷◌, ◌++◌, length, inl, inr, refl, sym, ap, ◌∙◌, subst, arith}
+use Rattle.std.proofs.Common.{◌≡◌, ℕ, zero, suc, ◌+◌, ◌-◌, ◌*◌, ◌<◌, ◌≤◌, ◌⊎◌, nat_lt, Bool}
+use Rattle.std.proofs.Common.{List, [], ◌∷◌, length, inl, inr, refl, sym, ap, ◌∙◌, subst, arith}
 use Rattle.std.proofs.lemmas.Bool.{cases_eq, cases_lt, cases_Bool, cond-true, cond-false, lt-ltb, le-ltb}
 use Rattle.std.proofs.lemmas.List.{length-append}
 use Rattle.std.specs.Int.{bit_at}
-use Rattle.sg_words.specs.Address.{byte_at}
 use Rattle.sg_words.specs.Tags.{plain_word}
 use Rattle.sg_words.specs.Objects.{strong_slots}
 use Rattle.sg_words.specs.Words.{put, Words, Saw, after_step, replayed, IsLegal}
@@ -13,10 +12,10 @@ use Rattle.sg_words.specs.declared.steps.BlockWord.{BlockWord}
 use Rattle.sg_words.specs.declared.steps.BlockWord.TheVariants.{Free, Swept, Need, Sweeping}
 use Rattle.sg_words.specs.declared.steps.Step.{Step}
 use Rattle.sg_words.proofs.Puts.{put-same, put-other}
-use Rattle.sg_round.specs.Area.{Area, IsYoung, place, class_of}
-use Rattle.sg_round.specs.Items.{Item, SlotOf, WholeOf, cell_word, slots_by}
+use Rattle.sg_round.specs.Area.{Area, IsYoung}
+use Rattle.sg_round.specs.Items.{Item, SlotOf, WholeOf, cell_word}
 use Rattle.sg_round.specs.Worker.{Object, Stage, Look, Size, Room, Take, Slots, Mark, Body, Puts, Swap, Pin, Send, Dirty, Mid, Idle, Took, Count, On, Offer}
-use Rattle.sg_round.specs.Worker.{Seek, Grab, Over, Worker, size_for, idle, on, looking}
+use Rattle.sg_round.specs.Worker.{Seek, Grab, Over, Worker, size_for, looking}
 use Rattle.sg_round.specs.Rules.{Effect, Nothing, Ends, Moves, Fails, FailsEnding, IsNext, IsLooking, Comes}
 use Rattle.sg_round.specs.Rules.IsNext.{Of_hand, Of_list, Of_cell}
 use Rattle.sg_round.specs.Rules.Comes.{opens, counts, sees_none, sees, looks_forwarded, looks_fixed, looks_bare, looks_plain, has_spare, has_none, finds_free}
@@ -340,10 +339,11 @@ module _ (area : Area) (most k : ℕ) where
   -- steps within a turn
   eased-more : (es : List Step) (a b : Teller) (v : Words) → FollowsBy (TellsOn seat) a es b → IsLegal v es → IsAlone area v a.worker →
       IsAlone area (replayed v es) b.worker × (owed area (replayed v es) b.worker + 125 * found_by a ≤ owed area v a.worker + 125 * found_by b)
-  eased-more [] a b v f legal al =
-      (subst (λ (x : Teller). IsAlone area v x.worker) (sym f) al,
-          subst (λ (x : Teller). owed area v x.worker + 125 * found_by a ≤ owed area v a.worker + 125 * found_by x) (sym f)
-          (omega arith))
+  eased-more [] a b v f legal al = (
+    subst (λ (x : Teller). IsAlone area v x.worker) (sym f) al,
+    subst (λ (x : Teller). owed area v x.worker + 125 * found_by a ≤ owed area v a.worker + 125 * found_by x) (sym f)
+        (omega arith),
+  )
   eased-more (e ∷ es) a b v f legal al =
       let t = f.1.1 in
       let s = eased area v k a.worker e t.0 f.0.worker t.1 legal.0 al in

@@ -1,21 +1,21 @@
 -- A round of one worker over a plain space, in its midst.
-use Rattle.std.proofs.Common.{◌≡◌, ◌≢◌, ℕ, ◌+◌, ◌-◌, ◌*◌, ◌<◌, ◌≤◌, Bool, List, []}
-use Rattle.std.proofs.Common.{◌∷◌, ◌++◌, length, map, slice_index, replicate, refl, sym, ap, ◌∙◌, subst, arith}
-use Rattle.sg_words.specs.Words.{Words, Saw, replayed, IsLegal}
-use Rattle.sg_words.specs.Programs.{FollowsBy, Guides}
+use Rattle.std.proofs.Common.{◌≡◌, ℕ, ◌<◌, Bool, List, []}
+use Rattle.std.proofs.Common.{◌∷◌, length, refl, sym, ap, ◌∙◌, subst}
+use Rattle.sg_words.specs.Words.{Words, Saw}
+use Rattle.sg_words.specs.Programs.{FollowsBy}
 use Rattle.sg_words.specs.declared.steps.Step.{Step}
 use Rattle.sg_words.specs.declared.steps.Call.{Call}
-use Rattle.sg_space.specs.Space.{Contents, IsContents}
+use Rattle.sg_space.specs.Space.{IsContents}
 use Rattle.sg_round.specs.Area.{Area}
 use Rattle.sg_round.specs.Acting.{RestsAt}
-use Rattle.sg_round.specs.Round.{Start, IsRoundOpening}
-use Rattle.sg_round.specs.Laws.{OpensSoFar, TellsSoFar, BoundedLaw, GoesAlways}
+use Rattle.sg_round.specs.Round.{Start}
+use Rattle.sg_round.specs.Laws.{TellsSoFar, BoundedLaw, GoesAlways}
 use Rattle.sg_copy.specs.declared.gray.Gray.{Gray}
 use Rattle.sg_copy.specs.declared.plain.PlainRound.{PlainRound}
 use Rattle.sg_copy.specs.Copying.{area_of, IsStillBeside}
 use Rattle.sg_copy.specs.State.{Copying, teller_of, seat_of, worker_of, IsSameCopier}
-use Rattle.sg_copy.specs.Telling.{Seat, Teller, Tells, TellsOn, IsSaneTeller, IsOn, HasTurned}
-use Rattle.sg_copy.specs.Plain.{words_with, LeadsOn, Allows, still_none, still_then}
+use Rattle.sg_copy.specs.Telling.{Seat, Teller, Tells, TellsOn, IsOn, HasTurned}
+use Rattle.sg_copy.specs.Plain.{words_with, LeadsOn, Allows, still_then}
 use Rattle.sg_copy.specs.Rounds.{start_of}
 use Rattle.sg_copy.proofs.RoundGuided.{Stood, stood-later, stood-sane, stood-next, seat_in, may-call}
 use Rattle.sg_copy.proofs.RoundMeasure.{IsAlone, left, eased-turn}
@@ -57,7 +57,7 @@ module _ (tells : TellsSoFar) (bounded : BoundedLaw) (always : GoesAlways) (from
       is_sane = stood-sane tells bounded always start refl (words_with port.space.now port.cells) a st;
       allows = λ es q b s c led follows sane next.
           may-call from.space.now q.space.now q.cells is (still_then from.space.now port.space.now q.space.now still led.1.still)
-              (led.1.as_many ∙ as_many) (length items)
+          (led.1.as_many ∙ as_many) (length items)
           b.worker s next.0 c.worker next.1 sane.worker;
       goes = λ es q b s c t led follows sane next e saw.
           stood-next tells bounded always start refl (words_with q.space.now q.cells) b s c t
@@ -96,10 +96,10 @@ module _ (tells : TellsSoFar) (bounded : BoundedLaw) (always : GoesAlways) (from
           (left (area_of from.space.now) v' (teller_of d) < left (area_of from.space.now) v (teller_of c))
       eased = let st = turn.started in
           subst (λ (u : Words). IsAlone (area_of from.space.now) u (worker_of d) ×
-              (left (area_of from.space.now) u (teller_of d) < left (area_of from.space.now) v (teller_of c)))
+          (left (area_of from.space.now) u (teller_of d) < left (area_of from.space.now) v (teller_of c)))
           (sym st.led.1.words)
           (eased-turn (area_of from.space.now) (length items) 0 st.first st.more (teller_of c) st.then
-              (teller_of d) v mid.rests st.begins st.goes st.led.1.legal mid.knows
+          (teller_of d) v mid.rests st.begins st.goes st.led.1.legal mid.knows
           (stood-sane tells bounded always start refl v (teller_of c) mid.stood).few st.is_sane.few)
 
       pub goes-on : IsMidst from slots wholes items zone port' d

@@ -1,23 +1,17 @@
 -- A round of one worker over a plain space, from its begin to its end.
-use Rattle.std.proofs.Common.{◌≡◌, ◌≢◌, ℕ, ◌+◌, ◌-◌, ◌*◌, ◌<◌, ◌≤◌, Bool, List, []}
-use Rattle.std.proofs.Common.{◌∷◌, ◌++◌, length, map, slice_index, replicate, refl, sym, ap, ◌∙◌, subst, arith}
+use Rattle.std.proofs.Common.{◌≡◌, ℕ, List, []}
+use Rattle.std.proofs.Common.{length, map, refl, sym, ap, ◌∙◌, subst}
 use Rattle.std.proofs.Math.Path.{fun_ext}
-use Rattle.sg_words.specs.Address.{byte_at, word_at}
-use Rattle.sg_words.specs.Words.{Words}
-use Rattle.sg_words.specs.declared.pieces.Move.{Move}
-use Rattle.sg_space.specs.Space.{Contents}
-use Rattle.sg_round.specs.Area.{Area}
-use Rattle.sg_round.specs.Worker.{Mid, Over, Worker, starting}
+use Rattle.sg_words.specs.Address.{byte_at}
+use Rattle.sg_round.specs.Worker.{Over, Worker, starting}
 use Rattle.sg_round.specs.Rules.{moved_by, failed_by}
-use Rattle.sg_round.specs.Round.{Start}
 use Rattle.sg_round.specs.Laws.{OneWorkerLaw}
 use Rattle.sg_copy.specs.declared.gray.Gray.{Gray}
 use Rattle.sg_copy.specs.declared.copier.Stage.TheVariants.{Ended}
 use Rattle.sg_copy.specs.declared.plain.PlainRound.{PlainRound}
 use Rattle.sg_copy.specs.Grays.{item_of}
-use Rattle.sg_copy.specs.Copying.{area_of, HasCopiedTo, moved_by as told_by}
-use Rattle.sg_copy.specs.State.{Copying, teller_of, seat_of, worker_of, mid_of, fresh_copying}
-use Rattle.sg_copy.specs.Telling.{Seat, Teller}
+use Rattle.sg_copy.specs.Copying.{area_of, moved_by as told_by}
+use Rattle.sg_copy.specs.State.{Copying, teller_of, worker_of, mid_of, fresh_copying}
 use Rattle.sg_copy.specs.Plain.{words_with, still_none}
 use Rattle.sg_copy.specs.Rounds.{alone, no_cells, start_of, IsReady, HasRun}
 use Rattle.sg_copy.proofs.RoundGuided.{Stood, alone-first}
@@ -49,7 +43,7 @@ module _ (port : PlainRound) (slots wholes : List ℕ) where
         seat = refl;
         stood = subst (λ (cells : List ℕ). Stood t (words_with port.space.now cells) (teller_of fresh)) (sym empty)
             (subst (λ (w : Worker). Stood t (words_with port.space.now no_cells) (record { worker = w; moves = []; fails = [] }))
-                (fresh-worker ready.items) first);
+            (fresh-worker ready.items) first);
         still = still_none port.space.now;
         as_many = ap length empty;
         knows = subst (λ (cells : List ℕ). IsAlone (area_of port.space.now) (words_with port.space.now cells) (worker_of fresh)) (sym empty)
@@ -72,7 +66,7 @@ module _ (port : PlainRound) (slots wholes : List ℕ) where
       let over : (alone (worker_of d) 0).mid ≡ Over = ap (λ (a : Worker). a.mid) (alone-first (worker_of d)) ∙ ap mid_of ended in
       let done = law t v (alone (worker_of d)) so refl over in
       let args = has-copied port.space.now slots wholes ready.items ready.can ready.items_are port'.space.now port'.cells mid.still so.events
-          (alone (worker_of d)) done in
+      (alone (worker_of d)) done in
       record {
         moves = map (told_by done.done.m) (moved_by [] so.events);
         fails = map byte_at (failed_by [] so.events);

@@ -1,28 +1,25 @@
 -- A round of one worker opens where its space can be copied.
-use Rattle.std.proofs.Common.{◌≡◌, ◌≢◌, ℕ, zero, suc, ◌+◌, ◌-◌, ◌*◌, ◌<◌, ◌≤◌, ◌^◌, ◌⊎◌, Bool, List}
+use Rattle.std.proofs.Common.{◌≡◌, ◌≢◌, ℕ, zero, suc, ◌<◌, ◌≤◌, ◌⊎◌, List}
 use Rattle.std.proofs.Common.{[], ◌∷◌, ◌++◌, length, map, slice_index, replicate, inl, inr, refl, sym, ap, ◌∙◌, subst, arith}
-use Rattle.std.proofs.lemmas.Bool.{cases_eq}
 use Rattle.std.proofs.lemmas.List.{length-map}
 use Rattle.sg_words.specs.Lists.{In}
 use Rattle.sg_words.specs.Reach.{AreDistinct}
-use Rattle.sg_words.specs.Words.{Words}
 use Rattle.sg_words.specs.Sections.{IsLayout}
 use Rattle.sg_words.specs.declared.layout.Layout.{Layout}
-use Rattle.sg_words.proofs.Puts.{put-all, put-same, put-other}
+use Rattle.sg_words.proofs.Puts.{put-all, put-same}
 use Rattle.sg_words.proofs.Members.{in-here, in-there}
 use Rattle.sg_desc.specs.declared.shapes.Shape.{Shape}
 use Rattle.sg_space.specs.Space.{Contents}
 use Rattle.sg_space.specs.Standing.{word}
 use Rattle.sg_round.specs.Area.{Area, IsArea}
-use Rattle.sg_round.specs.Items.{Item, SlotOf, WholeOf, HasWhole, slots_by, slots_in, slots_of}
-use Rattle.sg_round.specs.Worker.{Mid, Idle, Over, Worker, starting}
+use Rattle.sg_round.specs.Items.{Item, SlotOf, WholeOf, HasWhole, slots_in, slots_of}
+use Rattle.sg_round.specs.Worker.{Idle, Over, Worker, starting}
 use Rattle.sg_round.specs.Order.{strong_of}
 use Rattle.sg_round.specs.Round.{Start, AreDealt, IsRoundOpening}
 use Rattle.sg_copy.specs.declared.gray.Gray.{Gray}
 use Rattle.sg_copy.specs.Grays.{item_of}
 use Rattle.sg_copy.specs.Copying.{area_by, area_of, items_of, CanCopy}
-use Rattle.sg_copy.specs.Plain.{words_with}
-use Rattle.sg_copy.specs.Rounds.{resting, alone, no_cells, start_of, AreItems}
+use Rattle.sg_copy.specs.Rounds.{resting, alone, start_of, AreItems}
 
 -- the slots of items
 wholes-slots : (area : Area) (w : ℕ → ℕ) (wholes : List ℕ) → slots_of area w (λ x. x) (map WholeOf wholes) ≡ strong_of area w wholes
@@ -52,8 +49,15 @@ cells-empty (suc n) (suc i) = cells-empty n i
 pub is-area : (layout : Layout) (shapes : List Shape) → IsLayout layout → IsArea (area_by layout shapes) 1
 is-area layout shapes h =
     let a = h.nursery_most in let b = h.blocks_most in let c = h.pages in
-    record { above = omega arith; nursery = omega arith; heap = omega arith; sections = omega arith; small = omega arith; some = omega arith;
-        most = omega arith }
+    record {
+      above = omega arith;
+      nursery = omega arith;
+      heap = omega arith;
+      sections = omega arith;
+      small = omega arith;
+      some = omega arith;
+      most = omega arith;
+    }
 
 module _ (s : Contents) (slots wholes : List ℕ) (items : List Gray) (can : CanCopy s slots wholes) (are : AreItems slots wholes items) where
   abbrev t : Start

@@ -1,5 +1,5 @@
 -- What steps make of a space with offer cells beside it, and which calls a port over both allows.
-use Rattle.std.proofs.Common.{◌≡◌, ℕ, ◌+◌, ◌<◌, ◌^◌, List, [], ◌∷◌, ◌++◌, length, slice_index, refl, sym, ap, ◌∙◌, subst}
+use Rattle.std.proofs.Common.{◌≡◌, ℕ, ◌<◌, ◌^◌, List, [], ◌∷◌, ◌++◌, length, slice_index, refl, sym, ap, ◌∙◌, subst}
 use Rattle.sg_words.specs.Sections.{IsInSection}
 use Rattle.sg_words.specs.declared.steps.Place.TheVariants.{Stop, Next, Word, Card, Head, Cell}
 use Rattle.sg_words.specs.declared.steps.BlockCall.{BlockCall}

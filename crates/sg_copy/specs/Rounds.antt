@@ -1,12 +1,12 @@
 -- A round of one worker over a plain space.
-use Rattle.std.specs.Prelude.{◌≡◌, ℕ, ◌+◌, ◌-◌, Bool, List, [], ◌++◌, length, map, replicate}
-use Rattle.sg_words.specs.Address.{IsAddress, byte_at, word_at}
+use Rattle.std.specs.Prelude.{◌≡◌, ℕ, ◌-◌, Bool, List, [], ◌++◌, length, map, replicate}
+use Rattle.sg_words.specs.Address.{IsAddress, word_at}
 use Rattle.sg_words.specs.Tags.{forward_word}
 use Rattle.sg_words.specs.Words.{put}
 use Rattle.sg_words.specs.declared.pieces.Move.{Move}
 use Rattle.sg_space.specs.Space.{Contents}
 use Rattle.sg_space.specs.Standing.{word}
-use Rattle.sg_round.specs.Items.{Item, SlotOf, WholeOf}
+use Rattle.sg_round.specs.Items.{SlotOf, WholeOf}
 use Rattle.sg_round.specs.Worker.{Over, Worker, starting}
 use Rattle.sg_round.specs.Round.{Start}
 use Rattle.sg_copy.specs.declared.gray.Gray.{Gray}

@@ -61,7 +61,12 @@ pub fn copy_one(
 }
 
 /// The items: the slots first, then the objects; with room for so many more.
-fn items_of(alloc: Global, slots: &[Addr], wholes: &[Addr], room: usize) -> Result<Vec<Gray>, AllocError>
+fn items_of(
+    alloc: Global,
+    slots: &[Addr],
+    wholes: &[Addr],
+    room: usize,
+) -> Result<Vec<Gray>, AllocError>
     requires { room ≤ 65536 }
     ensures items { IfOk result (λ items. AreItems (map word_at slots.now) (map word_at wholes.now) items.items) }
     ensures room { IfOk result (λ items. length items.items + room ≤ vec_capacity items) }

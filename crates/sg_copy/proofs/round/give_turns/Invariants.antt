@@ -1,4 +1,4 @@
-use Rattle.std.proofs.Common.{◌≡◌, ℕ, List}
+use Rattle.std.proofs.Common.{ℕ, List}
 use Rattle.sg_copy.specs.State.{seat_of, teller_of}
 use Rattle.sg_copy.specs.Plain.{words_with}
 use Rattle.sg_copy.specs.Rounds.{IsReady}

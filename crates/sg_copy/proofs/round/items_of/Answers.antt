@@ -1,6 +1,5 @@
-use Rattle.std.proofs.Common.{◌≡◌, ◌≤◌, ◌++◌, List, length, map, take, ap, ◌∙◌, arith}
+use Rattle.std.proofs.Common.{◌≤◌, ◌++◌, length, map, ap, ◌∙◌, arith}
 use Rattle.std.proofs.lemmas.List.{take_all}
-use Rattle.sg_copy.specs.declared.gray.Gray.{Gray}
 use Rattle.sg_copy.specs.declared.gray.Gray.TheVariants.{Slot, Whole}
 use Rattle.sg_copy.proofs.RoundLists.{are-items}
 use Rattle.sg_copy.proofs.round.items_of.Goals as goal

@@ -64,5 +64,5 @@ returns-in-None g c =
     let p = c.args.port.now in
     let took = c.in-None.ensures in
     let all = subst (λ (n : Copying). (a : Teller) → LooksAt a 0 (at (teller_of n) Idle) → On o (seat_of n) p a →
-        HasSetOut n o.leads a p c.seek.new.self c.seek.new.port) took.1 c.seek.ensures in
+    HasSetOut n o.leads a p c.seek.new.self c.seek.new.port) took.1 c.seek.ensures in
     all (at (teller_of m) Idle) (looks_first m took.0 c.requires.empty) c.requires.on

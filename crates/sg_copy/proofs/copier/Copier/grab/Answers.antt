@@ -33,7 +33,7 @@ go_through-requires-clause-on g c =
     let t = teller_of m in
     let item = item_of c.args.item in
     let won = swap_won (ports g) (seat_of m) c.place_in_team-number.result c.place_in_team-number.ensures t c.args.cell item c.args.port.now
-        c.requires.on c.to_word.result c.to_word.ensures c.swap_cell.new.self c.in-Ok.ensures.seen c.in-Ok.ensures.led in
+    c.requires.on c.to_word.result c.to_word.ensures c.swap_cell.new.self c.in-Ok.ensures.seen c.in-Ok.ensures.led in
     (at t (Took item), next_taken t item, won.0)
 
 pub seek-requires-clause-on : goal.seek-requires-clause-on
@@ -43,7 +43,7 @@ seek-requires-clause-on g c =
     let i = c.args.cell in
     let item = item_of c.args.item in
     let lost = swap_lost (ports g) (seat_of m) c.place_in_team-number.result c.place_in_team-number.ensures t i item c.args.port.now
-        c.requires.on c.to_word.result c.to_word.ensures c.in-Err.field-0 c.swap_cell.new.self c.in-Err.ensures.seen c.in-Err.ensures.led in
+    c.requires.on c.to_word.result c.to_word.ensures c.in-Err.field-0 c.swap_cell.new.self c.in-Err.ensures.seen c.in-Err.ensures.led in
     (at t (Seek i), looks_again (seat_of m).area m.team t i item c.requires.on.guided.is_sane.worker.at, lost.0)
 
 pub returns-in-Ok : goal.returns-in-Ok
@@ -56,9 +56,9 @@ returns-in-Ok g c =
     let q = c.swap_cell.new.self in
     let item = item_of c.args.item in
     let won = swap_won o (seat_of m) c.place_in_team-number.result c.place_in_team-number.ensures t i item p
-        c.requires.on c.to_word.result c.to_word.ensures q c.in-Ok.ensures.seen c.in-Ok.ensures.led in
+    c.requires.on c.to_word.result c.to_word.ensures q c.in-Ok.ensures.seen c.in-Ok.ensures.led in
     set_out_then o m c.go_through.new.self (at t (Grab i item)) (at t (Took item)) p q c.go_through.new.port (λ r. r) won.1
-        (c.go_through.ensures (at t (Took item)) (next_taken t item) won.0)
+    (c.go_through.ensures (at t (Took item)) (next_taken t item) won.0)
 
 pub returns-in-Err : goal.returns-in-Err
 returns-in-Err g c =
@@ -70,7 +70,7 @@ returns-in-Err g c =
     let q = c.swap_cell.new.self in
     let item = item_of c.args.item in
     let lost = swap_lost o (seat_of m) c.place_in_team-number.result c.place_in_team-number.ensures t i item p
-        c.requires.on c.to_word.result c.to_word.ensures c.in-Err.field-0 q c.in-Err.ensures.seen c.in-Err.ensures.led in
+    c.requires.on c.to_word.result c.to_word.ensures c.in-Err.field-0 q c.in-Err.ensures.seen c.in-Err.ensures.led in
     let looks = looks_again (seat_of m).area m.team t i item c.requires.on.guided.is_sane.worker.at in
     set_out_then o m c.seek.new.self (at t (Grab i item)) (at t (Seek i)) p q c.seek.new.port (λ r. r) lost.1
-        (c.seek.ensures (at t (Seek i)) looks lost.0)
+    (c.seek.ensures (at t (Seek i)) looks lost.0)

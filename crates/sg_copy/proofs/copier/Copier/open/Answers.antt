@@ -27,7 +27,7 @@ load-fields-requires-clause-may g c =
     let m = c.args.self.now in
     let first = c.load-first in
     count_may (ports g) (seat_of m) (teller_of m) c.args.whole c.requires.on.0 c.requires.on.1 c.args.port.now c.requires.on.2
-        first.result first.new.self first.ensures.seen first.ensures.led
+    first.result first.new.self first.ensures.seen first.ensures.led
 
 pub overflow_cast-fields : goal.overflow_cast-fields
 overflow_cast-fields g c =
@@ -35,7 +35,7 @@ overflow_cast-fields g c =
     let first = c.load-first in
     let fields = c.load-fields in
     let short = count_short (ports g) (seat_of m) (teller_of m) c.args.whole c.requires.on.0 c.requires.on.1 c.args.port.now c.requires.on.2
-        first.result first.new.self first.ensures.seen first.ensures.led fields.result fields.new.self fields.ensures.seen fields.ensures.led in
+    first.result first.new.self first.ensures.seen first.ensures.led fields.result fields.new.self fields.ensures.seen fields.ensures.led in
     omega (arith, short)
 
 pub returns : goal.returns
@@ -47,7 +47,7 @@ returns g c a isn on =
     let first = c.load-first in
     let fields = c.load-fields in
     let start = opened o (seat_of m) (teller_of m) c.args.whole a isn p on
-        first.result first.new.self first.ensures.seen first.ensures.led fields.result fields.new.self fields.ensures.seen fields.ensures.led in
+    first.result first.new.self first.ensures.seen first.ensures.led fields.result fields.new.self fields.ensures.seen fields.ensures.led in
     let taken = taken_is m d c.args.whole first.result fields.result c.take_in_hand.ensures (idle_is m c.requires.between) in
     record {
       started = started_to o (seat_of m) a _ (teller_of d) p fields.new.self taken start;

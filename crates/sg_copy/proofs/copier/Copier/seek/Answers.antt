@@ -64,10 +64,10 @@ returns-in-Some g c a is on =
     let grabbing = at (teller_of m) (Grab i (item_of item)) in
     let d = c.set_stage.new.self in
     let full = load_full o (seat_of m) c.place_in_team-number.result n (teller_of m) c.args.from a p is on
-        i c.loop-cell.port l (c.loop-cell.invariant.sought_so_far a is on)
-        c.cell-word.result q c.cell-word.ensures.seen c.cell-word.ensures.led (item_of item) c.in-Some.ensures.item in
+    i c.loop-cell.port l (c.loop-cell.invariant.sought_so_far a is on)
+    c.cell-word.result q c.cell-word.ensures.seen c.cell-word.ensures.led (item_of item) c.in-Some.ensures.item in
     let set : d ≡ record m { stage = Grabbing i item } =
-        c.set_stage.ensures ∙ ap (λ (k : Copying). record k { stage = Grabbing i item }) c.loop-cell.invariant.self_is in
+    c.set_stage.ensures ∙ ap (λ (k : Copying). record k { stage = Grabbing i item }) c.loop-cell.invariant.self_is in
     record {
       started = started_to o (seat_of m) a grabbing (teller_of d) p q (ap teller_of set) full;
       same = (same_stage m d (Grabbing i item) set).copier;
@@ -84,7 +84,7 @@ returns g c a is on =
     let there : c.args.from < 8 * m.team = from_there o (seat_of m) t c.args.from a is p on in
     let end : 8 * m.team ≤ i = omega (arith, c.loop-cell-test.false, ap (λ (k : ℕ × ℕ). k.1) c.place_in_team-number.ensures) in
     let set : d ≡ record m { stage = Ended } =
-        c.set_stage-2.ensures ∙ ap (λ (k : Copying). record k { stage = Ended }) c.loop-cell.invariant.self_is in
+    c.set_stage-2.ensures ∙ ap (λ (k : Copying). record k { stage = Ended }) c.loop-cell.invariant.self_is in
     let over : teller_of d ≡ at t (sought m.team i) = ap teller_of set ∙ ap (λ (mid : Mid). at t mid) (sym (sought_all m.team i end)) in
     record {
       started = elim (c.loop-cell.invariant.sought_so_far a is on) [

@@ -1,4 +1,4 @@
-use Rattle.std.proofs.Common.{◌≡◌, slice_index, refl, sym, ◌∙◌}
+use Rattle.std.proofs.Common.{refl}
 use Rattle.sg_copy.proofs.Changes.{leads_cell}
 use Rattle.sg_copy.proofs.plain.PlainRoundCopyPort.swap_cell.Goals as goal
 

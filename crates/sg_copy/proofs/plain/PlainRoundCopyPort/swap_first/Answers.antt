@@ -1,4 +1,4 @@
-use Rattle.std.proofs.Common.{◌≡◌, refl, sym, ◌∙◌, rules}
+use Rattle.std.proofs.Common.{◌≡◌, refl, rules}
 use Rattle.sg_words.specs.Address.{word_at}
 use Rattle.sg_space.specs.Standing.{word}
 use Rattle.sg_copy.proofs.Changes.{leads_won}
