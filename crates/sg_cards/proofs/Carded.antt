@@ -1,5 +1,6 @@
 -- A scan of a card, slot by slot or page by page.
-use Rattle.std.proofs.Common.{◌≡◌, ◌≢◌, ℕ, ◌+◌, ◌-◌, ◌*◌, ◌/◌, ◌%◌, ◌<◌, ◌≤◌, Option, Some, None, List, length, refl, sym, ap, ◌∙◌, subst, inl, inr, le_refl, min, arith}
+use Rattle.std.proofs.Common.{◌≡◌, ◌≢◌, ℕ, ◌+◌, ◌-◌, ◌*◌, ◌/◌, ◌%◌, ◌<◌, ◌≤◌, Option, Some, None, List, length, refl, sym, ap, ◌∙◌, subst, inl, inr, le_refl}
+use Rattle.std.proofs.Common.{min, arith}
 use Rattle.std.proofs.lemmas.Option.{none-some}
 use Rattle.std.proofs.lemmas.Bool.{cases_lt}
 use Rattle.std.proofs.lemmas.Nat.{mul-le}
@@ -59,12 +60,14 @@ module _ (law : PlacingLaw) (s : Contents) (c size mask : ℕ) (sound_is : IsSou
   }
 
   -- no word of a slot whose bit is clear is a seed, and none behind the object of one whose bit is set
-  at_slot : (owner : ℕ → Option ℕ) → IsSoundBy s owner → (i z : ℕ) → i < slots size → slot_base s.layout (c / 4) size i ≤ z → z < slot_base s.layout (c / 4) size i + size → (q : IsSeedAt s owner z) →
+  at_slot : (owner : ℕ → Option ℕ) → IsSoundBy s owner → (i z : ℕ) → i < slots size → slot_base s.layout (c / 4) size i ≤ z →
+      z < slot_base s.layout (c / 4) size i + size → (q : IsSeedAt s owner z) →
       (q.field.front ≡ slot_base s.layout (c / 4) size i) × (bit_at mask i ≡ 1)
   at_slot owner sound i z fits low high q =
       let e = is.block_is in
       let at = law.in_slot s owner sound is.block size i z q.field.front there is.sized fits
-      (subst (λ (b : ℕ). slot_base s.layout b size i ≤ z) (sym e) low) (subst (λ (b : ℕ). z < slot_base s.layout b size i + size) (sym e) high) (seed_owner s owner sound z q) in
+      (subst (λ (b : ℕ). slot_base s.layout b size i ≤ z) (sym e) low) (subst (λ (b : ℕ). z < slot_base s.layout b size i + size) (sym e) high)
+          (seed_owner s owner sound z q) in
       (at.0 ∙ ap (λ (b : ℕ). slot_base s.layout b size i) e, is.bits i ∙ at.1)
 
   next_slot : (i : ℕ) → slot_base s.layout (c / 4) size i + size ≡ slot_base s.layout (c / 4) size (i + 1)
@@ -75,7 +78,8 @@ module _ (law : PlacingLaw) (s : Contents) (c size mask : ℕ) (sound_is : IsSou
     none = λ owner sound z from low high q. clear (at_slot owner sound i z fits low (subst (λ (n : ℕ). z < n) (sym (next_slot i)) high) q).1;
   }
 
-  pub slot_tail : (i : ℕ) → i < slots size → AreNoSeeds s c (slot_base s.layout (c / 4) size i + size_at s (slot_base s.layout (c / 4) size i)) (slot_base s.layout (c / 4) size (i + 1))
+  pub slot_tail : (i : ℕ) → i < slots size → AreNoSeeds s c (slot_base s.layout (c / 4) size i + size_at s (slot_base s.layout (c / 4) size i))
+      (slot_base s.layout (c / 4) size (i + 1))
   slot_tail i fits = record {
     none = λ owner sound z from low high q.
         let front = (at_slot owner sound i z fits (omega arith) (subst (λ (n : ℕ). z < n) (sym (next_slot i)) high) q).0 in
@@ -85,7 +89,8 @@ module _ (law : PlacingLaw) (s : Contents) (c size mask : ℕ) (sound_is : IsSou
   }
 
   -- the object ends in its slot
-  pub slot_holds : (i : ℕ) → i < slots size → bit_at mask i ≡ 1 → slot_base s.layout (c / 4) size i + size_at s (slot_base s.layout (c / 4) size i) ≤ slot_base s.layout (c / 4) size (i + 1)
+  pub slot_holds : (i : ℕ) → i < slots size → bit_at mask i ≡ 1 → slot_base s.layout (c / 4) size i + size_at s
+      (slot_base s.layout (c / 4) size i) ≤ slot_base s.layout (c / 4) size (i + 1)
   slot_holds i fits set =
       let h = slot_base s.layout (c / 4) size i in
       let stands = (old_front i set).begins.begins sound_is.0 sound_is.1 in
@@ -99,23 +104,30 @@ module _ (law : PlacingLaw) (s : Contents) (c size mask : ℕ) (sound_is : IsSou
   pub slots_rest : (x : ℕ) → slot_base s.layout (c / 4) size (slots size) ≤ x → AreNoSeeds s c x (card_base s.layout (c + 1))
   slots_rest x from =
       let e = is.block_is in
-      none_free s c x (card_base s.layout (c + 1)) (λ owner sound z low high. law.in_rest s owner sound is.block size z there is.sized (omega arith) (omega arith))
+      none_free s c x (card_base s.layout (c + 1)) (λ owner sound z low high.
+          law.in_rest s owner sound is.block size z there is.sized (omega arith) (omega arith))
 
   -- one slot more
   module _ (found : List ℕ) (i : ℕ) (fits : i < slots size) where
-    pub over_clear : bit_at mask i ≢ 1 → IsScannedTo s c found (slot_base s.layout (c / 4) size i) → IsScannedTo s c found (slot_base s.layout (c / 4) size (i + 1))
-    over_clear clear h = scanned_skip s c found (slot_base s.layout (c / 4) size i) h (slot_base s.layout (c / 4) size (i + 1)) (omega arith) (slot_clear i fits clear)
+    pub over_clear : bit_at mask i ≢ 1 → IsScannedTo s c found (slot_base s.layout (c / 4) size i) →
+        IsScannedTo s c found (slot_base s.layout (c / 4) size (i + 1))
+    over_clear clear h = scanned_skip s c found (slot_base s.layout (c / 4) size i) h (slot_base s.layout (c / 4) size (i + 1)) (omega arith)
+        (slot_clear i fits clear)
 
     pub over_set : bit_at mask i ≡ 1 → IsScannedTo s c found (slot_base s.layout (c / 4) size i + size_at s (slot_base s.layout (c / 4) size i)) →
         IsScannedTo s c found (slot_base s.layout (c / 4) size (i + 1))
-    over_set set h = scanned_skip s c found (slot_base s.layout (c / 4) size i + size_at s (slot_base s.layout (c / 4) size i)) h (slot_base s.layout (c / 4) size (i + 1))
+    over_set set h = scanned_skip s c found (slot_base s.layout (c / 4) size i + size_at s (slot_base s.layout (c / 4) size i)) h
+        (slot_base s.layout (c / 4) size (i + 1))
         (slot_holds i fits set) (slot_tail i fits)
 
   -- from the first slot that has a word of the card, to the last one
-  pub first_slot : (found : List ℕ) → IsScannedTo s c found (card_base s.layout c) → IsScannedTo s c found (slot_base s.layout (c / 4) size (64 * (c % 4) / size))
-  first_slot found h = let low = mul-div-le (64 * (c % 4)) size in scanned_before s c found (slot_base s.layout (c / 4) size (64 * (c % 4) / size)) (omega arith) h
+  pub first_slot : (found : List ℕ) → IsScannedTo s c found (card_base s.layout c) →
+      IsScannedTo s c found (slot_base s.layout (c / 4) size (64 * (c % 4) / size))
+  first_slot found h = let low = mul-div-le (64 * (c % 4)) size in scanned_before s c found (slot_base s.layout (c / 4) size (64 * (c % 4) / size))
+      (omega arith) h
 
-  pub last_slot : (found : List ℕ) (end i : ℕ) → end ≡ min ((64 * (c % 4) + 63) / size + 1) (slots size) → end ≤ i → IsScannedTo s c found (slot_base s.layout (c / 4) size i) →
+  pub last_slot : (found : List ℕ) (end i : ℕ) → end ≡ min ((64 * (c % 4) + 63) / size + 1) (slots size) → end ≤ i →
+      IsScannedTo s c found (slot_base s.layout (c / 4) size i) →
       IsScannedTo s c found (card_base s.layout (c + 1))
   last_slot found end i e over h =
       let some = (class_bounds size class).0 in
@@ -140,7 +152,8 @@ numbered_state (Swept size) h = h size refl
 numbered_state (Need size) h = h size refl
 numbered_state (Sweeping size) h = h size refl
 
-module _ (layout : Layout) (shapes : List Shape) (count : ℕ) (f : ℕ → ℕ) (s : Contents) (are : AreSoundWords layout shapes count f s) (c : ℕ) (less : c < 4 * layout.blocks) where
+module _ (layout : Layout) (shapes : List Shape) (count : ℕ) (f : ℕ → ℕ) (s : Contents) (are : AreSoundWords layout shapes count f s) (c : ℕ)
+    (less : c < 4 * layout.blocks) where
   pub in_block : c < 4 * s.layout.blocks
   in_block = let e = ap (λ (l : Layout). l.blocks) are.words.layout_is in omega arith
 
@@ -148,36 +161,44 @@ module _ (layout : Layout) (shapes : List Shape) (count : ℕ) (f : ℕ → ℕ)
   in_block_four = let l = in_block in omega arith
 
   -- what is read of its word
-  pub block_read : (r : Option BlockWord) (v : ℕ) → v ≡ f (blocks_from layout + 3 * (c / 4)) → ((w : BlockWord) → IsBlockWord w → block_number w ≡ v → r ≡ Some w) → r ≡ Some (block_in s (c / 4))
+  pub block_read : (r : Option BlockWord) (v : ℕ) → v ≡ f (blocks_from layout + 3 * (c / 4)) →
+      ((w : BlockWord) → IsBlockWord w → block_number w ≡ v → r ≡ Some w) → r ≡ Some (block_in s (c / 4))
   block_read r v is only = only (block_in s (c / 4)) (numbered_state (block_in s (c / 4)) (are.sound.1.blocks (c / 4) in_block_four).sized)
-      (sym (is ∙ block_is layout shapes count f s are.words (c / 4) (blocks_from layout + 3 * (c / 4)) in_block_four (ap (λ (l : Layout). blocks_from l + 3 * (c / 4)) (sym are.words.layout_is))))
+      (sym (is ∙ block_is layout shapes count f s are.words (c / 4) (blocks_from layout + 3 * (c / 4)) in_block_four
+          (ap (λ (l : Layout). blocks_from l + 3 * (c / 4)) (sym are.words.layout_is))))
 
   pub swept_mask : (size mask : ℕ) → block_in s (c / 4) ≡ Swept size → mask ≡ f (blocks_from layout + 3 * (c / 4) + 1) → IsMaskOf s c size mask
   swept_mask size mask e is =
-      let used = is ∙ used_is layout shapes count f s are.words (c / 4) (blocks_from layout + 3 * (c / 4) + 1) in_block_four (ap (λ (l : Layout). blocks_from l + 3 * (c / 4) + 1) (sym are.words.layout_is)) in
+      let used = is ∙ used_is layout shapes count f s are.words (c / 4) (blocks_from layout + 3 * (c / 4) + 1) in_block_four
+          (ap (λ (l : Layout). blocks_from l + 3 * (c / 4) + 1) (sym are.words.layout_is)) in
       record {
         there = in_block;
         block = c / 4;
         block_is = refl;
         sized = subst (λ (state : BlockWord). IsOf state size) (sym e) refl;
-        bits = λ i. subst (λ (state : BlockWord). bit_at mask i ≡ is_taken state (used_in s (c / 4)) (marks_in s (c / 4)) i) (sym e) (ap (λ (m : ℕ). bit_at m i) used);
+        bits = λ i. subst (λ (state : BlockWord). bit_at mask i ≡ is_taken state (used_in s (c / 4)) (marks_in s (c / 4)) i) (sym e)
+            (ap (λ (m : ℕ). bit_at m i) used);
       }
 
   pub need_mask : (size mask : ℕ) → block_in s (c / 4) ≡ Need size → mask ≡ f (blocks_from layout + 3 * (c / 4) + 2) → IsMaskOf s c size mask
   need_mask size mask e is =
-      let marks = is ∙ marks_are layout shapes count f s are.words (c / 4) (blocks_from layout + 3 * (c / 4) + 2) in_block_four (ap (λ (l : Layout). blocks_from l + 3 * (c / 4) + 2) (sym are.words.layout_is)) in
+      let marks = is ∙ marks_are layout shapes count f s are.words (c / 4) (blocks_from layout + 3 * (c / 4) + 2) in_block_four
+          (ap (λ (l : Layout). blocks_from l + 3 * (c / 4) + 2) (sym are.words.layout_is)) in
       record {
         there = in_block;
         block = c / 4;
         block_is = refl;
         sized = subst (λ (state : BlockWord). IsOf state size) (sym e) refl;
-        bits = λ i. subst (λ (state : BlockWord). bit_at mask i ≡ is_taken state (used_in s (c / 4)) (marks_in s (c / 4)) i) (sym e) (ap (λ (m : ℕ). bit_at m i) marks);
+        bits = λ i. subst (λ (state : BlockWord). bit_at mask i ≡ is_taken state (used_in s (c / 4)) (marks_in s (c / 4)) i) (sym e)
+            (ap (λ (m : ℕ). bit_at m i) marks);
       }
 
   -- a card of a free block
-  pub free_card : (law : PlacingLaw) → block_in s (c / 4) ≡ Free → (found : List ℕ) → IsScannedTo s c found (card_base s.layout c) → IsScannedTo s c found (card_base s.layout (c + 1))
+  pub free_card : (law : PlacingLaw) → block_in s (c / 4) ≡ Free → (found : List ℕ) → IsScannedTo s c found (card_base s.layout c) →
+      IsScannedTo s c found (card_base s.layout (c + 1))
   free_card law e found h = scanned_skip s c found (card_base s.layout c) h (card_base s.layout (c + 1)) (omega arith)
-      (none_free s c (card_base s.layout c) (card_base s.layout (c + 1)) (λ owner sound z low high. law.in_free s owner sound (c / 4) z in_block_four e (omega arith) (omega arith)))
+      (none_free s c (card_base s.layout c) (card_base s.layout (c + 1))
+          (λ owner sound z low high. law.in_free s owner sound (c / 4) z in_block_four e (omega arith) (omega arith)))
 
   pub none_sweeping : (size : ℕ) → block_in s (c / 4) ≢ Sweeping size
   none_sweeping size = (are.sound.1.blocks (c / 4) in_block_four).settled size
@@ -225,7 +246,8 @@ module _ (law : PlacingLaw) (layout : Layout) (shapes : List Shape) (count : ℕ
         let e = ap (λ (l : Layout). l.blocks) are.words.layout_is in
         omega arith
 
-    pub rest_page : v ≢ 0 → (found : List ℕ) → IsScannedTo s c found (page_base s.layout (v - 1) + size_at s (page_base s.layout (v - 1))) → IsScannedTo s c found (card_base s.layout (c + 1))
+    pub rest_page : v ≢ 0 → (found : List ℕ) → IsScannedTo s c found (page_base s.layout (v - 1) + size_at s (page_base s.layout (v - 1))) →
+        IsScannedTo s c found (card_base s.layout (c + 1))
     rest_page some found h =
         let x = page_base s.layout (v - 1) + size_at s (page_base s.layout (v - 1)) in
         elim (cases_lt (card_base s.layout (c + 1)) x) [

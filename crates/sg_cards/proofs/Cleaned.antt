@@ -1,5 +1,6 @@
 -- A space whose cards alone differ, and the cards that a cleaning has come to.
-use Rattle.std.proofs.Common.{◌≡◌, ◌≢◌, ℕ, ◌+◌, ◌-◌, ◌*◌, ◌/◌, ◌%◌, ◌<◌, ◌≤◌, ◌↔◌, ◌⊎◌, inl, inr, List, length, Option, Some, refl, sym, ap, ◌∙◌, subst, le_refl, arith, slice_index}
+use Rattle.std.proofs.Common.{◌≡◌, ◌≢◌, ℕ, ◌+◌, ◌-◌, ◌*◌, ◌/◌, ◌%◌, ◌<◌, ◌≤◌, ◌↔◌, ◌⊎◌, inl, inr, List, length, Option, Some, refl, sym, ap, ◌∙◌, subst}
+use Rattle.std.proofs.Common.{le_refl, arith, slice_index}
 use Rattle.std.proofs.lemmas.Bool.{cases_eq, cases_lt}
 use Rattle.sg_words.specs.Address.{byte_at}
 use Rattle.sg_words.specs.Blocks.{card_of}
@@ -137,7 +138,8 @@ cleaned_all s t c h clean owner sound j = elim (cases_lt j c) [
 ]
 
 -- so where each seed had a dirty card, exactly the cards without one are clean
-pub exactly_clean : (s t : Contents) (owner : ℕ → Option ℕ) (j : ℕ) → slice_index t.cards j ≤ 1 → ((slice_index t.cards j ≡ 1) ↔ ((slice_index s.cards j ≡ 1) × HasSeed s owner j)) →
+pub exactly_clean : (s t : Contents) (owner : ℕ → Option ℕ) (j : ℕ) → slice_index t.cards j ≤ 1 →
+    ((slice_index t.cards j ≡ 1) ↔ ((slice_index s.cards j ≡ 1) × HasSeed s owner j)) →
     (HasSeed s owner j → slice_index s.cards j ≡ 1) → (slice_index t.cards j ≡ 0) ↔ (HasSeed s owner j → ⊥)
 exactly_clean s t owner j bit is carded = (
   λ e k. let d = is.1 (carded k, k) in absurd (omega arith),

@@ -1,5 +1,6 @@
 -- How far a card was looked at.
-use Rattle.std.proofs.Common.{◌≡◌, ◌≢◌, ℕ, ◌+◌, ◌-◌, ◌<◌, ◌≤◌, Option, List, length, refl, sym, ap, ◌∙◌, subst, inl, inr, slice_index, slice_set, arith, get_or-set_same, get_or-set_other}
+use Rattle.std.proofs.Common.{◌≡◌, ◌≢◌, ℕ, ◌+◌, ◌-◌, ◌<◌, ◌≤◌, Option, List, length, refl, sym, ap, ◌∙◌, subst, inl, inr, slice_index, slice_set, arith}
+use Rattle.std.proofs.Common.{get_or-set_same, get_or-set_other}
 use Rattle.std.proofs.lemmas.Bool.{cases_lt, cases_eq}
 use Rattle.sg_space.specs.Space.{Contents}
 use Rattle.sg_space.specs.Standing.{word, IsSoundBy}
@@ -44,9 +45,11 @@ module _ (s : Contents) (c : ℕ) (found : List ℕ) where
         below = λ owner sound j l m. elim (cases_eq j (x - card_base s.layout c)) [
           | inl e ↦
               let at : card_base s.layout c + j ≡ x = omega arith in
-              let here : slice_index (slice_set found (x - card_base s.layout c) v) j ≡ v = ap (slice_index (slice_set found (x - card_base s.layout c) v)) e ∙ get_or-set_same found (x - card_base s.layout c) v 0 (omega arith) in
+              let here : slice_index (slice_set found (x - card_base s.layout c) v) j ≡ v = ap (slice_index (slice_set found (x - card_base s.layout c) v)) e ∙
+                  get_or-set_same found (x - card_base s.layout c) v 0 (omega arith) in
               record { held = λ q. here ∙ is ∙ ap (word s) (sym at); only = λ n. subst (λ (z : ℕ). IsSeedAt s owner z) (sym at) (seed owner sound) }
-          | inr n ↦ subst (λ (u : ℕ). IsFoundAt s owner (card_base s.layout c + j) u) (sym (get_or-set_other found (x - card_base s.layout c) j v 0 n)) (h.below owner sound j l (omega arith))
+          | inr n ↦ subst (λ (u : ℕ). IsFoundAt s owner (card_base s.layout c + j) u) (sym (get_or-set_other found (x - card_base s.layout c) j v 0 n))
+              (h.below owner sound j l (omega arith))
         ];
         above = λ j l m. get_or-set_other found (x - card_base s.layout c) j v 0 (λ e. absurd (omega arith)) ∙ h.above j l (omega arith);
       }

@@ -1,5 +1,6 @@
 -- How the list of seeds grows, word by word.
-use Rattle.std.proofs.Common.{◌≡◌, ◌≢◌, ℕ, zero, suc, ◌+◌, ◌-◌, ◌*◌, ◌/◌, ◌^◌, ◌<◌, ◌≤◌, ◌⊎◌, inl, inr, List, [], ◌∷◌, ◌++◌, map, length, Option, Some, refl, sym, ap, ◌∙◌, subst, arith, slice_get, slice_index}
+use Rattle.std.proofs.Common.{◌≡◌, ◌≢◌, ℕ, zero, suc, ◌+◌, ◌-◌, ◌*◌, ◌/◌, ◌^◌, ◌<◌, ◌≤◌, ◌⊎◌, inl, inr, List, [], ◌∷◌, ◌++◌, map, length, Option, Some, refl}
+use Rattle.std.proofs.Common.{sym, ap, ◌∙◌, subst, arith, slice_get, slice_index}
 use Rattle.std.specs.List.Sorted.{IsStrictlyIncreasing}
 use Rattle.std.proofs.lemmas.Bool.{cases_eq, cases_lt}
 use Rattle.std.proofs.lemmas.Grind.{common_steps}
@@ -71,7 +72,8 @@ module _ (s : Contents) (seeds : List Seed) (x : ℕ) (h : AreSeedsTo s seeds x)
   }
 
   -- over a seed
-  pub seeds_push : (seed : Seed) → seed.slot ≡ byte_at x → seed.target ≡ word s x → ((owner : ℕ → Option ℕ) → IsSoundBy s owner → IsSeedAt s owner x) → AreSeedsTo s (seeds ++ seed ∷ []) (x + 1)
+  pub seeds_push : (seed : Seed) → seed.slot ≡ byte_at x → seed.target ≡ word s x → ((owner : ℕ → Option ℕ) → IsSoundBy s owner → IsSeedAt s owner x) →
+      AreSeedsTo s (seeds ++ seed ∷ []) (x + 1)
   seeds_push seed slot target is = record {
     has = λ owner sound.
         let b = h.has owner sound in
@@ -128,7 +130,8 @@ found_young s owner x v found some =
     (omega arith, omega arith)
 
 -- all seeds are among those below the last page's end
-pub seeds_all : (s : Contents) (owner : ℕ → Option ℕ) (seeds : List Seed) (x : ℕ) → AreSeedsBelow s owner seeds x → ((z : ℕ) → IsSeedAt s owner z → z < x) → AreSeeds s owner seeds
+pub seeds_all : (s : Contents) (owner : ℕ → Option ℕ) (seeds : List Seed) (x : ℕ) → AreSeedsBelow s owner seeds x → ((z : ℕ) → IsSeedAt s owner z → z < x) →
+    AreSeeds s owner seeds
 seeds_all s owner seeds x b below = record {
   in_order = b.in_order;
   each = λ k seed e. let q = b.each k seed e in (q.0, q.2, q.3, q.4);
@@ -136,14 +139,16 @@ seeds_all s owner seeds x b below = record {
 }
 
 -- the same by the words f of the space
-module _ (layout : Layout) (shapes : List Shape) (count : ℕ) (f : ℕ → ℕ) (s : Contents) (are : AreSoundWords layout shapes count f s) (carded : AreCarded s) (seeds : List Seed) (c : ℕ) where
+module _ (layout : Layout) (shapes : List Shape) (count : ℕ) (f : ℕ → ℕ) (s : Contents) (are : AreSoundWords layout shapes count f s) (carded : AreCarded s)
+    (seeds : List Seed) (c : ℕ) where
   pub seeds_over : c < cards_in layout → f (cards_from layout + c) ≡ 0 → AreSeedsTo s seeds (card_base layout c) → AreSeedsTo s seeds (card_base layout (c + 1))
   seeds_over there clean h =
       let cards = ap (λ (l : Layout). cards_in l) are.words.layout_is in
       let word = card_is layout shapes count f s are.words c (omega arith) in
       let numbers = ap (λ (l : Layout). f (cards_from l + c)) are.words.layout_is in
       subst (λ (l : Layout). AreSeedsTo s seeds (card_base l (c + 1))) are.words.layout_is
-      (seeds_clean s seeds (card_base s.layout c) (subst (λ (l : Layout). AreSeedsTo s seeds (card_base l c)) (sym are.words.layout_is) h) carded c refl (sym word ∙ numbers ∙ clean))
+      (seeds_clean s seeds (card_base s.layout c) (subst (λ (l : Layout). AreSeedsTo s seeds (card_base l c)) (sym are.words.layout_is) h) carded c refl
+          (sym word ∙ numbers ∙ clean))
 
 -- four words are 0 where nothing is set in any
 or_zero : (a b : ℕ) → bit_or a b ≡ 0 → (a ≡ 0) × (b ≡ 0)

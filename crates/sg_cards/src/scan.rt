@@ -29,7 +29,8 @@ pub(crate) fn young_in<W: Words, L: Ledger>(
 ) -> [u64; CARD_WORDS]
     requires sound { (s : Contents) × AreSoundWords layout.now shapes.now (W.count words.now) (W.word_of words.now) s }
     requires card { card < cards_in layout.now }
-    ensures { (s : Contents) → AreSoundWords layout.now shapes.now (W.count words.now) (W.word_of words.now) s → IsScannedTo s card result (card_base layout.now (card + 1)) }
+    ensures { (s : Contents) → AreSoundWords layout.now shapes.now (W.count words.now) (W.word_of words.now) s →
+        IsScannedTo s card result (card_base layout.now (card + 1)) }
 {
     let mut found = [0; CARD_WORDS];
     if card < 4 * layout.blocks {
@@ -52,7 +53,8 @@ fn scan_block<W: Words, L: Ledger>(
     requires sound { (s : Contents) × AreSoundWords layout.now shapes.now (W.count words.now) (W.word_of words.now) s }
     requires card { card < 4 * layout.now.blocks }
     requires room { length found.old ≡ 64 }
-    ensures { (s : Contents) → AreSoundWords layout.now shapes.now (W.count words.now) (W.word_of words.now) s → IsScannedTo s card found.old (card_base layout.now card) → IsScannedTo s card found.new (card_base layout.now (card + 1)) }
+    ensures { (s : Contents) → AreSoundWords layout.now shapes.now (W.count words.now) (W.word_of words.now) s →
+        IsScannedTo s card found.old (card_base layout.now card) → IsScannedTo s card found.new (card_base layout.now (card + 1)) }
 {
     // The law that it rests on: it does nothing.
     placing_law();
@@ -85,7 +87,8 @@ fn scan_slots<W: Words, L: Ledger>(
 )
     requires sound { (s : Contents) × AreSoundWords layout.now shapes.now (W.count words.now) (W.word_of words.now) s × IsMaskOf s card size mask }
     requires room { length found.old ≡ 64 }
-    ensures { (s : Contents) → AreSoundWords layout.now shapes.now (W.count words.now) (W.word_of words.now) s → IsMaskOf s card size mask → IsScannedTo s card found.old (card_base layout.now card) →
+    ensures { (s : Contents) → AreSoundWords layout.now shapes.now (W.count words.now) (W.word_of words.now) s → IsMaskOf s card size mask →
+        IsScannedTo s card found.old (card_base layout.now card) →
         IsScannedTo s card found.new (card_base layout.now (card + 1)) }
 {
     // The law that it rests on: it does nothing.
@@ -123,7 +126,8 @@ fn scan_page<W: Words, L: Ledger>(
     requires from { 4 * layout.now.blocks ≤ card }
     requires to { card < cards_in layout.now }
     requires room { length found.old ≡ 64 }
-    ensures { (s : Contents) → AreSoundWords layout.now shapes.now (W.count words.now) (W.word_of words.now) s → IsScannedTo s card found.old (card_base layout.now card) → IsScannedTo s card found.new (card_base layout.now (card + 1)) }
+    ensures { (s : Contents) → AreSoundWords layout.now shapes.now (W.count words.now) (W.word_of words.now) s →
+        IsScannedTo s card found.old (card_base layout.now card) → IsScannedTo s card found.new (card_base layout.now (card + 1)) }
 {
     // The law that it rests on: it does nothing.
     placing_law();
@@ -157,7 +161,8 @@ fn scan_object<W: Words, L: Ledger>(
     requires sound { (s : Contents) × AreSoundWords layout.now shapes.now (W.count words.now) (W.word_of words.now) s × IsOldFront s front }
     requires start { start < 2 ^ 37 }
     requires room { length found.old ≡ 64 }
-    ensures scanned { (s : Contents) (c : ℕ) → AreSoundWords layout.now shapes.now (W.count words.now) (W.word_of words.now) s → IsOldFront s front → start ≡ card_base layout.now c → IsScannedTo s c found.old front →
+    ensures scanned { (s : Contents) (c : ℕ) → AreSoundWords layout.now shapes.now (W.count words.now) (W.word_of words.now) s → IsOldFront s front →
+        start ≡ card_base layout.now c → IsScannedTo s c found.old front →
         IsScannedTo s c found.new (front + size_at s front) }
     ensures same { length found.new ≡ length found.old }
 {

@@ -26,7 +26,8 @@ pub fn seeds<W: Words, L: Ledger>(
     steps: &mut Steps<L>,
 ) -> Result<Seeds, AllocError>
     requires { (s : Contents) × AreSoundWords layout.now shapes.now (W.count words.now) (W.word_of words.now) s × AreCarded s }
-    ensures exact { IfOk result (λ seeds. (s : Contents) (owner : ℕ → Option ℕ) → AreSoundWords layout.now shapes.now (W.count words.now) (W.word_of words.now) s → AreCarded s → IsSoundBy s owner → AreSeeds s owner seeds) }
+    ensures exact { IfOk result (λ seeds. (s : Contents) (owner : ℕ → Option ℕ) →
+        AreSoundWords layout.now shapes.now (W.count words.now) (W.word_of words.now) s → AreCarded s → IsSoundBy s owner → AreSeeds s owner seeds) }
     ensures clean { IfOk result (λ _. ((c : ℕ) → c < cards_in layout.now → W.word_of words.now (cards_from layout.now + c) ≡ 0) →
         steps.new ≡ steps.old + cards_in layout.now) }
 {
@@ -55,7 +56,8 @@ fn add_block<W: Words, L: Ledger>(
     requires there { block < layout.now.blocks }
     ensures clean { IfOk result (λ _. ((c : ℕ) → c < cards_in layout.now → W.word_of words.now (cards_from layout.now + c) ≡ 0) →
         steps.new ≡ steps.old + 4) }
-    ensures seeds { IfOk result (λ _. (s : Contents) → AreSoundWords layout.now shapes.now (W.count words.now) (W.word_of words.now) s → AreCarded s → AreSeedsTo s items.old.items (card_base layout.now (4 * block)) →
+    ensures seeds { IfOk result (λ _. (s : Contents) → AreSoundWords layout.now shapes.now (W.count words.now) (W.word_of words.now) s → AreCarded s →
+        AreSeedsTo s items.old.items (card_base layout.now (4 * block)) →
         AreSeedsTo s items.new.items (card_base layout.now (4 * (block + 1)))) }
 {
     let card = 4 * block;
@@ -117,7 +119,8 @@ fn add_dirty<W: Words, L: Ledger>(
     requires card { card < cards_in layout.now }
     requires word { word ≡ W.word_of words.now (cards_from layout.now + card) }
     ensures clean { word ≡ 0 → steps.new ≡ steps.old }
-    ensures seeds { IfOk result (λ _. (s : Contents) → AreSoundWords layout.now shapes.now (W.count words.now) (W.word_of words.now) s → AreCarded s → AreSeedsTo s items.old.items (card_base layout.now card) →
+    ensures seeds { IfOk result (λ _. (s : Contents) → AreSoundWords layout.now shapes.now (W.count words.now) (W.word_of words.now) s → AreCarded s →
+        AreSeedsTo s items.old.items (card_base layout.now card) →
         AreSeedsTo s items.new.items (card_base layout.now (card + 1))) }
 {
     if word != 0 {
@@ -137,7 +140,8 @@ fn add_card<W: Words, L: Ledger>(
 ) -> Result<(), AllocError>
     requires sound { (s : Contents) × AreSoundWords layout.now shapes.now (W.count words.now) (W.word_of words.now) s }
     requires card { card < cards_in layout.now }
-    ensures { IfOk result (λ _. (s : Contents) → AreSoundWords layout.now shapes.now (W.count words.now) (W.word_of words.now) s → AreSeedsTo s items.old.items (card_base layout.now card) →
+    ensures { IfOk result (λ _. (s : Contents) → AreSoundWords layout.now shapes.now (W.count words.now) (W.word_of words.now) s →
+        AreSeedsTo s items.old.items (card_base layout.now card) →
         AreSeedsTo s items.new.items (card_base layout.now (card + 1))) }
 {
     let found = young_in(words, layout, shapes, card, steps);

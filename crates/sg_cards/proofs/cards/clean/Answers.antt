@@ -11,7 +11,8 @@ returns-clause-sound c = λ owner sound.
 
 pub returns-clause-dirty : goal.returns-clause-dirty
 returns-clause-dirty c = λ owner sound card there.
-    subst (λ (s : Contents). (slice_index s.cards card ≡ 1) ↔ ((slice_index c.args.space.now.cards card ≡ 1) × HasSeed c.args.space.now owner card)) (sym c.narrow_dirty.ensures)
+    subst (λ (s : Contents). (slice_index s.cards card ≡ 1) ↔ ((slice_index c.args.space.now.cards card ≡ 1) × HasSeed c.args.space.now owner card))
+        (sym c.narrow_dirty.ensures)
     (c.clean_range.ensures.dirty owner sound card there)
 
 pub returns-clause-clean : goal.returns-clause-clean

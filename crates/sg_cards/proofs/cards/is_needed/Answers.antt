@@ -9,7 +9,8 @@ use Rattle.sg_cards.proofs.cards.is_needed.Goals.{After-shapes}
 use Rattle.sg_cards.proofs.cards.is_needed.Goals as goal
 
 -- a space's words are its own
-sound_words : (g : Over) (c : After-shapes g) → AreSoundWords c.layout-layout.result c.shapes.result.now (numbers_end c.args.space.now.layout) (numbered c.args.space.now) c.args.space.now
+sound_words : (g : Over) (c : After-shapes g) → AreSoundWords c.layout-layout.result c.shapes.result.now (numbers_end c.args.space.now.layout)
+    (numbered c.args.space.now) c.args.space.now
 sound_words g c = record {
   words = record {
     layout_is = sym c.layout-layout.ensures.layout;

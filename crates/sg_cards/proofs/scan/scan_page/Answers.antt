@@ -11,18 +11,21 @@ use Rattle.sg_cards.proofs.scan.scan_page.Goals.{After-word-first}
 use Rattle.sg_cards.proofs.scan.scan_page.Goals as goal
 
 -- the word that was read is that of the card's page
-read : (g : Over) (c : goal.After-word-first g) (s : Contents) → AreSoundWords c.args.layout.now c.args.shapes.now (g.W.Words.count c.args.words.now) (g.W.Words.word_of c.args.words.now) s →
+read : (g : Over) (c : goal.After-word-first g) (s : Contents) → AreSoundWords c.args.layout.now c.args.shapes.now (g.W.Words.count c.args.words.now)
+    (g.W.Words.word_of c.args.words.now) s →
     c.word-first.result ≡ page_in s ((c.args.card - 4 * c.args.layout.now.blocks) / 2)
 read g c s are =
     let at = ap (λ (n : ℕ). g.W.Words.word_of c.args.words.now (n + (c.args.card - 4 * c.args.layout.now.blocks) / 2)) c.pages_number.ensures in
-    page_word c.placing_law.ensures c.args.layout.now c.args.shapes.now (g.W.Words.count c.args.words.now) (g.W.Words.word_of c.args.words.now) s are c.args.card c.requires.from c.requires.to
+    page_word c.placing_law.ensures c.args.layout.now c.args.shapes.now (g.W.Words.count c.args.words.now)
+        (g.W.Words.word_of c.args.words.now) s are c.args.card c.requires.from c.requires.to
     c.word-first.result (c.word-first.ensures.value ∙ at)
 
 pub overflow_mul-first : goal.overflow_mul-first
 overflow_mul-first g c =
     let s = c.requires.sound.0 in
     let are = c.requires.sound.1 in
-    let low = page_low c.placing_law.ensures c.args.layout.now c.args.shapes.now (g.W.Words.count c.args.words.now) (g.W.Words.word_of c.args.words.now) s are c.args.card c.requires.from c.requires.to
+    let low = page_low c.placing_law.ensures c.args.layout.now c.args.shapes.now (g.W.Words.count c.args.words.now)
+        (g.W.Words.word_of c.args.words.now) s are c.args.card c.requires.from c.requires.to
     c.word-first.result (read g (goal.at.overflow_mul-first g c).After-word-first s are) c.if-first-ne0.true in
     let pages = are.words.contents.layout.pages in
     let blocks = are.words.contents.layout.blocks_most in
@@ -36,7 +39,8 @@ pub overflow_add-base : goal.overflow_add-base
 overflow_add-base g c =
     let s = c.requires.sound.0 in
     let are = c.requires.sound.1 in
-    let low = page_low c.placing_law.ensures c.args.layout.now c.args.shapes.now (g.W.Words.count c.args.words.now) (g.W.Words.word_of c.args.words.now) s are c.args.card c.requires.from c.requires.to
+    let low = page_low c.placing_law.ensures c.args.layout.now c.args.shapes.now (g.W.Words.count c.args.words.now)
+        (g.W.Words.word_of c.args.words.now) s are c.args.card c.requires.from c.requires.to
     c.word-first.result (read g (goal.at.overflow_add-base g c).After-word-first s are) c.if-first-ne0.true in
     let pages = are.words.contents.layout.pages in
     let blocks = are.words.contents.layout.blocks_most in
@@ -55,15 +59,18 @@ scan_object-requires-clause-sound g c =
     let front = ap (λ (n : ℕ). n + 128 * (c.word-first.result - 1)) (c.large_word-base.ensures ∙ ap large_base (sym are.words.layout_is)) in (
       s,
       are,
-      subst (IsOldFront s) (sym front) (page_named c.placing_law.ensures c.args.layout.now c.args.shapes.now (g.W.Words.count c.args.words.now) (g.W.Words.word_of c.args.words.now) s are
-          c.args.card c.requires.from c.requires.to c.word-first.result (read g (goal.at.scan_object-requires-clause-sound g c).After-word-first s are) c.if-first-ne0.true),
+      subst (IsOldFront s) (sym front) (page_named c.placing_law.ensures c.args.layout.now c.args.shapes.now (g.W.Words.count c.args.words.now)
+          (g.W.Words.word_of c.args.words.now) s are
+          c.args.card c.requires.from c.requires.to c.word-first.result
+              (read g (goal.at.scan_object-requires-clause-sound g c).After-word-first s are) c.if-first-ne0.true),
     )
 
 pub returns-then-first-ne0 : goal.returns-then-first-ne0
 returns-then-first-ne0 g c = λ s are h.
     let is = read g (goal.at.returns-then-first-ne0 g c).After-word-first s are in
     let front = ap (λ (n : ℕ). n + 128 * (c.word-first.result - 1)) (c.large_word-base.ensures ∙ ap large_base (sym are.words.layout_is)) in
-    let named = page_named c.placing_law.ensures c.args.layout.now c.args.shapes.now (g.W.Words.count c.args.words.now) (g.W.Words.word_of c.args.words.now) s are
+    let named = page_named c.placing_law.ensures c.args.layout.now c.args.shapes.now (g.W.Words.count c.args.words.now)
+        (g.W.Words.word_of c.args.words.now) s are
     c.args.card c.requires.from c.requires.to c.word-first.result is c.if-first-ne0.true in
     let low = page_low c.placing_law.ensures c.args.layout.now c.args.shapes.now (g.W.Words.count c.args.words.now) (g.W.Words.word_of c.args.words.now) s are
     c.args.card c.requires.from c.requires.to c.word-first.result is c.if-first-ne0.true in

@@ -15,6 +15,7 @@ invariant-loop-block g l = record {
 
 abbrev pub invariant-loop-card : goal.invariant-loop-card
 invariant-loop-card g l = record {
-  seeds : (s : Contents) → AreSoundWords l.layout l.shapes (g.W.Words.count l.words) (g.W.Words.word_of l.words) s → AreCarded s → AreSeedsTo s l.items.items (card_base l.layout l.card);
+  seeds : (s : Contents) → AreSoundWords l.layout l.shapes (g.W.Words.count l.words) (g.W.Words.word_of l.words) s → AreCarded s →
+      AreSeedsTo s l.items.items (card_base l.layout l.card);
   clean : ((c : ℕ) → c < cards_in l.layout → g.W.Words.word_of l.words (cards_from l.layout + c) ≡ 0) → l.steps ≡ l.fn.steps + l.card;
 }
