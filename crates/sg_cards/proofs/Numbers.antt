@@ -26,7 +26,8 @@ module _ (s : Contents) where
   unfolding numbered
   numbered_card i l m = above_is i (cards_from s.layout) _ _ l ∙ below_is i (blocks_from s.layout) _ _ m
 
-  pub numbered_block : (i : ℕ) → blocks_from s.layout ≤ i → i < pages_from s.layout → numbered s i ≡ of_block s ((i - blocks_from s.layout) / 3) ((i - blocks_from s.layout) % 3)
+  pub numbered_block : (i : ℕ) → blocks_from s.layout ≤ i → i < pages_from s.layout →
+      numbered s i ≡ of_block s ((i - blocks_from s.layout) / 3) ((i - blocks_from s.layout) % 3)
   unfolding numbered
   numbered_block i l m =
       above_is i (cards_from s.layout) _ _ (omega arith) ∙ above_is i (blocks_from s.layout) _ _ l ∙ below_is i (pages_from s.layout) _ _ m
@@ -59,7 +60,8 @@ module _ (layout : Layout) (shapes : List Shape) (count : ℕ) (f : ℕ → ℕ)
       let k = blocks_from s.layout + (3 * b + i) in
       let block : (k - blocks_from s.layout) / 3 ≡ b = omega arith in
       let part : (k - blocks_from s.layout) % 3 ≡ i = omega arith in
-      are.words k (omega arith) ∙ numbered_block s k (omega arith) (omega arith) ∙ ap (λ (j : ℕ). of_block s j ((k - blocks_from s.layout) % 3)) block ∙ ap (of_block s b) part
+      are.words k (omega arith) ∙ numbered_block s k (omega arith) (omega arith) ∙ ap (λ (j : ℕ). of_block s j ((k - blocks_from s.layout) % 3)) block ∙
+          ap (of_block s b) part
 
   pub block_is : (b i : ℕ) → b < s.layout.blocks → i ≡ blocks_from s.layout + 3 * b → f i ≡ block_number (block_in s b)
   block_is b i l e = let k : i ≡ blocks_from s.layout + (3 * b + 0) = omega arith in ap f k ∙ block_part b 0 l (omega arith)

@@ -1,5 +1,6 @@
 -- What is read of an old or large object, and which of its fields are seeds.
-use Rattle.std.proofs.Common.{◌≡◌, ◌≢◌, ℕ, ◌+◌, ◌-◌, ◌*◌, ◌/◌, ◌^◌, ◌<◌, ◌≤◌, ◌⊎◌, inl, inr, true, false, Option, Some, None, List, length, refl, sym, ap, ◌∙◌, subst, slice_get, arith}
+use Rattle.std.proofs.Common.{◌≡◌, ◌≢◌, ℕ, ◌+◌, ◌-◌, ◌*◌, ◌/◌, ◌^◌, ◌<◌, ◌≤◌, ◌⊎◌, inl, inr, true, false, Option, Some, None, List, length, refl, sym, ap, ◌∙◌}
+use Rattle.std.proofs.Common.{subst, slice_get, arith}
 use Rattle.std.proofs.lemmas.Option.{same_Some, slice_get_within}
 use Rattle.sg_words.specs.Tags.{plain_word}
 use Rattle.sg_words.specs.Blocks.{slot_size}
@@ -49,7 +50,8 @@ pub record IsRead (layout : Layout) (shapes : List Shape) (count : ℕ) (f : ℕ
   pub small : front + 2 + word s (front + 1) < 2 ^ 31
   pub count_is : count ≡ numbers_end layout
 
-module _ (layout : Layout) (shapes : List Shape) (count : ℕ) (f : ℕ → ℕ) (s : Contents) (front : ℕ) (are : AreSoundWords layout shapes count f s) (old : IsOldFront s front) where
+module _ (layout : Layout) (shapes : List Shape) (count : ℕ) (f : ℕ → ℕ) (s : Contents) (front : ℕ) (are : AreSoundWords layout shapes count f s)
+    (old : IsOldFront s front) where
   pub is_read : IsRead layout shapes count f s front
   is_read =
       let e = old.begins.begins are.sound.0 are.sound.1 in
@@ -68,11 +70,11 @@ module _ (layout : Layout) (shapes : List Shape) (count : ℕ) (f : ℕ → ℕ)
         within = subst (λ (l : Layout). front + 2 + word s (front + 1) ≤ globals_base l) are.words.layout_is (omega arith);
         few = slice_get_within shapes o.class o.shape shape_is;
         small = (
-          let nursery = are.words.contents.layout.nursery_most in
-          let blocks = are.words.contents.layout.blocks_most in
-          let pages = are.words.contents.layout.pages in
-          omega arith
-        );
+            let nursery = are.words.contents.layout.nursery_most in
+            let blocks = are.words.contents.layout.blocks_most in
+            let pages = are.words.contents.layout.pages in
+            omega arith
+            );
         count_is = are.words.count_is;
       }
 
@@ -101,7 +103,8 @@ module _ (layout : Layout) (shapes : List Shape) (count : ℕ) (f : ℕ → ℕ)
     }
 
     -- a seed among the object's words is one of its strong fields
-    pub seed_of : (class : ℕ) (shape : Shape) → slice_get shapes class ≡ Some shape → word s front ≡ plain_word class → (z : ℕ) → front ≤ z → z < front + size_at s front → IsSeedAt s owner z →
+    pub seed_of : (class : ℕ) (shape : Shape) → slice_get shapes class ≡ Some shape → word s front ≡ plain_word class → (z : ℕ) → front ≤ z →
+        z < front + size_at s front → IsSeedAt s owner z →
         (i : ℕ) × (z ≡ front + 2 + i) × (i < word s (front + 1)) × (is_strong shape.kind i (word s (front + 1)) ≡ true)
     seed_of class shape shape_is tag z low high seed =
         let q = seed.field in
@@ -113,10 +116,11 @@ module _ (layout : Layout) (shapes : List Shape) (count : ℕ) (f : ℕ → ℕ)
         let length_same : word s (q.front + 1) ≡ word s (front + 1) = ap (λ (k : ℕ). word s (k + 1)) same in
         let class_same : q.class ≡ class = tag_once q.class class (word s front) (subst (λ (k : ℕ). word s k ≡ plain_word q.class) same q.tag) tag in
         let shape_q = subst (λ (xs : List Shape). slice_get xs q.class ≡ Some q.shape) are.words.shapes_are q.shape_is in
-        let shape_same : q.shape ≡ shape = same_Some q.shape shape (sym (subst (λ (k : ℕ). slice_get shapes k ≡ Some q.shape) class_same shape_q) ∙ shape_is) in
-        (
+        let shape_same : q.shape ≡ shape = same_Some q.shape shape (sym (subst (λ (k : ℕ). slice_get shapes k ≡ Some q.shape) class_same shape_q) ∙
+            shape_is) in (
           q.field,
           at ∙ ap (λ (k : ℕ). k + 2 + q.field) same,
           subst (λ (n : ℕ). q.field < n) length_same within,
-          subst (λ (n : ℕ). is_strong shape.kind q.field n ≡ true) length_same (subst (λ (x : Shape). is_strong x.kind q.field (word s (q.front + 1)) ≡ true) shape_same q.strong),
+          subst (λ (n : ℕ). is_strong shape.kind q.field n ≡ true) length_same
+              (subst (λ (x : Shape). is_strong x.kind q.field (word s (q.front + 1)) ≡ true) shape_same q.strong),
         )

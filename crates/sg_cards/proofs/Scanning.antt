@@ -1,5 +1,6 @@
 -- How far a card was looked at.
-use Rattle.std.proofs.Common.{◌≡◌, ◌≢◌, ℕ, ◌+◌, ◌-◌, ◌<◌, ◌≤◌, Option, List, length, refl, sym, ap, ◌∙◌, subst, inl, inr, slice_index, slice_set, arith, get_or-set_same, get_or-set_other}
+use Rattle.std.proofs.Common.{◌≡◌, ◌≢◌, ℕ, ◌+◌, ◌-◌, ◌<◌, ◌≤◌, Option, List, length, refl, sym, ap, ◌∙◌, subst, inl, inr, slice_index, slice_set, arith}
+use Rattle.std.proofs.Common.{get_or-set_same, get_or-set_other}
 use Rattle.std.proofs.lemmas.Bool.{cases_lt, cases_eq}
 use Rattle.sg_space.specs.Space.{Contents}
 use Rattle.sg_space.specs.Standing.{word, IsSoundBy}
@@ -12,8 +13,8 @@ pub record AreNoSeeds (s : Contents) (c x y : ℕ) : Type 0 where
 
 module _ (s : Contents) (c : ℕ) (found : List ℕ) where
   -- nothing was looked at below the card
-  pub scanned_start : ((j : ℕ) → slice_index found j ≡ 0) → IsScannedTo s c found (card_base s.layout c)
-  scanned_start zero = record { below = λ owner sound j l m. absurd (omega arith); above = λ j l m. zero j }
+  pub scanned_start : ((j : ℕ) → j < 64 → slice_index found j ≡ 0) → IsScannedTo s c found (card_base s.layout c)
+  scanned_start zero = record { below = λ owner sound j l m. absurd (omega arith); above = λ j l m. zero j l }
 
   pub scanned_before : (x : ℕ) → x ≤ card_base s.layout c → IsScannedTo s c found (card_base s.layout c) → IsScannedTo s c found x
   scanned_before x l h = record { below = λ owner sound j m n. absurd (omega arith); above = λ j m n. h.above j m (omega arith) }
@@ -44,9 +45,11 @@ module _ (s : Contents) (c : ℕ) (found : List ℕ) where
         below = λ owner sound j l m. elim (cases_eq j (x - card_base s.layout c)) [
           | inl e ↦
               let at : card_base s.layout c + j ≡ x = omega arith in
-              let here : slice_index (slice_set found (x - card_base s.layout c) v) j ≡ v = ap (slice_index (slice_set found (x - card_base s.layout c) v)) e ∙ get_or-set_same found (x - card_base s.layout c) v 0 (omega arith) in
+              let here : slice_index (slice_set found (x - card_base s.layout c) v) j ≡ v = ap (slice_index (slice_set found (x - card_base s.layout c) v)) e ∙
+                  get_or-set_same found (x - card_base s.layout c) v 0 (omega arith) in
               record { held = λ q. here ∙ is ∙ ap (word s) (sym at); only = λ n. subst (λ (z : ℕ). IsSeedAt s owner z) (sym at) (seed owner sound) }
-          | inr n ↦ subst (λ (u : ℕ). IsFoundAt s owner (card_base s.layout c + j) u) (sym (get_or-set_other found (x - card_base s.layout c) j v 0 n)) (h.below owner sound j l (omega arith))
+          | inr n ↦ subst (λ (u : ℕ). IsFoundAt s owner (card_base s.layout c + j) u) (sym (get_or-set_other found (x - card_base s.layout c) j v 0 n))
+              (h.below owner sound j l (omega arith))
         ];
         above = λ j l m. get_or-set_other found (x - card_base s.layout c) j v 0 (λ e. absurd (omega arith)) ∙ h.above j l (omega arith);
       }

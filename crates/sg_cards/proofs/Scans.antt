@@ -1,5 +1,6 @@
 -- A scan of an object's fields in a card.
-use Rattle.std.proofs.Common.{◌≡◌, ◌≢◌, ℕ, ◌+◌, ◌-◌, ◌/◌, ◌<◌, ◌≤◌, true, false, Option, Some, List, length, min, refl, sym, ap, ◌∙◌, subst, inl, inr, slice_get, slice_set, get_or, arith}
+use Rattle.std.proofs.Common.{◌≡◌, ◌≢◌, ℕ, ◌+◌, ◌-◌, ◌/◌, ◌<◌, ◌≤◌, true, false, Option, Some, List, length, min, refl, sym, ap, ◌∙◌, subst, inl, inr}
+use Rattle.std.proofs.Common.{slice_get, slice_set, get_or, arith}
 use Rattle.std.proofs.lemmas.Bool.{cases_lt, false≢true}
 use Rattle.std.proofs.lemmas.Option.{get_or_from_slice_get}
 use Rattle.sg_words.specs.Tags.{plain_word}
@@ -17,7 +18,8 @@ use Rattle.sg_cards.proofs.Numbers.{word_is}
 use Rattle.sg_cards.proofs.Scanning.{AreNoSeeds, scanned_skip, scanned_past, scanned_set}
 use Rattle.sg_cards.proofs.Objects.{IsRead, is_read, seed_at, seed_of}
 
-module _ (layout : Layout) (shapes : List Shape) (count : ℕ) (f : ℕ → ℕ) (s : Contents) (front : ℕ) (are : AreSoundWords layout shapes count f s) (old : IsOldFront s front)
+module _ (layout : Layout) (shapes : List Shape) (count : ℕ) (f : ℕ → ℕ) (s : Contents) (front : ℕ) (are : AreSoundWords layout shapes count f s)
+    (old : IsOldFront s front)
     (class : ℕ) (d : Shape) (fields : ℕ) (class_is : class ≡ f (front - nursery_base) / 8 - 1) (fields_are : fields ≡ f (front + 1 - nursery_base)) where
   pub read : IsRead layout shapes count f s front
   read = is_read layout shapes count f s front are old
@@ -37,8 +39,7 @@ module _ (layout : Layout) (shapes : List Shape) (count : ℕ) (f : ℕ → ℕ)
   seed_field owner sound z low high seed =
       let n = length_is in
       let q = seed_of layout shapes count f s front are old owner sound read.class read.shape read.shape_is read.tag_in z low (omega arith) seed in
-      let within = q.2 in
-      (
+      let within = q.2 in (
         q.0,
         q.1,
         omega arith,
@@ -46,7 +47,8 @@ module _ (layout : Layout) (shapes : List Shape) (count : ℕ) (f : ℕ → ℕ)
       )
 
   -- fields that aren't strong
-  no_seeds : (c i j : ℕ) → j ≤ fields → ((k : ℕ) → i ≤ k → k < j → is_strong (get_or shapes class d).kind k fields ≡ false) → AreNoSeeds s c (front + 2 + i) (front + 2 + j)
+  no_seeds : (c i j : ℕ) → j ≤ fields → ((k : ℕ) → i ≤ k → k < j → is_strong (get_or shapes class d).kind k fields ≡ false) →
+      AreNoSeeds s c (front + 2 + i) (front + 2 + j)
   no_seeds c i j most passed = record {
     none = λ owner sound z from low high seed.
         let q = seed_field owner sound z (omega arith) (omega arith) seed in
@@ -57,7 +59,8 @@ module _ (layout : Layout) (shapes : List Shape) (count : ℕ) (f : ℕ → ℕ)
   module _ (c start : ℕ) (at : start ≡ card_base s.layout c) (found : List ℕ) where
     -- up to the first strong field in the card
     pub scanned_first : (first i : ℕ) → first ≡ min (start - (front + 2)) fields → first ≤ i → i ≤ fields →
-        ((k : ℕ) → first ≤ k → k < i → is_strong (get_or shapes class d).kind k fields ≡ false) → IsScannedTo s c found front → IsScannedTo s c found (front + 2 + i)
+        ((k : ℕ) → first ≤ k → k < i → is_strong (get_or shapes class d).kind k fields ≡ false) → IsScannedTo s c found front →
+            IsScannedTo s c found (front + 2 + i)
     scanned_first first i e low most passed h = scanned_skip s c found front h (front + 2 + i) (omega arith) (record {
       none = λ owner sound z from up down seed.
           let q = seed_field owner sound z up (omega arith) seed in
@@ -67,7 +70,8 @@ module _ (layout : Layout) (shapes : List Shape) (count : ℕ) (f : ℕ → ℕ)
     })
 
     module _ (i j : ℕ) (within : i < fields) (next : i + 1 ≤ j) (most : j ≤ fields) (strong : is_strong (get_or shapes class d).kind i fields ≡ true)
-        (passed : (k : ℕ) → i + 1 ≤ k → k < j → is_strong (get_or shapes class d).kind k fields ≡ false) (h : IsScannedTo s c found (front + 2 + i)) (v : ℕ) (is : v ≡ f (front + 2 + i - nursery_base)) where
+        (passed : (k : ℕ) → i + 1 ≤ k → k < j → is_strong (get_or shapes class d).kind k fields ≡ false) (h : IsScannedTo s c found (front + 2 + i)) (v : ℕ)
+            (is : v ≡ f (front + 2 + i - nursery_base)) where
       value_is : v ≡ word s (front + 2 + i)
       value_is =
           let n = length_is in
@@ -86,28 +90,33 @@ module _ (layout : Layout) (shapes : List Shape) (count : ℕ) (f : ℕ → ℕ)
               | inl l ↦ false≢true (sym (passed q.0 (omega arith) (omega arith)) ∙ q.3)
               | inr l ↦
                   let here : z ≡ front + 2 + i = omega arith in
-                  none (subst (λ (u : ℕ). IsYoungWord layout u) (sym value_is) (subst (λ (m : Layout). IsYoungWord m (word s (front + 2 + i))) are.words.layout_is
+                  none (subst (λ (u : ℕ). IsYoungWord layout u) (sym value_is)
+                      (subst (λ (m : Layout). IsYoungWord m (word s (front + 2 + i))) are.words.layout_is
                   (subst (λ (k : ℕ). IsYoungWord s.layout (word s k)) here seed.young)))
             ];
       })
 
       -- over one that does
-      pub scanned_seed : start ≤ front + 2 + i → front + 2 + i < start + 64 → length found ≡ 64 → IsYoungWord layout v → IsScannedTo s c (slice_set found (front + 2 + i - start) v) (front + 2 + j)
+      pub scanned_seed : start ≤ front + 2 + i → front + 2 + i < start + 64 → length found ≡ 64 → IsYoungWord layout v →
+          IsScannedTo s c (slice_set found (front + 2 + i - start) v) (front + 2 + j)
       scanned_seed from to room young =
           let n = length_is in
           let seed = λ (owner : ℕ → Option ℕ) (sound : IsSoundBy s owner).
-              seed_at layout shapes count f s front are old owner sound read.class i read.shape read.shape_is read.tag_in (omega arith)
-              (subst (λ (m : ℕ). is_strong read.shape.kind i m ≡ true) n (subst (λ (x : Descriptor). is_strong x i fields ≡ true) kind_same strong))
-              (subst (λ (u : ℕ). IsYoungWord s.layout u) value_is (subst (λ (m : Layout). IsYoungWord m v) (sym are.words.layout_is) young)) in
+          seed_at layout shapes count f s front are old owner sound read.class i read.shape read.shape_is read.tag_in (omega arith)
+          (subst (λ (m : ℕ). is_strong read.shape.kind i m ≡ true) n (subst (λ (x : Descriptor). is_strong x i fields ≡ true) kind_same strong))
+          (subst (λ (u : ℕ). IsYoungWord s.layout u) value_is (subst (λ (m : Layout). IsYoungWord m v) (sym are.words.layout_is) young)) in
           let set = scanned_set s c found (front + 2 + i) h (omega arith) (omega arith) room v value_is seed in
           let after = subst (λ (k : ℕ). IsScannedTo s c (slice_set found (front + 2 + i - k) v) (front + 2 + i + 1)) (sym at) set in
           let step : front + 2 + i + 1 ≡ front + 2 + (i + 1) = omega arith in
-          scanned_skip s c (slice_set found (front + 2 + i - start) v) (front + 2 + (i + 1)) (subst (λ (k : ℕ). IsScannedTo s c (slice_set found (front + 2 + i - start) v) k) step after)
+          scanned_skip s c (slice_set found (front + 2 + i - start) v) (front + 2 + (i + 1))
+              (subst (λ (k : ℕ). IsScannedTo s c (slice_set found (front + 2 + i - start) v) k) step after)
           (front + 2 + j) (omega arith) (no_seeds c (i + 1) j most passed)
 
     -- up to the object's end, or past the card's
     pub scanned_end : (i : ℕ) → i ≤ fields → fields ≤ i → IsScannedTo s c found (front + 2 + i) → IsScannedTo s c found (front + size_at s front)
-    scanned_end i most least h = let n = length_is in let e : front + 2 + i ≡ front + size_at s front = omega arith in subst (λ (k : ℕ). IsScannedTo s c found k) e h
+    scanned_end i most least h = let n = length_is in let e : front + 2 + i ≡ front + size_at s front = omega arith in
+        subst (λ (k : ℕ). IsScannedTo s c found k) e h
 
-    pub scanned_behind : (i : ℕ) → i ≤ fields → start + 64 ≤ front + 2 + i → IsScannedTo s c found (front + 2 + i) → IsScannedTo s c found (front + size_at s front)
+    pub scanned_behind : (i : ℕ) → i ≤ fields → start + 64 ≤ front + 2 + i → IsScannedTo s c found (front + 2 + i) →
+        IsScannedTo s c found (front + size_at s front)
     scanned_behind i most behind h = let n = length_is in scanned_past s c found (front + 2 + i) h (front + size_at s front) (omega arith) (omega arith)

@@ -24,7 +24,8 @@ pub record IsFoundAt (s : Contents) (owner : ℕ → Option ℕ) (x v : ℕ) : T
 
 -- of the words of card c those below the word x were looked at
 pub record IsScannedTo (s : Contents) (c : ℕ) (found : List ℕ) (x : ℕ) : Type 0 where
-  pub below : (owner : ℕ → Option ℕ) → IsSoundBy s owner → (j : ℕ) → j < 64 → card_base s.layout c + j < x → IsFoundAt s owner (card_base s.layout c + j) (slice_index found j)
+  pub below : (owner : ℕ → Option ℕ) → IsSoundBy s owner → (j : ℕ) → j < 64 → card_base s.layout c + j < x →
+      IsFoundAt s owner (card_base s.layout c + j) (slice_index found j)
   pub above : (j : ℕ) → j < 64 → x ≤ card_base s.layout c + j → slice_index found j ≡ 0
 
 -- the words f are those of a sound space

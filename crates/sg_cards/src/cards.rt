@@ -29,6 +29,7 @@ pub fn clean(space: &mut Space)
     requires { IsSound space.old }
     ensures still { space.new ≡ record space.old { cards = space.new.cards } }
     ensures count { length space.new.cards ≡ length space.old.cards }
+    ensures sound { (owner : ℕ → Option ℕ) → IsSoundBy space.old owner → IsSoundBy space.new owner }
     ensures dirty { (owner : ℕ → Option ℕ) → IsSoundBy space.old owner → (c : ℕ) → c < cards_in space.old.layout →
         ((slice_index space.new.cards c ≡ 1) ↔ ((slice_index space.old.cards c ≡ 1) × HasSeed space.old owner c)) }
     ensures clean { AreCarded space.old → (owner : ℕ → Option ℕ) → IsSoundBy space.old owner → (c : ℕ) → c < cards_in space.old.layout →
@@ -36,6 +37,8 @@ pub fn clean(space: &mut Space)
 {
     clean_range::<Brand>(space, Blank::new(1));
     space.narrow_dirty();
+    // That each card is 0 or 1 stands in what the layout ensures.
+    let _ = space.layout();
 }
 
 /// The same, counting its steps in this ledger.
@@ -52,16 +55,33 @@ fn clean_range<L: Ledger>(space: &mut Space, blank: Blank)
     let mut steps = Steps::<L>::new(blank);
     let (from, to) = space.dirty_range();
     for card in from..to {
-        if space.dirty(card) && !is_needed(space, card, &mut steps) {
-            space.set_dirty(card, false);
-        }
+        clean_card(space, card, &mut steps);
     }
+}
+
+/// Cleans this card, where it isn't needed.
+fn clean_card<L: Ledger>(space: &mut Space, card: u32, steps: &mut Steps<L>)
+    requires sound { IsSound space.old }
+    requires card { card < length space.old.cards }
+    ensures still { space.new ≡ record space.old { cards = space.new.cards } }
+    ensures count { length space.new.cards ≡ length space.old.cards }
+    ensures here { (owner : ℕ → Option ℕ) → IsSoundBy space.old owner →
+        ((slice_index space.new.cards card ≡ 1) ↔ ((slice_index space.old.cards card ≡ 1) × HasSeed space.old owner card)) }
+    ensures others { (c : ℕ) → c ≢ card → slice_index space.new.cards c ≡ slice_index space.old.cards c }
+{
+    if !space.dirty(card) {
+        return;
+    }
+    if is_needed(space, card, steps) {
+        return;
+    }
+    space.set_dirty(card, false);
 }
 
 /// Whether this card has a strong field of a standing old or large object that holds a young reference.
 fn is_needed<L: Ledger>(space: &Space, card: u32, steps: &mut Steps<L>) -> bool
     requires sound { IsSound space.now }
-    requires card { card < cards_in space.now.layout }
+    requires card { card < length space.now.cards }
     ensures { (owner : ℕ → Option ℕ) → IsSoundBy space.now owner → ((result ≡ true) ↔ HasSeed space.now owner card) }
 {
     let layout = space.layout();

@@ -8,6 +8,8 @@ mod found;
 mod scan;
 mod search;
 mod steps;
+#[cfg(test)]
+mod tests;
 mod words;
 
 pub use cards::{card_of, clean};

@@ -11,6 +11,7 @@ use crate::steps::Steps;
 use crate::words::{Words, blocks_number, pages_number};
 use sg_blocks::{Numbered, slots};
 use sg_desc::Shape;
+use sg_space::placing_law;
 use sg_words::{BLOCK_WORDS, BlockWord, FIRST_WORD, Layout, PAGE_WORDS};
 use std::sync::ledger::Ledger;
 
@@ -28,7 +29,8 @@ pub(crate) fn young_in<W: Words, L: Ledger>(
 ) -> [u64; CARD_WORDS]
     requires sound { (s : Contents) × AreSoundWords layout.now shapes.now (W.count words.now) (W.word_of words.now) s }
     requires card { card < cards_in layout.now }
-    ensures { (s : Contents) → AreSoundWords layout.now shapes.now (W.count words.now) (W.word_of words.now) s → IsScannedTo s card result (card_base layout.now (card + 1)) }
+    ensures { (s : Contents) → AreSoundWords layout.now shapes.now (W.count words.now) (W.word_of words.now) s →
+        IsScannedTo s card result (card_base layout.now (card + 1)) }
 {
     let mut found = [0; CARD_WORDS];
     if card < 4 * layout.blocks {
@@ -51,8 +53,11 @@ fn scan_block<W: Words, L: Ledger>(
     requires sound { (s : Contents) × AreSoundWords layout.now shapes.now (W.count words.now) (W.word_of words.now) s }
     requires card { card < 4 * layout.now.blocks }
     requires room { length found.old ≡ 64 }
-    ensures { (s : Contents) → AreSoundWords layout.now shapes.now (W.count words.now) (W.word_of words.now) s → IsScannedTo s card found.old (card_base layout.now card) → IsScannedTo s card found.new (card_base layout.now (card + 1)) }
+    ensures { (s : Contents) → AreSoundWords layout.now shapes.now (W.count words.now) (W.word_of words.now) s →
+        IsScannedTo s card found.old (card_base layout.now card) → IsScannedTo s card found.new (card_base layout.now (card + 1)) }
 {
+    // The law that it rests on: it does nothing.
+    placing_law();
     let number = blocks_number(layout) + 3 * (card / 4) as u64;
     match BlockWord::of_word(words.word(number, steps)) {
         Some(BlockWord::Swept { size }) => {
@@ -63,7 +68,9 @@ fn scan_block<W: Words, L: Ledger>(
             let mask = words.word(number + 2, steps);
             scan_slots(words, layout, shapes, card, size, mask, found, steps);
         }
-        _ => {}
+        Some(BlockWord::Sweeping { .. }) => {}
+        Some(BlockWord::Free) => {}
+        None => {}
     }
 }
 
@@ -80,9 +87,12 @@ fn scan_slots<W: Words, L: Ledger>(
 )
     requires sound { (s : Contents) × AreSoundWords layout.now shapes.now (W.count words.now) (W.word_of words.now) s × IsMaskOf s card size mask }
     requires room { length found.old ≡ 64 }
-    ensures { (s : Contents) → AreSoundWords layout.now shapes.now (W.count words.now) (W.word_of words.now) s → IsMaskOf s card size mask → IsScannedTo s card found.old (card_base layout.now card) →
+    ensures { (s : Contents) → AreSoundWords layout.now shapes.now (W.count words.now) (W.word_of words.now) s → IsMaskOf s card size mask →
+        IsScannedTo s card found.old (card_base layout.now card) →
         IsScannedTo s card found.new (card_base layout.now (card + 1)) }
 {
+    // The law that it rests on: it does nothing.
+    placing_law();
     let base = layout.old_word() + BLOCK_WORDS * (card / 4) as u64;
     let from = CARD_WORDS as u32 * (card % 4);
     let first = from / size;
@@ -116,8 +126,11 @@ fn scan_page<W: Words, L: Ledger>(
     requires from { 4 * layout.now.blocks ≤ card }
     requires to { card < cards_in layout.now }
     requires room { length found.old ≡ 64 }
-    ensures { (s : Contents) → AreSoundWords layout.now shapes.now (W.count words.now) (W.word_of words.now) s → IsScannedTo s card found.old (card_base layout.now card) → IsScannedTo s card found.new (card_base layout.now (card + 1)) }
+    ensures { (s : Contents) → AreSoundWords layout.now shapes.now (W.count words.now) (W.word_of words.now) s →
+        IsScannedTo s card found.old (card_base layout.now card) → IsScannedTo s card found.new (card_base layout.now (card + 1)) }
 {
+    // The law that it rests on: it does nothing.
+    placing_law();
     let place = (card - 4 * layout.blocks) as u64;
     let first = words.word(pages_number(layout) + place / 2, steps);
     if first != 0 {
@@ -148,7 +161,8 @@ fn scan_object<W: Words, L: Ledger>(
     requires sound { (s : Contents) × AreSoundWords layout.now shapes.now (W.count words.now) (W.word_of words.now) s × IsOldFront s front }
     requires start { start < 2 ^ 37 }
     requires room { length found.old ≡ 64 }
-    ensures scanned { (s : Contents) (c : ℕ) → AreSoundWords layout.now shapes.now (W.count words.now) (W.word_of words.now) s → IsOldFront s front → start ≡ card_base layout.now c → IsScannedTo s c found.old front →
+    ensures scanned { (s : Contents) (c : ℕ) → AreSoundWords layout.now shapes.now (W.count words.now) (W.word_of words.now) s → IsOldFront s front →
+        start ≡ card_base layout.now c → IsScannedTo s c found.old front →
         IsScannedTo s c found.new (front + size_at s front) }
     ensures same { length found.new ≡ length found.old }
 {

@@ -3,3 +3,4 @@ pub mod Standing
 pub mod Changes
 pub mod Marks
 pub mod Inside
+pub mod Laws

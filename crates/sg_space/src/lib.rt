@@ -2,11 +2,13 @@
 #![tactic(auto)]
 
 mod blocks;
+mod laws;
 mod objects;
 mod rows;
 mod space;
 mod walks;
 
+pub use laws::placing_law;
 pub use objects::Object;
 pub use sg_words::Layout;
 pub use space::Space;

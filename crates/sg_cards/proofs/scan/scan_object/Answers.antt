@@ -117,9 +117,11 @@ loop-i-init g c = record {
   strong = c.next_strong-i.ensures.strong;
   room = c.requires.room;
   scanned = λ s k are old at h.
-      scanned_first c.args.layout.now c.args.shapes.now (g.W.Words.count c.args.words.now) (g.W.Words.word_of c.args.words.now) s c.args.front are old (c.word.result / 8 - 1) _ c.word-fields.result (ap (λ (n : ℕ). n / 8 - 1) c.word.ensures.value) c.word-fields.ensures.value
+      scanned_first c.args.layout.now c.args.shapes.now (g.W.Words.count c.args.words.now) (g.W.Words.word_of c.args.words.now) s c.args.front are old
+          (c.word.result / 8 - 1) _ c.word-fields.result (ap (λ (n : ℕ). n / 8 - 1) c.word.ensures.value) c.word-fields.ensures.value
       k c.args.start (at ∙ ap (λ (l : Layout). card_base l k) (sym are.words.layout_is)) c.args.found.now c.min-first.result c.next_strong-i.result
-      (c.min-first.ensures ∙ ap (λ (n : ℕ). min n c.word-fields.result) c.saturating_sub.ensures) c.next_strong-i.ensures.from c.next_strong-i.ensures.within c.next_strong-i.ensures.passed h;
+      (c.min-first.ensures ∙ ap (λ (n : ℕ). min n c.word-fields.result) c.saturating_sub.ensures) c.next_strong-i.ensures.from c.next_strong-i.ensures.within
+          c.next_strong-i.ensures.passed h;
 }
 
 pub loop-i-preserved : goal.loop-i-preserved
@@ -144,23 +146,35 @@ loop-i-preserved g c =
           elim c.if-is_young.branch [
             | then-is_young w ↦
                 subst (λ (xs : List ℕ). IsScannedTo s k xs (c.args.front + 2 + c.next_strong-i-in-loop-i.result)) (sym w.found-is)
-                (scanned_seed c.args.layout.now c.args.shapes.now (g.W.Words.count c.args.words.now) (g.W.Words.word_of c.args.words.now) s c.args.front are old (c.word.result / 8 - 1) _ c.word-fields.result (ap (λ (n : ℕ). n / 8 - 1) c.word.ensures.value) c.word-fields.ensures.value
-                k c.args.start (at ∙ ap (λ (l : Layout). card_base l k) (sym are.words.layout_is)) c.loop-i.found c.loop-i.i c.next_strong-i-in-loop-i.result c.loop-i-test.true low next.within strong next.passed before
+                (scanned_seed c.args.layout.now c.args.shapes.now (g.W.Words.count c.args.words.now)
+                    (g.W.Words.word_of c.args.words.now) s c.args.front are old (c.word.result / 8 - 1) _ c.word-fields.result
+                    (ap (λ (n : ℕ). n / 8 - 1) c.word.ensures.value) c.word-fields.ensures.value
+                k c.args.start (at ∙ ap (λ (l : Layout). card_base l k) (sym are.words.layout_is)) c.loop-i.found c.loop-i.i c.next_strong-i-in-loop-i.result
+                    c.loop-i-test.true low next.within strong next.passed before
                 c.word-value.result c.word-value.ensures.value inside c.if-front-i.true room (c.is_young.ensures.0 w.if-is_young.true))
             | else-is_young w ↦
                 subst (λ (xs : List ℕ). IsScannedTo s k xs (c.args.front + 2 + c.next_strong-i-in-loop-i.result)) (sym w.found-is)
-                (scanned_over c.args.layout.now c.args.shapes.now (g.W.Words.count c.args.words.now) (g.W.Words.word_of c.args.words.now) s c.args.front are old (c.word.result / 8 - 1) _ c.word-fields.result (ap (λ (n : ℕ). n / 8 - 1) c.word.ensures.value) c.word-fields.ensures.value
-                k c.args.start (at ∙ ap (λ (l : Layout). card_base l k) (sym are.words.layout_is)) c.loop-i.found c.loop-i.i c.next_strong-i-in-loop-i.result c.loop-i-test.true low next.within strong next.passed before
+                (scanned_over c.args.layout.now c.args.shapes.now (g.W.Words.count c.args.words.now)
+                    (g.W.Words.word_of c.args.words.now) s c.args.front are old (c.word.result / 8 - 1) _ c.word-fields.result
+                    (ap (λ (n : ℕ). n / 8 - 1) c.word.ensures.value) c.word-fields.ensures.value
+                k c.args.start (at ∙ ap (λ (l : Layout). card_base l k) (sym are.words.layout_is)) c.loop-i.found c.loop-i.i c.next_strong-i-in-loop-i.result
+                    c.loop-i-test.true low next.within strong next.passed before
                 c.word-value.result c.word-value.ensures.value (λ y. false≢true (sym w.if-is_young.false ∙ c.is_young.ensures.1 y)))
           ];
     }
 
 pub returns-else-front-i-clause-scanned : goal.returns-else-front-i-clause-scanned
 returns-else-front-i-clause-scanned g c = λ s k are old at h.
-    scanned_behind c.args.layout.now c.args.shapes.now (g.W.Words.count c.args.words.now) (g.W.Words.word_of c.args.words.now) s c.args.front are old (c.word.result / 8 - 1) (record { fields = 0; kind = PtrFree }) c.word-fields.result (ap (λ (n : ℕ). n / 8 - 1) c.word.ensures.value) c.word-fields.ensures.value
-    k c.args.start (at ∙ ap (λ (l : Layout). card_base l k) (sym are.words.layout_is)) c.loop-i.found c.loop-i.i c.loop-i.invariant.within c.if-front-i.false (c.loop-i.invariant.scanned s k are old at h)
+    scanned_behind c.args.layout.now c.args.shapes.now (g.W.Words.count c.args.words.now) (g.W.Words.word_of c.args.words.now) s c.args.front are old
+        (c.word.result / 8 - 1) (record { fields = 0; kind = PtrFree }) c.word-fields.result
+        (ap (λ (n : ℕ). n / 8 - 1) c.word.ensures.value) c.word-fields.ensures.value
+    k c.args.start (at ∙ ap (λ (l : Layout). card_base l k) (sym are.words.layout_is)) c.loop-i.found c.loop-i.i c.loop-i.invariant.within c.if-front-i.false
+        (c.loop-i.invariant.scanned s k are old at h)
 
 pub returns-after-loop-i-clause-scanned : goal.returns-after-loop-i-clause-scanned
 returns-after-loop-i-clause-scanned g c = λ s k are old at h.
-    scanned_end c.args.layout.now c.args.shapes.now (g.W.Words.count c.args.words.now) (g.W.Words.word_of c.args.words.now) s c.args.front are old (c.word.result / 8 - 1) (record { fields = 0; kind = PtrFree }) c.word-fields.result (ap (λ (n : ℕ). n / 8 - 1) c.word.ensures.value) c.word-fields.ensures.value
-    k c.args.start (at ∙ ap (λ (l : Layout). card_base l k) (sym are.words.layout_is)) c.loop-i.found c.loop-i.i c.loop-i.invariant.within c.loop-i-test.false (c.loop-i.invariant.scanned s k are old at h)
+    scanned_end c.args.layout.now c.args.shapes.now (g.W.Words.count c.args.words.now) (g.W.Words.word_of c.args.words.now) s c.args.front are old
+        (c.word.result / 8 - 1) (record { fields = 0; kind = PtrFree }) c.word-fields.result
+        (ap (λ (n : ℕ). n / 8 - 1) c.word.ensures.value) c.word-fields.ensures.value
+    k c.args.start (at ∙ ap (λ (l : Layout). card_base l k) (sym are.words.layout_is)) c.loop-i.found c.loop-i.i c.loop-i.invariant.within c.loop-i-test.false
+        (c.loop-i.invariant.scanned s k are old at h)

@@ -12,7 +12,8 @@ invariant-loop-i g l = record {
   within : l.i ≤ l.fields;
   strong : l.i < l.fields → is_strong l.kind l.i l.fields ≡ true;
   room : length l.found ≡ 64;
-  scanned : (s : Contents) (c : ℕ) → AreSoundWords l.layout l.shapes (g.W.Words.count l.words) (g.W.Words.word_of l.words) s → IsOldFront s l.front → l.start ≡ card_base l.layout c →
+  scanned : (s : Contents) (c : ℕ) → AreSoundWords l.layout l.shapes (g.W.Words.count l.words) (g.W.Words.word_of l.words) s → IsOldFront s l.front →
+      l.start ≡ card_base l.layout c →
       IsScannedTo s c l.fn.found l.front → IsScannedTo s c l.found (l.front + 2 + l.i);
 }
 

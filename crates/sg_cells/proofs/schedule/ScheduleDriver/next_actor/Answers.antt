@@ -1,4 +1,4 @@
-use Rattle.std.proofs.Common.{◌≡◌, ℕ, ◌+◌, ◌%◌, ◌<◌, sym, subst, arith}
+use Rattle.std.proofs.Common.{◌+◌, ◌%◌, ◌<◌, subst, arith}
 use Rattle.sg_words.specs.Schedule.{Schedule, Gives}
 use Rattle.sg_cells.specs.Ended.{HasEnded}
 use Rattle.sg_cells.proofs.Turns.{gives_listed, gives_spent, gives_round}
