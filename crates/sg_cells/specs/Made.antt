@@ -16,6 +16,7 @@ module _ {P : Type 0} (leads : P → List Step → P → Type 0) (sees : P → S
   makes_lead stays chains p (t ∷ ts) q h = chains p h.0 q (t ∷ []) ts h.1 (makes_lead stays chains h.0 ts q h.3)
 
   -- more steps behind them
-  pub makes_then : (p : P) (es : List Step) (q : P) (fs : List Step) (r : P) → Makes leads sees p es q → Makes leads sees q fs r → Makes leads sees p (es ++ fs) r
+  pub makes_then : (p : P) (es : List Step) (q : P) (fs : List Step) (r : P) → Makes leads sees p es q → Makes leads sees q fs r →
+      Makes leads sees p (es ++ fs) r
   makes_then p [] q fs r h k = subst (λ (z : P). Makes leads sees z fs r) h k
   makes_then p (t ∷ ts) q fs r h k = (h.0, h.1, h.2, makes_then h.0 ts q fs r h.3 k)

@@ -127,7 +127,8 @@ pub trait BlockPort: Port {
         requires may { Self.may self.old (OnBlocks (SwapsBlock b seen new)) }
         ensures led { MatchResult result (λ _. Self.leads self.old (OnBlock (WonBlock b seen new) ∷ []) self.new)
             (λ found. Self.leads self.old (OnBlock (LostBlock b seen new found) ∷ []) self.new) }
-        ensures seen { MatchResult result (λ _. Self.sees self.old (OnBlock (WonBlock b seen new))) (λ found. Self.sees self.old (OnBlock (LostBlock b seen new found))) };
+        ensures seen { MatchResult result (λ _. Self.sees self.old (OnBlock (WonBlock b seen new)))
+            (λ found. Self.sees self.old (OnBlock (LostBlock b seen new found))) };
 
     /// The occupancy of this block, a bit for each slot: one load.
     fn used(&mut self, b: u32) -> u64

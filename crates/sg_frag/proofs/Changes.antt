@@ -94,7 +94,8 @@ led_card s t c v l e = record {
       pairs = refl;
     }
 
-pub led_block : (s t : Contents) (b : ℕ) (seen new : BlockWord) → b < length s.blocks → block_in s b ≡ seen → t ≡ record s { blocks = slice_set s.blocks b new } →
+pub led_block : (s t : Contents) (b : ℕ) (seen new : BlockWord) → b < length s.blocks → block_in s b ≡ seen →
+    t ≡ record s { blocks = slice_set s.blocks b new } →
     Led s (OnBlock (WonBlock b seen new) ∷ []) t
 led_block s t b seen new l is e = record {
   legal = (is, tt);

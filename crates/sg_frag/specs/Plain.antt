@@ -4,7 +4,8 @@ use Rattle.sg_words.specs.Sections.{IsInSection}
 use Rattle.sg_words.specs.declared.steps.Place.TheVariants.{Stop, Next, Word, Card, Head, Cell}
 use Rattle.sg_words.specs.declared.steps.Step.{Step}
 use Rattle.sg_words.specs.declared.steps.BlockCall.{BlockCall}
-use Rattle.sg_words.specs.declared.steps.BlockCall.TheVariants.{LoadsBlock, SwapsBlock, StoresBlock, LoadsUsed, OrsUsed, StoresUsed, LoadsMarks, OrsMarks, StoresMarks, Zeroes}
+use Rattle.sg_words.specs.declared.steps.BlockCall.TheVariants.{LoadsBlock, SwapsBlock, StoresBlock, LoadsUsed, OrsUsed, StoresUsed, LoadsMarks, OrsMarks}
+use Rattle.sg_words.specs.declared.steps.BlockCall.TheVariants.{StoresMarks, Zeroes}
 use Rattle.sg_words.specs.declared.steps.Call.{Call}
 use Rattle.sg_words.specs.declared.steps.Call.TheVariants.{Loads, Stores, Swaps, OnBlocks}
 use Rattle.sg_words.specs.Words.{replayed, IsLegal}

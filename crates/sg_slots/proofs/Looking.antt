@@ -12,7 +12,8 @@ use Rattle.sg_words.specs.Blocks.{slots}
 use Rattle.sg_cells.specs.Made.{Makes, makes_then}
 use Rattle.sg_slots.specs.declared.search.Found.{Found}
 use Rattle.sg_slots.specs.declared.search.Found.TheVariants.{Free as IsFree, Slot, None as NoSlot}
-use Rattle.sg_slots.specs.Looks.{IsFull, IsLowest, PassesOver, PassesOther, PassesFull, ArePassed, Finds, FindsFree, FindsSlot, AreLooks, PassesAll, PassesTo, MayLook}
+use Rattle.sg_slots.specs.Looks.{IsFull, IsLowest, PassesOver, PassesOther, PassesFull, ArePassed, Finds, FindsFree, FindsSlot, AreLooks, PassesAll, PassesTo}
+use Rattle.sg_slots.specs.Looks.{MayLook}
 
 -- from p on, loads have passed over the blocks from `from` on to before `to`, and led to q
 pub record HasPassed {P : Type 0} (leads : P → List Step → P → Type 0) (sees : P → Step → Type 0) (size from to : ℕ) (p q : P) : Type 0 where
@@ -44,24 +45,31 @@ module _ {P : Type 0} (leads : P → List Step → P → Type 0) (sees : P → S
     -- the port lets its actor look at it
     module _ (may : P → Call → Type 0) (blocks : ℕ) (asks : MayLook leads sees may size blocks from p) (there : c < blocks) where
       pub may_block : may q (OnBlocks (LoadsBlock c))
-      may_block = subst (λ (k : ℕ). may q (OnBlocks (LoadsBlock k))) (sym h.place) (asks.block h.n h.es q h.passed h.made (subst (λ (k : ℕ). k < blocks) h.place there))
+      may_block = subst (λ (k : ℕ). may q (OnBlocks (LoadsBlock k))) (sym h.place)
+          (asks.block h.n h.es q h.passed h.made (subst (λ (k : ℕ). k < blocks) h.place there))
 
-      pub may_used : (r : P) (saw : BlockWord) → saw ≡ Swept size → leads q (OnBlock (LoadBlock c saw) ∷ []) r → sees q (OnBlock (LoadBlock c saw)) → may r (OnBlocks (LoadsUsed c))
+      pub may_used : (r : P) (saw : BlockWord) → saw ≡ Swept size → leads q (OnBlock (LoadBlock c saw) ∷ []) r → sees q (OnBlock (LoadBlock c saw)) →
+          may r (OnBlocks (LoadsUsed c))
       may_used r saw is led seen =
           let step = subst (λ (k : ℕ). Makes leads sees q (OnBlock (LoadBlock k saw) ∷ []) r) h.place (r, led, seen, refl) in
           let swept = subst (λ (v : BlockWord). Makes leads sees q (OnBlock (LoadBlock (from + h.n) v) ∷ []) r) is step in
           subst (λ (k : ℕ). may r (OnBlocks (LoadsUsed k))) (sym h.place)
-          (asks.used h.n h.es r h.passed (makes_then leads sees p h.es q (OnBlock (LoadBlock (from + h.n) (Swept size)) ∷ []) r h.made swept) (subst (λ (k : ℕ). k < blocks) h.place there))
+          (asks.used h.n h.es r h.passed (makes_then leads sees p h.es q (OnBlock (LoadBlock (from + h.n) (Swept size)) ∷ []) r h.made swept)
+          (subst (λ (k : ℕ). k < blocks) h.place there))
 
     -- it is passed over, or something is found there
-    pub passes_other : (r : P) (saw : BlockWord) → saw ≢ Free → saw ≢ Swept size → leads q (OnBlock (LoadBlock c saw) ∷ []) r → sees q (OnBlock (LoadBlock c saw)) → HasPassed leads sees size from (c + 1) p r
+    pub passes_other : (r : P) (saw : BlockWord) → saw ≢ Free → saw ≢ Swept size → leads q (OnBlock (LoadBlock c saw) ∷ []) r →
+        sees q (OnBlock (LoadBlock c saw)) → HasPassed leads sees size from (c + 1) p r
     passes_other r saw a b led seen = passed_more (OnBlock (LoadBlock c saw) ∷ []) r (PassesOther saw a b) (r, led, seen, refl)
 
     both : (m r : P) (saw : BlockWord) (used : ℕ) → saw ≡ Swept size → leads q (OnBlock (LoadBlock c saw) ∷ []) m → sees q (OnBlock (LoadBlock c saw)) →
-        leads m (OnBlock (LoadUsed c used) ∷ []) r → sees m (OnBlock (LoadUsed c used)) → Makes leads sees q (OnBlock (LoadBlock c (Swept size)) ∷ OnBlock (LoadUsed c used) ∷ []) r
-    both m r saw used is led seen led2 seen2 = subst (λ (v : BlockWord). Makes leads sees q (OnBlock (LoadBlock c v) ∷ OnBlock (LoadUsed c used) ∷ []) r) is (m, led, seen, (r, led2, seen2, refl))
+        leads m (OnBlock (LoadUsed c used) ∷ []) r → sees m (OnBlock (LoadUsed c used)) →
+        Makes leads sees q (OnBlock (LoadBlock c (Swept size)) ∷ OnBlock (LoadUsed c used) ∷ []) r
+    both m r saw used is led seen led2 seen2 = subst (λ (v : BlockWord). Makes leads sees q (OnBlock (LoadBlock c v) ∷ OnBlock (LoadUsed c used) ∷ []) r) is
+        (m, led, seen, (r, led2, seen2, refl))
 
-    pub passes_full : (m r : P) (saw : BlockWord) (used : ℕ) → saw ≡ Swept size → IsFull used (slots size) → leads q (OnBlock (LoadBlock c saw) ∷ []) m → sees q (OnBlock (LoadBlock c saw)) →
+    pub passes_full : (m r : P) (saw : BlockWord) (used : ℕ) → saw ≡ Swept size → IsFull used (slots size) → leads q (OnBlock (LoadBlock c saw) ∷ []) m →
+        sees q (OnBlock (LoadBlock c saw)) →
         leads m (OnBlock (LoadUsed c used) ∷ []) r → sees m (OnBlock (LoadUsed c used)) → HasPassed leads sees size from (c + 1) p r
     passes_full m r saw used is full led seen led2 seen2 = passed_more _ r (PassesFull used full) (both m r saw used is led seen led2 seen2)
 
@@ -73,13 +81,17 @@ module _ {P : Type 0} (leads : P → List Step → P → Type 0) (sees : P → S
         PassesTo h.n h.es ts found h.passed (subst (λ (k : ℕ). k < blocks) h.place there) (subst (λ (k : ℕ). Finds size k ts found) h.place finds),
       )
 
-      pub finds_free : (r : P) (saw : BlockWord) → saw ≡ Free → leads q (OnBlock (LoadBlock c saw) ∷ []) r → sees q (OnBlock (LoadBlock c saw)) → HasFound leads sees size blocks from p r (IsFree c)
-      finds_free r saw is led seen = found_here _ r (IsFree c) FindsFree (subst (λ (v : BlockWord). Makes leads sees q (OnBlock (LoadBlock c v) ∷ []) r) is (r, led, seen, refl))
+      pub finds_free : (r : P) (saw : BlockWord) → saw ≡ Free → leads q (OnBlock (LoadBlock c saw) ∷ []) r → sees q (OnBlock (LoadBlock c saw)) →
+          HasFound leads sees size blocks from p r (IsFree c)
+      finds_free r saw is led seen = found_here _ r (IsFree c) FindsFree
+          (subst (λ (v : BlockWord). Makes leads sees q (OnBlock (LoadBlock c v) ∷ []) r) is (r, led, seen, refl))
 
-      pub finds_slot : (m r : P) (saw : BlockWord) (used i : ℕ) → saw ≡ Swept size → IsLowest used (slots size) i → leads q (OnBlock (LoadBlock c saw) ∷ []) m → sees q (OnBlock (LoadBlock c saw)) →
+      pub finds_slot : (m r : P) (saw : BlockWord) (used i : ℕ) → saw ≡ Swept size → IsLowest used (slots size) i →
+          leads q (OnBlock (LoadBlock c saw) ∷ []) m → sees q (OnBlock (LoadBlock c saw)) →
           leads m (OnBlock (LoadUsed c used) ∷ []) r → sees m (OnBlock (LoadUsed c used)) → HasFound leads sees size blocks from p r (Slot c i)
       finds_slot m r saw used i is low led seen led2 seen2 = found_here _ r (Slot c i) (FindsSlot used i low) (both m r saw used is led seen led2 seen2)
 
   -- no block is left
-  pub finds_none : (blocks c : ℕ) (q : P) → HasPassed leads sees size from c p q → blocks ≤ c → (from ≤ blocks → c ≤ blocks) → (blocks < from → c ≡ from) → HasFound leads sees size blocks from p q NoSlot
+  pub finds_none : (blocks c : ℕ) (q : P) → HasPassed leads sees size from c p q → blocks ≤ c → (from ≤ blocks → c ≤ blocks) → (blocks < from → c ≡ from) →
+      HasFound leads sees size blocks from p q NoSlot
   finds_none blocks c q h behind most none = (h.es, h.made, PassesAll h.n h.es h.passed (let e = h.place in grind arith))

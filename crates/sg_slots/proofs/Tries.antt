@@ -36,7 +36,8 @@ passed_behind size c es fs p = record {
   before = es ++ p.before;
   passing = p.passing;
   after = p.after;
-  parts = ap (λ (xs : List Step). es ++ xs) p.parts ∙ sym (append_assoc es (p.before ++ p.passing) p.after) ∙ ap (λ (xs : List Step). xs ++ p.after) (sym (append_assoc es p.before p.passing));
+  parts = ap (λ (xs : List Step). es ++ xs) p.parts ∙ sym (append_assoc es (p.before ++ p.passing) p.after) ∙
+      ap (λ (xs : List Step). xs ++ p.after) (sym (append_assoc es p.before p.passing));
   passes = p.passes;
 }
 
@@ -86,13 +87,23 @@ pub record HasFoundSlot (size blocks from c i : ℕ) (es : List Step) : Type 0 w
   pub parts : es ≡ before ++ OnBlock (LoadBlock c (Swept size)) ∷ OnBlock (LoadUsed c used) ∷ []
 
 module _ (size blocks from : ℕ) where
-  free_finds : (n c d : ℕ) (before ts : List Step) → ArePassed size from n before → d ≡ from + n → from + n < blocks → Finds size d ts (IsFree c) → HasFoundFree size blocks from c (before ++ ts)
-  free_finds n c d before ts passed e there (FindsFree) = record { n = n; before = before; passed = passed; place = e; there = subst (λ (k : ℕ). k < blocks) (sym e) there; parts = refl }
+  free_finds : (n c d : ℕ) (before ts : List Step) → ArePassed size from n before → d ≡ from + n → from + n < blocks → Finds size d ts (IsFree c) →
+      HasFoundFree size blocks from c (before ++ ts)
+  free_finds n c d before ts passed e there (FindsFree) = record {
+    n = n;
+    before = before;
+    passed = passed;
+    place = e;
+    there =
+        subst (λ (k : ℕ). k < blocks) (sym e) there;
+    parts = refl;
+  }
 
   pub free_found : (c : ℕ) (es : List Step) → AreLooks size blocks from es (IsFree c) → HasFoundFree size blocks from c es
   free_found c es (PassesTo n before ts found passed there finds) = free_finds n c (from + n) before ts passed refl there finds
 
-  slot_finds : (n c i d : ℕ) (before ts : List Step) → ArePassed size from n before → d ≡ from + n → from + n < blocks → Finds size d ts (Slot c i) → HasFoundSlot size blocks from c i (before ++ ts)
+  slot_finds : (n c i d : ℕ) (before ts : List Step) → ArePassed size from n before → d ≡ from + n → from + n < blocks → Finds size d ts (Slot c i) →
+      HasFoundSlot size blocks from c i (before ++ ts)
   slot_finds n c i d before ts passed e there (FindsSlot used j low) = record {
     n = n;
     before = before;
@@ -126,7 +137,8 @@ module _ (size blocks : ℕ) where
   }
 
   -- a search behind them has passed over n blocks
-  pub tries_pass : (from n : ℕ) (es fs : List Step) → AreTries size blocks from es → ArePassed size from n fs → from + n ≤ blocks → AreTries size blocks (from + n) (es ++ fs)
+  pub tries_pass : (from n : ℕ) (es fs : List Step) → AreTries size blocks from es → ArePassed size from n fs → from + n ≤ blocks →
+      AreTries size blocks (from + n) (es ++ fs)
   tries_pass from n es fs tries passed l = record {
     steps = all_append (IsOfClaim size blocks) es fs tries.steps (passed_claims size from blocks n fs passed l);
     passed = λ b m. elim (cases_lt b from) [
@@ -139,7 +151,8 @@ module _ (size blocks : ℕ) where
   tries_free from c es fs tries f =
       let there = f.there in
       let place = f.place in
-      subst (λ (xs : List Step). AreTries size blocks c xs) (append_assoc es f.before (OnBlock (LoadBlock c Free) ∷ []) ∙ ap (λ (xs : List Step). es ++ xs) (sym f.parts))
+      subst (λ (xs : List Step). AreTries size blocks c xs) (append_assoc es f.before (OnBlock (LoadBlock c Free) ∷ []) ∙
+      ap (λ (xs : List Step). es ++ xs) (sym f.parts))
       (tries_step c (es ++ f.before) (OnBlock (LoadBlock c Free))
       (subst (λ (k : ℕ). AreTries size blocks k (es ++ f.before)) (sym f.place) (tries_pass from f.n es f.before tries f.passed (omega arith))) f.there)
 
@@ -153,4 +166,5 @@ module _ (size blocks : ℕ) where
       let second = tries_step c (es ++ f.before) load first f.there in
       let third = tries_step c ((es ++ f.before) ++ load ∷ []) used second f.there in
       subst (λ (xs : List Step). AreTries size blocks c xs)
-      (append_assoc (es ++ f.before) (load ∷ []) (used ∷ []) ∙ append_assoc es f.before (load ∷ used ∷ []) ∙ ap (λ (xs : List Step). es ++ xs) (sym f.parts)) third
+      (append_assoc (es ++ f.before) (load ∷ []) (used ∷ []) ∙ append_assoc es f.before (load ∷ used ∷ []) ∙
+      ap (λ (xs : List Step). es ++ xs) (sym f.parts)) third

@@ -1,5 +1,6 @@
 -- A claim under way: what is known of the blocks, and what the port may show.
-use Rattle.std.proofs.Common.{◌≡◌, ◌≢◌, ℕ, ◌+◌, ◌-◌, ◌*◌, ◌<◌, ◌≤◌, Some, None, Result, Ok, Err, MatchResult, List, [], ◌∷◌, ◌++◌, append_assoc, refl, sym, ap, ◌∙◌, subst, inl, inr, arith}
+use Rattle.std.proofs.Common.{◌≡◌, ◌≢◌, ℕ, ◌+◌, ◌-◌, ◌*◌, ◌<◌, ◌≤◌, Some, None, Result, Ok, Err, MatchResult, List, [], ◌∷◌, ◌++◌, append_assoc, refl, sym, ap}
+use Rattle.std.proofs.Common.{◌∙◌, subst, inl, inr, arith}
 use Rattle.std.specs.Int.{bit_at}
 use Rattle.std.specs.List.{AllByRecursion}
 use Rattle.std.proofs.lemmas.Bool.{cases_eq, cases_lt}
@@ -16,7 +17,8 @@ use Rattle.sg_words.specs.Words.{Words}
 use Rattle.sg_cells.specs.Made.{Makes, makes_then}
 use Rattle.sg_slots.specs.declared.search.Found.TheVariants.{Free as IsFree, Slot, None as NoSlot}
 use Rattle.sg_slots.specs.Looks.{AreLooks, MayLook}
-use Rattle.sg_slots.specs.Claims.{IsOfClaim, IsOfClaimOn, Shows, KeepsKnown, ShowsGrowing, IsSettled, MayClaim, IsExchange, IsWon, IsLost, IsTried, Begins, Opens, Misses, Claims}
+use Rattle.sg_slots.specs.Claims.{IsOfClaim, IsOfClaimOn, Shows, KeepsKnown, ShowsGrowing, IsSettled, MayClaim, IsExchange, IsWon, IsLost, IsTried, Begins}
+use Rattle.sg_slots.specs.Claims.{Opens, Misses, Claims}
 use Rattle.sg_slots.proofs.Tries.{AreTries, all_append, passed_claims, HasFoundFree, HasFoundSlot, none_found, tries_free, tries_slot, tries_step, tries_pass}
 
 -- a block that isn't free and isn't to be swept has slots of some size
@@ -28,7 +30,8 @@ swept_else (Sweeping size) n none = absurd (none size refl)
 
 module _ {P : Type 0} (leads : P → List Step → P → Type 0) (sees : P → Step → Type 0) (size blocks : ℕ) where
   -- the last of several steps
-  pub makes_last : (p : P) (es : List Step) (t : Step) (q : P) → Makes leads sees p (es ++ t ∷ []) q → (r : P) × Makes leads sees p es r × leads r (t ∷ []) q × sees r t
+  pub makes_last : (p : P) (es : List Step) (t : Step) (q : P) → Makes leads sees p (es ++ t ∷ []) q → (r : P) × Makes leads sees p es r × leads r (t ∷ []) q ×
+      sees r t
   makes_last p [] t q h = (p, refl, subst (λ (z : P). leads p (t ∷ []) z) (sym h.3) h.1, h.2)
   makes_last p (e ∷ es) t q h = let m = makes_last h.0 es t q h.3 in (m.0, (h.0, h.1, h.2, m.1), m.2, m.3)
 
@@ -57,7 +60,8 @@ module _ {P : Type 0} (leads : P → List Step → P → Type 0) (sees : P → S
 
     pub keeps_all : (p : P) (es : List Step) (q : P) → AllByRecursion (IsOfClaim size blocks) es → Makes leads sees p es q → KeepsKnown (knows p) (knows q)
     keeps_all p [] q all made = keeps_same (knows p) (knows q) (ap knows made)
-    keeps_all p (t ∷ ts) q all made = keeps_chain (knows p) (knows made.0) (knows q) (keeps_one p made.0 t all.0 made.2 made.1) (keeps_all made.0 ts q all.1 made.3)
+    keeps_all p (t ∷ ts) q all made = keeps_chain (knows p) (knows made.0) (knows q) (keeps_one p made.0 t all.0 made.2 made.1)
+        (keeps_all made.0 ts q all.1 made.3)
 
   -- nothing is known of block c, or it is known to be swept and `known` bits less one to be set
   pub record KnowsBits (w : Words) (c known : ℕ) : Type 0 where
@@ -80,7 +84,8 @@ module _ {P : Type 0} (leads : P → List Step → P → Type 0) (sees : P → S
     pub within : from ≤ blocks
     pub bits : KnowsBits (knows q) from known
 
-  pub trying_first : (p : P) (knows : P → Words) → ShowsGrowing leads sees size blocks knows → IsSettled (knows p) blocks → AreTries size blocks 0 [] → IsTrying 0 0 p p
+  pub trying_first : (p : P) (knows : P → Words) → ShowsGrowing leads sees size blocks knows → IsSettled (knows p) blocks → AreTries size blocks 0 [] →
+      IsTrying 0 0 p p
   trying_first p knows shows settled tries = record {
     knows = knows;
     shows = shows;
@@ -108,7 +113,8 @@ module _ {P : Type 0} (leads : P → List Step → P → Type 0) (sees : P → S
     }
 
     -- a search has found the free block c
-    module _ (c : ℕ) (fs : List Step) (r : P) (made : Makes leads sees q fs r) (looks : AreLooks size blocks from fs (IsFree c)) (f : HasFoundFree size blocks from c fs) where
+    module _ (c : ℕ) (fs : List Step) (r : P) (made : Makes leads sees q fs r) (looks : AreLooks size blocks from fs (IsFree c))
+        (f : HasFoundFree size blocks from c fs) where
       all_made : Makes leads sees p (try.es ++ fs) r
       all_made = makes_then leads sees p try.es q fs r try.made made
 
@@ -125,7 +131,8 @@ module _ {P : Type 0} (leads : P → List Step → P → Type 0) (sees : P → S
       last = makes_last q f.before (OnBlock (LoadBlock c Free)) r (subst (λ (xs : List Step). Makes leads sees q xs r) f.parts made)
 
       kept : KeepsKnown (try.knows q) (try.knows r)
-      kept = keeps_chain try.knows try.shows (try.knows q) (try.knows last.0) (try.knows r) (keeps_all try.knows try.shows q f.before last.0 before_claims last.1)
+      kept = keeps_chain try.knows try.shows (try.knows q) (try.knows last.0) (try.knows r)
+          (keeps_all try.knows try.shows q f.before last.0 before_claims last.1)
           (keeps_one try.knows try.shows last.0 r (OnBlock (LoadBlock c Free)) f.there last.3 last.2)
 
       -- it wasn't known to be swept
@@ -153,7 +160,8 @@ module _ {P : Type 0} (leads : P → List Step → P → Type 0) (sees : P → S
       settled_r = λ d z l h. try.settled d z l (kept.owing d z h)
 
       -- after the exchange it is known to be swept
-      module _ (t : BlockStep) (u : P) (is : IsOfClaimOn size blocks t) (led : leads r (OnBlock t ∷ []) u) (seen : sees r (OnBlock t)) (exchange : IsExchange size c t) (z : ℕ) (swept : (try.knows u).block c ≡ Swept z) where
+      module _ (t : BlockStep) (u : P) (is : IsOfClaimOn size blocks t) (led : leads r (OnBlock t ∷ []) u) (seen : sees r (OnBlock t))
+          (exchange : IsExchange size c t) (z : ℕ) (swept : (try.knows u).block c ≡ Swept z) where
         pub free_trying : IsTrying c 1 p u
         free_trying =
             let k = (try.shows.keeps r u t is seen led).0 in
@@ -176,7 +184,8 @@ module _ {P : Type 0} (leads : P → List Step → P → Type 0) (sees : P → S
           let is : IsOfClaimOn size blocks t = (f.there, refl, refl) in
           free_trying t u is led seen IsWon size ((try.shows.keeps r u t is seen led).1 size refl)
 
-      pub lost_trying : (u : P) (found : BlockWord) → leads r (OnBlock (LostBlock c Free (Swept size) found) ∷ []) u → sees r (OnBlock (LostBlock c Free (Swept size) found)) → IsTrying c 1 p u
+      pub lost_trying : (u : P) (found : BlockWord) → leads r (OnBlock (LostBlock c Free (Swept size) found) ∷ []) u →
+          sees r (OnBlock (LostBlock c Free (Swept size) found)) → IsTrying c 1 p u
       lost_trying u found led seen =
           let t = LostBlock c Free (Swept size) found in
           let is : IsOfClaimOn size blocks t = (f.there, refl, refl) in
@@ -187,13 +196,16 @@ module _ {P : Type 0} (leads : P → List Step → P → Type 0) (sees : P → S
 
       -- whether the exchange is won or lost
       pub swapped : (u : P) (o : Result (Unit {0}) BlockWord) →
-          MatchResult o (λ _. leads r (OnBlock (WonBlock c Free (Swept size)) ∷ []) u) (λ found. leads r (OnBlock (LostBlock c Free (Swept size) found) ∷ []) u) →
-          MatchResult o (λ _. sees r (OnBlock (WonBlock c Free (Swept size)))) (λ found. sees r (OnBlock (LostBlock c Free (Swept size) found))) → IsTrying c 1 p u
+          MatchResult o (λ _. leads r (OnBlock (WonBlock c Free (Swept size)) ∷ []) u)
+          (λ found. leads r (OnBlock (LostBlock c Free (Swept size) found) ∷ []) u) →
+          MatchResult o (λ _. sees r (OnBlock (WonBlock c Free (Swept size)))) (λ found. sees r (OnBlock (LostBlock c Free (Swept size) found))) →
+          IsTrying c 1 p u
       swapped u (Ok x) led seen = won_trying u led seen
       swapped u (Err found) led seen = lost_trying u found led seen
 
     -- a search has found slot i of block c clear
-    module _ (c i : ℕ) (fs : List Step) (r : P) (made : Makes leads sees q fs r) (looks : AreLooks size blocks from fs (Slot c i)) (f : HasFoundSlot size blocks from c i fs) where
+    module _ (c i : ℕ) (fs : List Step) (r : P) (made : Makes leads sees q fs r) (looks : AreLooks size blocks from fs (Slot c i))
+        (f : HasFoundSlot size blocks from c i fs) where
       slot_made : Makes leads sees p (try.es ++ fs) r
       slot_made = makes_then leads sees p try.es q fs r try.made made
 
@@ -207,9 +219,11 @@ module _ {P : Type 0} (leads : P → List Step → P → Type 0) (sees : P → S
       slot_claims = let place = f.place in let there = f.there in passed_claims size from blocks f.n f.before f.passed (omega arith)
 
       -- the states before the last two loads
-      second : (m : P) × Makes leads sees q (f.before ++ OnBlock (LoadBlock c (Swept size)) ∷ []) m × leads m (OnBlock (LoadUsed c f.used) ∷ []) r × sees m (OnBlock (LoadUsed c f.used))
+      second : (m : P) × Makes leads sees q (f.before ++ OnBlock (LoadBlock c (Swept size)) ∷ []) m × leads m (OnBlock (LoadUsed c f.used) ∷ []) r ×
+          sees m (OnBlock (LoadUsed c f.used))
       second = makes_last q (f.before ++ OnBlock (LoadBlock c (Swept size)) ∷ []) (OnBlock (LoadUsed c f.used)) r
-          (subst (λ (xs : List Step). Makes leads sees q xs r) (f.parts ∙ sym (append_assoc f.before (OnBlock (LoadBlock c (Swept size)) ∷ []) (OnBlock (LoadUsed c f.used) ∷ []))) made)
+          (subst (λ (xs : List Step). Makes leads sees q xs r) (f.parts ∙
+          sym (append_assoc f.before (OnBlock (LoadBlock c (Swept size)) ∷ []) (OnBlock (LoadUsed c f.used) ∷ []))) made)
 
       first : (m : P) × Makes leads sees q f.before m × leads m (OnBlock (LoadBlock c (Swept size)) ∷ []) second.0 × sees m (OnBlock (LoadBlock c (Swept size)))
       first = makes_last q f.before (OnBlock (LoadBlock c (Swept size))) second.0 second.1

@@ -5,7 +5,8 @@ use Rattle.std.specs.List.{AllByRecursion}
 use Rattle.sg_words.specs.declared.steps.BlockWord.{BlockWord}
 use Rattle.sg_words.specs.declared.steps.BlockWord.TheVariants.{Free, Swept}
 use Rattle.sg_words.specs.declared.steps.BlockStep.{BlockStep}
-use Rattle.sg_words.specs.declared.steps.BlockStep.TheVariants.{LoadBlock, WonBlock, LostBlock, StoreBlock, LoadUsed, OrUsed, StoreUsed, LoadMarks, OrMarks, StoreMarks, Zero}
+use Rattle.sg_words.specs.declared.steps.BlockStep.TheVariants.{LoadBlock, WonBlock, LostBlock, StoreBlock, LoadUsed, OrUsed, StoreUsed, LoadMarks, OrMarks}
+use Rattle.sg_words.specs.declared.steps.BlockStep.TheVariants.{StoreMarks, Zero}
 use Rattle.sg_words.specs.declared.steps.Step.{Step}
 use Rattle.sg_words.specs.declared.steps.Step.TheVariants.{Load, Store, Won, Lost, OnBlock}
 use Rattle.sg_words.specs.declared.steps.Call.{Call}
@@ -86,7 +87,8 @@ pub record KeepsKnown (w v : Words) : Type 0 where
 -- step sees fits it, and after the step it is still known, and so is what the step has shown.
 pub record ShowsGrowing {P : Type 0} (leads : P → List Step → P → Type 0) (sees : P → Step → Type 0) (size blocks : ℕ) (known : P → Words) : Type 0 where
   pub fits : (p : P) (t : BlockStep) → IsOfClaimOn size blocks t → sees p (OnBlock t) → Fits (known p) t
-  pub keeps : (p q : P) (t : BlockStep) → IsOfClaimOn size blocks t → sees p (OnBlock t) → leads p (OnBlock t ∷ []) q → KeepsKnown (known p) (known q) × Shows t (known q)
+  pub keeps : (p q : P) (t : BlockStep) → IsOfClaimOn size blocks t → sees p (OnBlock t) → leads p (OnBlock t ∷ []) q → KeepsKnown (known p) (known q) ×
+      Shows t (known q)
 
 -- no block is known to be still to be swept, or to be in the midst of it
 abbrev pub IsSettled : Words → ℕ → Type 0
@@ -129,7 +131,8 @@ pub record IsLastSearch (size blocks d : ℕ) (before looks : List Step) (found 
 -- The steps of a claim lead from p to q with this answer: the slot that the last search found, whose bit the last step found clear and set; or none,
 -- where the last search found none, and each block was passed over.
 abbrev pub Claims : {P : Type 0} → (P → List Step → P → Type 0) → (P → Step → Type 0) → ℕ → ℕ → P → P → Option (ℕ × ℕ) → Type 0
-Claims {P} leads sees size blocks p q None = (before : List Step) × (looks : List Step) × Makes leads sees p (before ++ looks) q × IsLastSearch size blocks blocks before looks NoSlot
+Claims {P} leads sees size blocks p q None = (before : List Step) × (looks : List Step) × Makes leads sees p (before ++ looks) q ×
+    IsLastSearch size blocks blocks before looks NoSlot
 Claims {P} leads sees size blocks p q (Some place) = (before : List Step) × (looks : List Step) × (found : ℕ) ×
     Makes leads sees p ((before ++ looks) ++ OnBlock (OrUsed place.0 place.1 found) ∷ []) q ×
     IsLastSearch size blocks place.0 before looks (Slot place.0 place.1) × (place.0 < blocks) × (place.1 < slots size) × (bit_at found place.1 ≡ 0)

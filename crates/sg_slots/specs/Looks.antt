@@ -48,7 +48,10 @@ pub data AreLooks (size blocks from : ℕ) : List Step → Found → Type 0 wher
 
 -- the port lets its actor look for a slot from block `from` on: load the word of each block to which the loads before have led, and its
 -- occupancy where it was seen swept of this size
-pub record MayLook {P : Type 0} (leads : P → List Step → P → Type 0) (sees : P → Step → Type 0) (may : P → Call → Type 0) (size blocks from : ℕ) (p : P) : Type 0 where
-  pub block : (n : ℕ) (es : List Step) (q : P) → ArePassed size from n es → Makes leads sees p es q → from + n < blocks → may q (OnBlocks (LoadsBlock (from + n)))
-  pub used : (n : ℕ) (es : List Step) (q : P) → ArePassed size from n es → Makes leads sees p (es ++ OnBlock (LoadBlock (from + n) (Swept size)) ∷ []) q → from + n < blocks →
+pub record MayLook {P : Type 0} (leads : P → List Step → P → Type 0) (sees : P → Step → Type 0) (may : P → Call → Type 0) (size blocks from : ℕ) (p : P) :
+    Type 0 where
+  pub block : (n : ℕ) (es : List Step) (q : P) → ArePassed size from n es → Makes leads sees p es q → from + n < blocks →
+      may q (OnBlocks (LoadsBlock (from + n)))
+  pub used : (n : ℕ) (es : List Step) (q : P) → ArePassed size from n es → Makes leads sees p (es ++ OnBlock (LoadBlock (from + n) (Swept size)) ∷ []) q →
+      from + n < blocks →
       may q (OnBlocks (LoadsUsed (from + n)))

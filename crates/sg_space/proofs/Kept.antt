@@ -54,9 +54,14 @@ module _ (s : Contents) (words next : List ℕ) where
       marked = b.marked;
     }
 
-    pub page_kept : ((h : ℕ) → owner h ≡ Some h → slice_index words (h + 1) ≡ word s (h + 1)) → (j : ℕ) → IsSoundPage s owner j → IsSoundPage (with_words s words next) other j
+    pub page_kept : ((h : ℕ) → owner h ≡ Some h → slice_index words (h + 1) ≡ word s (h + 1)) → (j : ℕ) → IsSoundPage s owner j →
+        IsSoundPage (with_words s words next) other j
     page_kept same j p = record {
       named = λ q e.
-          let n = p.named q e in
-          (stay (page_base s.layout q) n.0, n.1, subst (λ (k : ℕ). page_base s.layout j < page_base s.layout q + (k + 2)) (sym (same (page_base s.layout q) n.0)) n.2);
+          let n = p.named q e in (
+            stay (page_base s.layout q) n.0,
+            n.1,
+            subst (λ (k : ℕ). page_base s.layout j < page_base s.layout q + (k + 2))
+                (sym (same (page_base s.layout q) n.0)) n.2,
+          );
     }

@@ -11,7 +11,8 @@ use Rattle.sg_space.proofs.Slots.{of_once}
 
 module _ (s : Contents) (h : ℕ) where
   -- it is in one place
-  pub front_inside : (c z i : ℕ) → IsSlotFront s c z i h → (old_base s.layout + 256 * c ≤ h) × (h < old_base s.layout + 256 * c + 256) × (h < large_base s.layout)
+  pub front_inside : (c z i : ℕ) → IsSlotFront s c z i h → (old_base s.layout + 256 * c ≤ h) × (h < old_base s.layout + 256 * c + 256) ×
+      (h < large_base s.layout)
   front_inside c z i f =
       let front = f.front in
       let there = f.there in
@@ -63,7 +64,8 @@ module _ (s : Contents) (h : ℕ) where
       set (BySlot d y j g e) = absurd (not_both d y j g k)
 
   -- and so is the one that is written
-  pub marks_in_slot : (on : Bool) (t : Contents) (c z i : ℕ) → IsSlotFront s c z i h → t ≡ record s { marks = slice_set s.marks c (with_bit on (marks_in s c) i) } → Marks s h on t
+  pub marks_in_slot : (on : Bool) (t : Contents) (c z i : ℕ) → IsSlotFront s c z i h →
+      t ≡ record s { marks = slice_set s.marks c (with_bit on (marks_in s c) i) } → Marks s h on t
   marks_in_slot on t c z i f e = record {
     by_word = λ k. absurd (not_both c z i f k);
     by_slot = λ d y j g.
@@ -71,7 +73,8 @@ module _ (s : Contents) (h : ℕ) where
         (subst (λ (k : ℕ). t ≡ record s { marks = slice_set s.marks c (with_bit on (marks_in s c) k) }) (slot_same c z i d y j f g) e);
   }
 
-  pub marks_in_word : (on : Bool) (t : Contents) → KeepsItself s.layout h → t ≡ record s { words = slice_set s.words h (with_bit on (word s h) 63) } → Marks s h on t
+  pub marks_in_word : (on : Bool) (t : Contents) → KeepsItself s.layout h → t ≡ record s { words = slice_set s.words h (with_bit on (word s h) 63) } →
+      Marks s h on t
   marks_in_word on t k e = record {
     by_word = λ k. e;
     by_slot = λ d y j g. absurd (not_both d y j g k);

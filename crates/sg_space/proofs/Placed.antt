@@ -1,6 +1,7 @@
 -- A space stays sound where a fragment's next word moves up, and where a new object gets its header on words that no object
 -- has and no fragment gives away.
-use Rattle.std.proofs.Common.{◌≡◌, ◌≢◌, ℕ, ◌+◌, ◌%◌, ◌<◌, ◌≤◌, ◌⊎◌, inl, inr, List, length, Option, Some, None, refl, sym, ◌∙◌, subst, arith, slice_get, slice_index, slice_set}
+use Rattle.std.proofs.Common.{◌≡◌, ◌≢◌, ℕ, ◌+◌, ◌%◌, ◌<◌, ◌≤◌, ◌⊎◌, inl, inr, List, length, Option, Some, None, refl, sym, ◌∙◌, subst, arith, slice_get}
+use Rattle.std.proofs.Common.{slice_index, slice_set}
 use Rattle.std.proofs.lemmas.Bool.{cases_lt, cases_eq}
 use Rattle.std.proofs.lemmas.List.{length-set, get_or-set_same, get_or-set_other}
 use Rattle.std.proofs.lemmas.Option.{none-some, same_Some}
@@ -197,7 +198,8 @@ module _ (s : Contents) (owner : ℕ → Option ℕ) (sound : IsSoundBy s owner)
     | inr before ↦ let size = same_fields g before in still x g (sound.whole g x before above (omega (arith, size)))
   ]
 
-  placed_clear : (x : ℕ) → owner_with owner h (shape.fields + 2) x ≡ None → nursery_base ≤ x → x < globals_base s.layout → (IsGarbage (placed s h class shape.fields) x → ⊥) → word (placed s h class shape.fields) x ≡ 0
+  placed_clear : (x : ℕ) → owner_with owner h (shape.fields + 2) x ≡ None → nursery_base ≤ x → x < globals_base s.layout →
+      (IsGarbage (placed s h class shape.fields) x → ⊥) → word (placed s h class shape.fields) x ≡ 0
   placed_clear x e above below garbage = elim (cases x) [
     | inl inside ↦ absurd (none-some h (sym e ∙ inside_is x inside.0 inside.1))
     | inr out ↦ other_is x (grind (arith, out)) (grind (arith, out)) ∙ sound.clear x (sym (outside_is x out) ∙ e) above below (λ g. garbage (record {
@@ -228,7 +230,8 @@ module _ (s : Contents) (owner : ℕ → Option ℕ) (sound : IsSoundBy s owner)
       | inr before ↦ place_kept s words_after s.next g (same_fields g before) (sound.places g before)
     ];
     blocks = λ c l. block_kept s words_after s.next owner (owner_with owner h (shape.fields + 2)) (λ g e. still g g e) c (sound.blocks c l);
-    pages = λ j l. page_kept s words_after s.next owner (owner_with owner h (shape.fields + 2)) (λ g e. still g g e) (λ g e. same_fields g e) j (sound.pages j l);
+    pages = λ j l. page_kept s words_after s.next owner (owner_with owner h (shape.fields + 2)) (λ g e. still g g e) (λ g e. same_fields g e) j
+        (sound.pages j l);
     clear = placed_clear;
     fragments = sound.fragments;
     ordered = sound.ordered;

@@ -40,7 +40,8 @@ can_read s x sound contents front =
       fields = omega arith;
     }
 
-pub reads_at : (s : Contents) (x : ℕ) (o : Object) → IsSound s → IsContents s → IsFront s x → o.at ≡ byte_at x → o.class ≡ word s x / 8 - 1 → o.fields ≡ word s (x + 1) → o.words ≡ o.fields + 2 → TellsAt s x o
+pub reads_at : (s : Contents) (x : ℕ) (o : Object) → IsSound s → IsContents s → IsFront s x → o.at ≡ byte_at x → o.class ≡ word s x / 8 - 1 →
+    o.fields ≡ word s (x + 1) → o.words ≡ o.fields + 2 → TellsAt s x o
 reads_at s x o sound contents front at class fields words =
     let can = can_read s x sound contents front in
     let tag = can.tag in

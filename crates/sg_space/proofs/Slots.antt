@@ -10,7 +10,8 @@ use Rattle.sg_words.proofs.Blocks.{class_bounds, slot_size-holds, slot_fits, slo
 use Rattle.sg_space.specs.declared.objects.Object.{Object}
 use Rattle.sg_space.specs.Space.{Contents}
 use Rattle.sg_space.specs.Laws.{IsInside, PlacingLaw}
-use Rattle.sg_space.specs.Standing.{block_in, used_in, marks_in, page_in, page_base, size_at, IsInNursery, IsInSlot, IsInPages, IsPlaced, IsSoundBy, IsSound, IsFree, IsFront}
+use Rattle.sg_space.specs.Standing.{block_in, used_in, marks_in, page_in, page_base, size_at, IsInNursery, IsInSlot, IsInPages, IsPlaced, IsSoundBy, IsSound}
+use Rattle.sg_space.specs.Standing.{IsFree, IsFront}
 
 -- a block has slots of one size
 pub of_once : (state : BlockWord) (y z : ℕ) → IsOf state y → IsOf state z → y ≡ z
@@ -125,14 +126,18 @@ module _ (s : Contents) (c z x : ℕ) (is : IsIn s c z x) where
       let to = is.to in
       let same : p.block ≡ c = omega arith in
       let size : y ≡ z = of_once (block_in s c) y z (subst (λ (k : ℕ). IsOf (block_in s k) y) same p.sized) is.sized in
-      let front_c : h ≡ slot_base s.layout c z p.slot = front ∙ ap (λ (k : ℕ). slot_base s.layout k y p.slot) same ∙ ap (λ (k : ℕ). slot_base s.layout c k p.slot) size in
-      let slot : p.slot ≡ slot_with s c z x = slot_once (old_base s.layout) c z p.slot (slot_with s c z x) x (omega arith) (omega arith) slot_from_to.0 slot_from_to.1 in (
+      let front_c : h ≡ slot_base s.layout c z p.slot = front ∙ ap (λ (k : ℕ). slot_base s.layout k y p.slot) same ∙
+      ap (λ (k : ℕ). slot_base s.layout c k p.slot) size in
+      let slot : p.slot ≡ slot_with s c z x = slot_once (old_base s.layout) c z p.slot (slot_with s c z x) x (omega arith)
+      (omega arith) slot_from_to.0 slot_from_to.1 in (
         front_c ∙ ap (λ (k : ℕ). slot_base s.layout c z k) slot,
-        subst (λ (k : ℕ). is_taken (block_in s c) (used_in s c) (marks_in s c) k ≡ 1) slot (subst (λ (k : ℕ). is_taken (block_in s k) (used_in s k) (marks_in s k) p.slot ≡ 1) same p.taken),
+        subst (λ (k : ℕ). is_taken (block_in s c) (used_in s c) (marks_in s c) k ≡ 1) slot
+            (subst (λ (k : ℕ). is_taken (block_in s k) (used_in s k) (marks_in s k) p.slot ≡ 1) same p.taken),
         subst (λ (k : ℕ). size_at s h ≤ k) size holds,
       )
 
-  not_taken : (owner : ℕ → Option ℕ) → IsSoundBy s owner → is_taken (block_in s c) (used_in s c) (marks_in s c) (slot_with s c z x) ≡ 0 → (o : Option ℕ) → owner x ≡ o → owner x ≡ None
+  not_taken : (owner : ℕ → Option ℕ) → IsSoundBy s owner → is_taken (block_in s c) (used_in s c) (marks_in s c) (slot_with s c z x) ≡ 0 → (o : Option ℕ) →
+      owner x ≡ o → owner x ≡ None
   not_taken owner sound clear None e = e
   not_taken owner sound clear (Some h) e = let t = (at_slot owner sound h e).1 in absurd (omega arith)
 
@@ -144,7 +149,8 @@ module _ (s : Contents) (c z x : ℕ) (is : IsIn s c z x) where
   pub slot_front : is_taken (block_in s c) (used_in s c) (marks_in s c) (slot_with s c z x) ≡ 1 → IsFront s (slot_base s.layout c z (slot_with s c z x))
   slot_front set = record { begins = λ owner sound. ((sound.blocks c is.there).filled z (slot_with s c z x) is.sized set).1 }
 
-  past : (owner : ℕ → Option ℕ) → IsSoundBy s owner → (h : ℕ) → h ≡ slot_base s.layout c z (slot_with s c z x) → h + size_at s h ≤ x → (o : Option ℕ) → owner x ≡ o → owner x ≡ None
+  past : (owner : ℕ → Option ℕ) → IsSoundBy s owner → (h : ℕ) → h ≡ slot_base s.layout c z (slot_with s c z x) → h + size_at s h ≤ x → (o : Option ℕ) →
+      owner x ≡ o → owner x ≡ None
   past owner sound h at behind None e = e
   past owner sound h at behind (Some g) e =
       let same : g ≡ h = (at_slot owner sound g e).0 ∙ sym at in
@@ -157,7 +163,8 @@ module _ (s : Contents) (c z x : ℕ) (is : IsIn s c z x) where
   slot_behind h at behind = record { none = λ owner sound. past owner sound h at behind (owner x) refl }
 
 -- no object has a word of a free block
-module _ (s : Contents) (c x : ℕ) (there : c < s.layout.blocks) (free : block_in s c ≡ Free) (from : block_base s.layout c ≤ x) (to : x < block_base s.layout c + 256) where
+module _ (s : Contents) (c x : ℕ) (there : c < s.layout.blocks) (free : block_in s c ≡ Free) (from : block_base s.layout c ≤ x)
+    (to : x < block_base s.layout c + 256) where
   pub not_free : (owner : ℕ → Option ℕ) → IsSoundBy s owner → (o : Option ℕ) → owner x ≡ o → owner x ≡ None
   not_free owner sound None e = e
   not_free owner sound (Some h) e =
@@ -208,7 +215,8 @@ module _ (s : Contents) (j x : ℕ) (is : IsOnPage s j x) where
   pub page_above : IsSound s → (q : ℕ) → page_in s j ≡ q + 1 → page_base s.layout q ≤ x
   page_above sound q e = let l = ((sound.1.pages j is.there).named q e).1 in let from = is.from in omega arith
 
-  beyond : (owner : ℕ → Option ℕ) → IsSoundBy s owner → (q h : ℕ) → page_in s j ≡ q + 1 → h ≡ page_base s.layout q → h + size_at s h ≤ x → (o : Option ℕ) → owner x ≡ o → owner x ≡ None
+  beyond : (owner : ℕ → Option ℕ) → IsSoundBy s owner → (q h : ℕ) → page_in s j ≡ q + 1 → h ≡ page_base s.layout q → h + size_at s h ≤ x → (o : Option ℕ) →
+      owner x ≡ o → owner x ≡ None
   beyond owner sound q h e at behind None n = n
   beyond owner sound q h e at behind (Some g) n =
       let named = named_by owner sound g n in

@@ -23,5 +23,6 @@ pub record PlacingLaw : Type 0 where
   pub in_free : (s : Contents) (owner : ℕ → Option ℕ) → IsSoundBy s owner → (c x : ℕ) → c < s.layout.blocks → block_in s c ≡ Free →
       block_base s.layout c ≤ x → x < block_base s.layout c + 256 → owner x ≡ None
   -- what has a word of a page stands at the front of the page that its word names
-  pub on_page : (s : Contents) (owner : ℕ → Option ℕ) → IsSoundBy s owner → (j x h : ℕ) → j < s.layout.pages → page_base s.layout j ≤ x → x < page_base s.layout j + 128 →
+  pub on_page : (s : Contents) (owner : ℕ → Option ℕ) → IsSoundBy s owner → (j x h : ℕ) → j < s.layout.pages → page_base s.layout j ≤ x →
+      x < page_base s.layout j + 128 →
       owner x ≡ Some h → (p : ℕ) × (h ≡ page_base s.layout p) × (page_in s j ≡ p + 1)

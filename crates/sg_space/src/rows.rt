@@ -1,6 +1,7 @@
 // The cards, the pages, the ready row, the registrations and the pairs.
 
-ghost use Rattle.std.specs.Prelude.{◌≡◌, ◌+◌, ◌++◌, ◌∷◌, [], ◌<◌, ◌≤◌, ◌^◌, ◌⊎◌, ◌↔◌, true, false, ℕ, OnErr, OnOk, if◌then◌else◌, length, slice_index, slice_set};
+ghost use Rattle.std.specs.Prelude.{◌≡◌, ◌+◌, ◌++◌, ◌∷◌, [], ◌<◌, ◌≤◌, ◌^◌, ◌⊎◌, ◌↔◌, true, false, ℕ, OnErr, OnOk, if◌then◌else◌, length, slice_index};
+ghost use Rattle.std.specs.Prelude.{slice_set};
 ghost use Rattle.std.specs.List.{remove};
 ghost use Rattle.sg_words.specs.Sections.{ready_base};
 ghost use Rattle.sg_space.specs.Space.{IsContents};

@@ -4,7 +4,8 @@ ghost use Rattle.sg_words.specs.Sections.{nursery_base, old_base, large_base, gl
 ghost use Rattle.sg_words.specs.Blocks.{IsOf, is_taken, block_base};
 ghost use Rattle.std.specs.Int.{bit_at};
 ghost use Rattle.sg_space.specs.Space.{IsContents};
-ghost use Rattle.sg_space.specs.Standing.{word, size_at, block_in, used_in, marks_in, page_base, IsSoundBy, IsSound, IsToldOf, TellsYoung, IsClearAt, IsFree, AreFree, IsFront, IsNoFront, TellsAt, HoldsWord, HasByte};
+ghost use Rattle.sg_space.specs.Standing.{word, size_at, block_in, used_in, marks_in, page_base, IsSoundBy, IsSound, IsToldOf, TellsYoung, IsClearAt, IsFree};
+ghost use Rattle.sg_space.specs.Standing.{AreFree, IsFront, IsNoFront, TellsAt, HoldsWord, HasByte};
 
 use crate::objects::Object;
 use crate::space::Space;

@@ -5,7 +5,8 @@ use Rattle.sg_slots.specs.Looks.{IsLowest}
 use Rattle.sg_slots.proofs.search.lowest_clear.Goals as goal
 
 pub returns-then-used-eq18446744073709551615 : goal.returns-then-used-eq18446744073709551615
-returns-then-used-eq18446744073709551615 c = λ i l. ap (λ (v : ℕ). bit_at v i) c.if-used-eq18446744073709551615.true ∙ bit_at_ones 64 i (let most = c.requires in omega arith)
+returns-then-used-eq18446744073709551615 c = λ i l. ap (λ (v : ℕ). bit_at v i) c.if-used-eq18446744073709551615.true ∙
+    bit_at_ones 64 i (let most = c.requires in omega arith)
 
 pub returns-then-slot-slots : goal.returns-then-slot-slots
 returns-then-slot-slots c =

@@ -14,5 +14,8 @@ returns-clause-led c =
     let s = c.args.self.now.space.now in
     let bit : 1 * 2 ^ c.args.slot % 2 ^ 64 ≡ 2 ^ c.args.slot = shifted c.args.slot c.requires.may.1 in
     let mask : bit_or c.used-found.result (1 * 2 ^ c.args.slot % 2 ^ 64) ≡ bit_or c.used-found.result (2 ^ c.args.slot) = ap (bit_or c.used-found.result) bit in
-    let with : ℕ → Contents = λ m. record s { used = slice_set s.used c.args.b m } in
-    (refl, led_claim s c.set_used.new.self c.args.b c.args.slot c.used-found.result c.requires.may.0 (sym c.used-found.ensures) (c.set_used.ensures ∙ ap with mask))
+    let with : ℕ → Contents = λ m. record s { used = slice_set s.used c.args.b m } in (
+      refl,
+      led_claim s c.set_used.new.self c.args.b c.args.slot c.used-found.result c.requires.may.0 (sym c.used-found.ensures) (c.set_used.ensures ∙
+          ap with mask),
+    )

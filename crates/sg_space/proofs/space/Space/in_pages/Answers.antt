@@ -15,7 +15,8 @@ on_page c =
     let to = c.requires.to in
     record { there = omega arith; from = omega arith; to = omega arith }
 
-named : (c : goal.After-page-first) → c.page-first.result ≢ 0 → page_in c.args.self.now ((c.args.x - c.large_word-base.result) / 128) ≡ (c.page-first.result - 1) + 1
+named : (c : goal.After-page-first) → c.page-first.result ≢ 0 → page_in c.args.self.now ((c.args.x - c.large_word-base.result) / 128) ≡
+    (c.page-first.result - 1) + 1
 named c some = let e = c.page-first.ensures in omega arith
 
 front_is : (c : goal.After-page-first) → c.large_word-base.result + 128 * (c.page-first.result - 1) ≡ page_base c.args.self.now.layout (c.page-first.result - 1)
@@ -25,7 +26,8 @@ above : (c : goal.After-page-first) → c.page-first.result ≢ 0 → page_base 
 above c some = page_above c.args.self.now _ c.args.x (on_page c) c.requires.sound (c.page-first.result - 1) (named c some)
 
 pub returns-then-first-eq0 : goal.returns-then-first-eq0
-returns-then-first-eq0 c = page_free c.args.self.now _ c.args.x (on_page (goal.at.returns-then-first-eq0 c).After-page-first) (sym c.page-first.ensures ∙ c.if-first-eq0.true)
+returns-then-first-eq0 c = page_free c.args.self.now _ c.args.x (on_page (goal.at.returns-then-first-eq0 c).After-page-first) (sym c.page-first.ensures ∙
+    c.if-first-eq0.true)
 
 pub returns-else-first-eq0 : goal.returns-else-first-eq0
 returns-else-first-eq0 c =
@@ -36,7 +38,8 @@ returns-else-first-eq0 c =
 pub reaching-requires-clause-front : goal.reaching-requires-clause-front
 reaching-requires-clause-front c =
     let o = (goal.at.reaching-requires-clause-front c).After-page-first in
-    subst (IsFront c.args.self.now) (sym (front_is o)) (page_front c.args.self.now _ c.args.x (on_page o) (c.page-first.result - 1) (named o c.if-first-eq0.false))
+    subst (IsFront c.args.self.now) (sym (front_is o)) (page_front c.args.self.now _ c.args.x (on_page o) (c.page-first.result - 1)
+    (named o c.if-first-eq0.false))
 
 pub reaching-requires-clause-above : goal.reaching-requires-clause-above
 reaching-requires-clause-above c =

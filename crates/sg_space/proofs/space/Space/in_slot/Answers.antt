@@ -17,7 +17,14 @@ size_some : (c : goal.After-old_word) → (4 ≤ c.args.size) × (c.args.size �
 size_some c = class_bounds c.args.size ((c.requires.sound.1.blocks c.args.block c.requires.there).sized c.args.size c.requires.sized)
 
 is_in : (c : goal.After-old_word) → IsIn c.args.self.now c.args.block c.args.size c.args.x
-is_in c = record { there = c.requires.there; sized = c.requires.sized; some = let some = (size_some c).0 in omega arith; from = c.requires.from; to = c.requires.to }
+is_in c = record {
+  there = c.requires.there;
+  sized = c.requires.sized;
+  some = let some = (size_some c).0 in
+      omega arith;
+  from = c.requires.from;
+  to = c.requires.to;
+}
 
 few_slots : (y z : ℕ) → 4 ≤ z → y < 256 → y / z < 64
 few_slots y z some l = let h = mul-div-le y z in grind (arith, h)
@@ -32,10 +39,12 @@ overflow_shr-mask c =
     few_slots _ _ (size_some c).0 (omega arith)
 
 taken : (c : goal.After-old_word) (b : ℕ) → bit_at c.args.mask (slot_with c.args.self.now c.args.block c.args.size c.args.x) ≡ b →
-    is_taken (block_in c.args.self.now c.args.block) (used_in c.args.self.now c.args.block) (marks_in c.args.self.now c.args.block) (slot_with c.args.self.now c.args.block c.args.size c.args.x) ≡ b
+    is_taken (block_in c.args.self.now c.args.block) (used_in c.args.self.now c.args.block) (marks_in c.args.self.now c.args.block)
+    (slot_with c.args.self.now c.args.block c.args.size c.args.x) ≡ b
 taken c b e = sym (c.requires.mask _) ∙ e
 
-at_front : (c : goal.After-old_word) → c.old_word.result + 256 * c.args.block + c.args.size * ((c.args.x - (c.old_word.result + 256 * c.args.block)) / c.args.size)
+at_front : (c : goal.After-old_word) → c.old_word.result + 256 * c.args.block + c.args.size *
+    ((c.args.x - (c.old_word.result + 256 * c.args.block)) / c.args.size)
     ≡ slot_base c.args.self.now.layout c.args.block c.args.size (slot_with c.args.self.now c.args.block c.args.size c.args.x)
 at_front c = ap (λ (n : ℕ). n + c.args.size * ((c.args.x - n) / c.args.size)) (base_is c)
 
@@ -54,9 +63,11 @@ pub returns-then-mask-slot-eq0 : goal.returns-then-mask-slot-eq0
 returns-then-mask-slot-eq0 c =
     let o = (goal.at.returns-then-mask-slot-eq0 c).After-old_word in
     let e = ap (λ (n : ℕ). (c.args.x - n) / c.args.size) (base_is o) in
-    slot_free c.args.self.now c.args.block c.args.size c.args.x (is_in o) (taken o 0 (sym (ap (bit_at c.args.mask) e) ∙ sym (shr_and_one c.args.mask _) ∙ c.if-mask-slot-eq0.true))
+    slot_free c.args.self.now c.args.block c.args.size c.args.x (is_in o)
+    (taken o 0 (sym (ap (bit_at c.args.mask) e) ∙ sym (shr_and_one c.args.mask _) ∙ c.if-mask-slot-eq0.true))
 
 pub returns-else-mask-slot-eq0 : goal.returns-else-mask-slot-eq0
 returns-else-mask-slot-eq0 c =
     let o = (goal.at.returns-else-mask-slot-eq0 c).After-old_word in
-    none_weaker (HoldsWord c.args.self.now c.args.x) c.reaching.result (slot_behind c.args.self.now c.args.block c.args.size c.args.x (is_in o) _ (at_front o)) c.reaching.ensures
+    none_weaker (HoldsWord c.args.self.now c.args.x) c.reaching.result (slot_behind c.args.self.now c.args.block c.args.size c.args.x (is_in o) _ (at_front o))
+    c.reaching.ensures
