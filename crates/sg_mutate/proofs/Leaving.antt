@@ -22,7 +22,8 @@ record IsBeside (w v : Words) : Type 0 where
 beside_on : (u v w : Words) → IsBeside u v → IsBeside v w → IsBeside u w
 beside_on u v w h k = record { block = k.block ∙ h.block; used = k.used ∙ h.used; head = k.head ∙ h.head }
 
-leaves_step : (p : Program) (lay : Constants) (a : Actor) (step : Step) (decides : Bool) (b : Actor) → Comes p lay a step decides b → (w : Words) → IsBeside w (after_step w step)
+leaves_step : (p : Program) (lay : Constants) (a : Actor) (step : Step) (decides : Bool) (b : Actor) → Comes p lay a step decides b → (w : Words) → IsBeside w
+    (after_step w step)
 leaves_step p lay _ _ _ _ (test_null x0 x1 x2 x3 x4 x5) w = record { block = refl; used = refl; head = refl }
 leaves_step p lay _ _ _ _ (test_begins x0 x1 x2 x3 x4 x5) w = record { block = refl; used = refl; head = refl }
 leaves_step p lay _ _ _ _ (loads_tag x0 x1 x2 x3 x4 x5) w = record { block = refl; used = refl; head = refl }
@@ -61,14 +62,17 @@ leaves_step p lay _ _ _ _ (claim_goes_on x0 x1 x2 x3 x4 x5 x6 x7) w = record { b
 leaves_step p lay _ _ _ _ (stores_length x0 x1 x2 x3) w = record { block = refl; used = refl; head = refl }
 leaves_step p lay _ _ _ _ (stores_tag x0 x1 x2 x3) w = record { block = refl; used = refl; head = refl }
 
-leaves_more : (p : Program) (lay : Constants) (a : Actor) (steps : List Step) (b : Actor) → FollowsBy (ActsOn p lay) a steps b → (w : Words) → IsBeside w (replayed w steps)
+leaves_more : (p : Program) (lay : Constants) (a : Actor) (steps : List Step) (b : Actor) → FollowsBy (ActsOn p lay) a steps b → (w : Words) → IsBeside w
+    (replayed w steps)
 leaves_more p lay a [] b f w = record { block = refl; used = refl; head = refl }
 leaves_more p lay a (step ∷ steps) b f w =
-    beside_on w (after_step w step) (replayed (after_step w step) steps) (leaves_step p lay a step f.1.1.0 f.0 f.1.1.1 w) (leaves_more p lay f.0 steps b f.2 (after_step w step))
+    beside_on w (after_step w step) (replayed (after_step w step) steps) (leaves_step p lay a step f.1.1.0 f.0 f.1.1.1 w)
+        (leaves_more p lay f.0 steps b f.2 (after_step w step))
 
 leaves_turn : (p : Program) (lay : Constants) (a : Actor) (steps : List Step) (b : Actor) → IsTurn p lay a steps b → (w : Words) → IsBeside w (replayed w steps)
 leaves_turn p lay a steps b turn w = subst (λ (ss : List Step). IsBeside w (replayed w ss)) (sym turn.steps_are)
-    (beside_on w (after_step w turn.first) (replayed (after_step w turn.first) turn.more) (leaves_step p lay a turn.first turn.begins.0 turn.then turn.begins.1 w)
+    (beside_on w (after_step w turn.first) (replayed (after_step w turn.first) turn.more)
+        (leaves_step p lay a turn.first turn.begins.0 turn.then turn.begins.1 w)
     (leaves_more p lay turn.then turn.more b turn.goes (after_step w turn.first)))
 
 leaves_led : (s t : Contents) (steps : List Step) → Led s steps t → IsBeside (words_of s) (replayed (words_of s) steps) → LeavesBlocks s t
