@@ -46,6 +46,25 @@ def long_list():
     return program('nursery 65536\nblocks 4096\n', NODE, 'repeat 87000\nnew r0 N\nput r0 0 r1\nmove r1 r0\nend\n')
 
 
+def with_old_list(nodes, pauses):
+    """A list that is promoted, and then pauses, each after one `new` that a global holds."""
+    return program('nursery 4096\nblocks 4096\n', 'class N map r.\n',
+                   f'repeat {nodes}\nnew r0 N\nput r0 0 r1\ngput 0 r0\nmove r1 r0\nend\ndrop r0\ndrop r1\n'
+                   f'repeat {pauses}\nnew r2 N\ngput 1 r2\ndrop r2\ncollect minor\nend\n')
+
+
+def no_old_list():
+    return with_old_list(1, 3000)
+
+
+def old_list():
+    return with_old_list(40000, 2000)
+
+
+def long_old_list():
+    return with_old_list(120000, 3000)
+
+
 def wide_objects():
     return program('', 'class W plain 62\n', 'new r0 W\n' * 60000)
 
@@ -89,6 +108,9 @@ INPUTS = [
     (news, 'a million `new`s of 5 words by two repeats, over a nursery of 4,096 words', ['run']),
     (one_epoch, 'a million `num`s by two repeats: one epoch', ['run']),
     (long_list, 'a list of 87,000 objects by a repeat, with the largest nursery and major heap', ['run']),
+    (no_old_list, '3,000 pauses, each after one `new`, over 4,096 blocks and one old object', ['run']),
+    (old_list, 'a list of 40,000 objects that is promoted, and then 2,000 such pauses', ['run']),
+    (long_old_list, 'a list of 120,000 objects that is promoted, and then 3,000 such pauses', ['run']),
     (wide_objects, '60,000 `new`s of 64 words over the default nursery', ['run']),
     (names, '250 classes with names of 26 bytes, and 26,000 `new`s of them', ['run']),
     (empty_repeats, 'four nested repeats of 1,048,576 over nothing', ['run']),
