@@ -67,12 +67,12 @@ leaves_more : (p : Program) (lay : Constants) (a : Actor) (steps : List Step) (b
 leaves_more p lay a [] b f w = record { block = refl; used = refl; head = refl }
 leaves_more p lay a (step ∷ steps) b f w =
     beside_on w (after_step w step) (replayed (after_step w step) steps) (leaves_step p lay a step f.1.1.0 f.0 f.1.1.1 w)
-        (leaves_more p lay f.0 steps b f.2 (after_step w step))
+    (leaves_more p lay f.0 steps b f.2 (after_step w step))
 
 leaves_turn : (p : Program) (lay : Constants) (a : Actor) (steps : List Step) (b : Actor) → IsTurn p lay a steps b → (w : Words) → IsBeside w (replayed w steps)
 leaves_turn p lay a steps b turn w = subst (λ (ss : List Step). IsBeside w (replayed w ss)) (sym turn.steps_are)
     (beside_on w (after_step w turn.first) (replayed (after_step w turn.first) turn.more)
-        (leaves_step p lay a turn.first turn.begins.0 turn.then turn.begins.1 w)
+    (leaves_step p lay a turn.first turn.begins.0 turn.then turn.begins.1 w)
     (leaves_more p lay turn.then turn.more b turn.goes (after_step w turn.first)))
 
 leaves_led : (s t : Contents) (steps : List Step) → Led s steps t → IsBeside (words_of s) (replayed (words_of s) steps) → LeavesBlocks s t
