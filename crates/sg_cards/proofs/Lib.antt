@@ -5,3 +5,4 @@ pub mod Scans
 pub mod Carded
 pub mod Seeding
 pub mod Cleaned
+pub mod Vector
