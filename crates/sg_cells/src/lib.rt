@@ -10,7 +10,7 @@ mod port;
 mod schedule;
 
 pub use gate::{Gate, OpenGate};
-pub use port::{BlockPort, FragPort, Port, WordPort};
+pub use port::{BlockPort, FragPort, Port, SweepPort, WordPort};
 pub use schedule::ScheduleDriver;
 
 #[cfg(test)]

@@ -3,10 +3,14 @@ ghost use Rattle.sg_words.specs.Address.{byte_at, word_at};
 ghost use Rattle.sg_words.specs.declared.steps.Place.TheVariants.{Stop, Next, Word, Card, Head};
 ghost use Rattle.sg_words.specs.declared.steps.Step.{Step};
 ghost use Rattle.sg_words.specs.declared.steps.Step.TheVariants.{Load, Store, Won, Lost, OnBlock};
-ghost use Rattle.sg_words.specs.declared.steps.BlockStep.TheVariants.{LoadBlock, WonBlock, LostBlock, LoadUsed, OrUsed};
+ghost use Rattle.sg_words.specs.declared.steps.BlockStep.TheVariants.{LoadBlock, WonBlock, LostBlock, StoreBlock, LoadUsed, OrUsed, StoreUsed};
 ghost use Rattle.sg_words.specs.declared.steps.Call.{Call};
 ghost use Rattle.sg_words.specs.declared.steps.Call.TheVariants.{Loads, Stores, Swaps, OnBlocks};
-ghost use Rattle.sg_words.specs.declared.steps.BlockCall.TheVariants.{LoadsBlock, SwapsBlock, LoadsUsed, OrsUsed};
+ghost use Rattle.sg_words.specs.declared.steps.BlockCall.TheVariants.{LoadsBlock, SwapsBlock, StoresBlock, LoadsUsed, OrsUsed, StoresUsed};
+ghost use Rattle.sg_words.specs.Blocks.{IsSizeClass, slots, slot_from};
+ghost use Rattle.sg_words.specs.Sweeps.{zero_steps};
+ghost use Rattle.sg_cells.specs.Allowed.{MayMake};
+ghost use Rattle.sg_cells.specs.Made.{Makes};
 
 use sg_words::BlockWord;
 
@@ -144,4 +148,40 @@ pub trait BlockPort: Port {
 
     /// No step changes how many blocks there are.
     ghost fixed_blocks: { (p q : Self) (es : List Step) → Self.Port.leads p es q → blocks q ≡ blocks p };
+}
+
+/// The blocks of the major heap for who sweeps them: their marks, and the stores of a sweep. Sizes are in words.
+pub trait SweepPort: BlockPort {
+    /// The marks of each block, and the first word of block 0: no step changes them.
+    ghost marks: { Self → ℕ → ℕ };
+
+    ghost heap: { Self → ℕ };
+
+    /// The marks of this block, a bit for each slot. No step.
+    fn marks(&self, b: u32) -> u64
+        requires { b < Self.blocks self.now }
+        ensures { result ≡ Self.marks self.now b };
+
+    /// The occupancy of this block becomes `mask`: one store.
+    fn set_used(&mut self, b: u32, mask: u64)
+        requires may { Self.may self.old (OnBlocks (StoresUsed b mask)) }
+        ensures led { Self.leads self.old (OnBlock (StoreUsed b mask) ∷ []) self.new }
+        ensures seen { Self.sees self.old (OnBlock (StoreUsed b mask)) };
+
+    /// The words of this slot become zero, in order: one step for each.
+    fn zero_slot(&mut self, b: u32, slot: u32, size: u32)
+        requires there { b < Self.blocks self.old }
+        requires class { IsSizeClass size }
+        requires fits { slot < slots size }
+        requires may { MayMake Self.leads Self.sees Self.may self.old (zero_steps (slot_from (Self.heap self.old) b size slot) size) }
+        ensures { Makes Self.leads Self.sees self.old (zero_steps (slot_from (Self.heap self.old) b size slot) size) self.new };
+
+    /// The word of this block becomes `word`: one store.
+    fn set_block(&mut self, b: u32, word: BlockWord)
+        requires may { Self.may self.old (OnBlocks (StoresBlock b word)) }
+        ensures led { Self.leads self.old (OnBlock (StoreBlock b word) ∷ []) self.new }
+        ensures seen { Self.sees self.old (OnBlock (StoreBlock b word)) };
+
+    /// No step changes the marks of a block, nor where block 0 begins.
+    ghost fixed_sweep: { (p q : Self) (es : List Step) → Self.Port.leads p es q → (marks q ≡ marks p) × (heap q ≡ heap p) };
 }

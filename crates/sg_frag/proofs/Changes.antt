@@ -7,7 +7,7 @@ use Rattle.std.proofs.lemmas.Bool.{cases_eq}
 use Rattle.std.specs.Int.Bits.{bit_or}
 use Rattle.sg_words.specs.declared.steps.BlockWord.{BlockWord}
 use Rattle.sg_words.specs.declared.steps.BlockWord.TheVariants.{Free}
-use Rattle.sg_words.specs.declared.steps.BlockStep.TheVariants.{WonBlock, OrUsed}
+use Rattle.sg_words.specs.declared.steps.BlockStep.TheVariants.{WonBlock, OrUsed, StoreUsed}
 use Rattle.sg_words.specs.declared.steps.Place.TheVariants.{Next, Word, Card}
 use Rattle.sg_words.specs.declared.steps.Step.TheVariants.{Store, Won, OnBlock}
 use Rattle.sg_words.specs.Words.{put}
@@ -112,6 +112,30 @@ led_block s t b seen new l is e = record {
       words = refl;
       blocks = n;
       used = refl;
+      cards = refl;
+      marks = refl;
+      pages = refl;
+      made = refl;
+      registered = refl;
+      pairs = refl;
+    }
+
+pub led_used : (s t : Contents) (b v : ℕ) → b < length s.used → t ≡ record s { used = slice_set s.used b v } → Led s (OnBlock (StoreUsed b v) ∷ []) t
+led_used s t b v l e = record {
+  legal = (tt, tt);
+  words = ap words_of e ∙ ap (λ (f : ℕ → ℕ). record (words_of s) { used = f }) (put_set s.used b v 0 l);
+  keeps = subst (KeepsSections s) (sym e) (kept s (slice_set s.used b v) (length-set s.used b v));
+}
+  where
+    kept : (s : Contents) (used : List ℕ) → length used ≡ length s.used → KeepsSections s (record s { used = used })
+    kept s used n = record {
+      layout = refl;
+      shapes = refl;
+      ends = refl;
+      next = refl;
+      words = refl;
+      blocks = refl;
+      used = n;
       cards = refl;
       marks = refl;
       pages = refl;

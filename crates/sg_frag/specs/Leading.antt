@@ -1,6 +1,7 @@
 -- How steps lead on over a space.
 use Rattle.std.proofs.Common.{◌≡◌, ℕ, List, [], ◌∷◌, ◌++◌, length, slice_index, refl, sym, ap, ◌∙◌, subst}
 use Rattle.sg_words.specs.Address.{word_at}
+use Rattle.sg_words.specs.Sections.{old_base}
 use Rattle.sg_words.specs.Words.{Words, replayed, IsLegal, after_step}
 use Rattle.sg_words.specs.declared.steps.Step.{Step}
 use Rattle.sg_space.specs.Space.{Contents, words_of}
@@ -68,3 +69,10 @@ led_fixed s t es h = (ap length h.keeps.ends, ap limit_of h.keeps.ends)
 -- how many blocks there are
 pub blocks_fixed : (s t : Contents) (es : List Step) → Led s es t → length t.blocks ≡ length s.blocks
 blocks_fixed s t es h = h.keeps.blocks
+
+-- the marks of each block, and where the major heap begins
+abbrev pub marks_of : List ℕ → ℕ → ℕ
+marks_of marks b = slice_index marks b
+
+pub sweep_fixed : (s t : Contents) (es : List Step) → Led s es t → (marks_of t.marks ≡ marks_of s.marks) × (old_base t.layout ≡ old_base s.layout)
+sweep_fixed s t es h = (ap marks_of h.keeps.marks, ap old_base h.keeps.layout)

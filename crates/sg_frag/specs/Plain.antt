@@ -37,19 +37,19 @@ pub record Led (s : Contents) (es : List Step) (t : Contents) : Type 0 where
 abbrev pub IsWordOf : Contents → ℕ → Type 0
 IsWordOf s x = IsInSection s.layout x × (x < 2 ^ 37) × (x < length s.words)
 
--- The calls that a port over the space allows on blocks: loads of their words and occupancies, exchanges of their words, and claims of
--- slots.
+-- The calls that a port over the space allows on blocks: loads and stores of their words and occupancies, exchanges of their words, claims of
+-- slots, and the zeroing of words of its sections. No call changes marks.
 abbrev pub MayCallBlock : Contents → BlockCall → Type 0
 MayCallBlock s (LoadsBlock b) = b < length s.blocks
 MayCallBlock s (SwapsBlock b seen new) = b < length s.blocks
-MayCallBlock s (StoresBlock b new) = ⊥
+MayCallBlock s (StoresBlock b new) = b < length s.blocks
 MayCallBlock s (LoadsUsed b) = b < length s.used
 MayCallBlock s (OrsUsed b slot) = (b < length s.used) × (slot < 64)
-MayCallBlock s (StoresUsed b new) = ⊥
+MayCallBlock s (StoresUsed b new) = b < length s.used
 MayCallBlock s (LoadsMarks b) = ⊥
 MayCallBlock s (OrsMarks b slot) = ⊥
 MayCallBlock s (StoresMarks b new) = ⊥
-MayCallBlock s (Zeroes x) = ⊥
+MayCallBlock s (Zeroes x) = IsWordOf s x
 
 -- The calls that it allows: loads and stores of words of its sections, loads and exchanges of the next words of its fragments and of the
 -- ready row's head, loads of the stop word and the store of 1 to it, the store of 1 to a card, and those on blocks. It has no offer cells.

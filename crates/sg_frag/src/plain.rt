@@ -3,11 +3,12 @@ ghost use Rattle.std.proofs.Common.{refl, ◌∙◌};
 ghost use Rattle.sg_words.specs.Words.{Saw};
 ghost use Rattle.sg_space.specs.Space.{words_of};
 ghost use Rattle.sg_frag.specs.Plain.{Led, MayCall};
-ghost use Rattle.sg_frag.specs.Leading.{led_none, led_chain, led_fixed, blocks_fixed, limit_of};
+ghost use Rattle.sg_words.specs.Sections.{old_base};
+ghost use Rattle.sg_frag.specs.Leading.{led_none, led_chain, led_fixed, blocks_fixed, sweep_fixed, limit_of, marks_of};
 
-use sg_cells::{BlockPort, FragPort, Port, WordPort};
+use sg_cells::{BlockPort, FragPort, Port, SweepPort, WordPort};
 use sg_space::Space;
-use sg_words::{Addr, BlockWord};
+use sg_words::{Addr, BLOCK_WORDS, BlockWord};
 
 /// A port over a lent space: each call is done at once, on the space.
 #[derive(Drop)]
@@ -131,5 +132,33 @@ impl<'a> BlockPort for PlainPort<'a> {
         let found = self.space.used(b);
         self.space.set_used(b, found | (1 << slot));
         found
+    }
+}
+
+impl<'a> SweepPort for PlainPort<'a> {
+    ghost marks = { λ p. marks_of p.space.now.marks };
+
+    ghost heap = { λ p. old_base p.space.now.layout };
+
+    ghost fixed_sweep = { λ p q es h. sweep_fixed p.space.now q.space.now es h.1 };
+
+    fn marks(&self, b: u32) -> u64 {
+        // That there are marks for each block stands in what the layout ensures.
+        let _ = self.space.layout();
+        self.space.marks(b)
+    }
+
+    fn set_used(&mut self, b: u32, mask: u64) {
+        self.space.set_used(b, mask);
+    }
+
+    fn zero_slot(&mut self, b: u32, slot: u32, size: u32) {
+        let block = self.space.layout().old_word() + BLOCK_WORDS * b as u64;
+        let first = block + size as u64 * slot as u64;
+        self.space.clear(Addr::at_word(first), size as u64);
+    }
+
+    fn set_block(&mut self, b: u32, word: BlockWord) {
+        self.space.set_block(b, word);
     }
 }

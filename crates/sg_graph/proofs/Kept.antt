@@ -9,7 +9,7 @@ use Rattle.sg_graph.specs.Graph.{Graph}
 use Rattle.sg_graph.specs.Book.{Book, IsWordOf, IsApart}
 use Rattle.sg_graph.specs.Pause.{IsPointedInto, Reach}
 use Rattle.sg_graph.specs.Minor.{move_of, IsMinorPause}
-use Rattle.sg_graph.specs.Laws.{KeepsPointedInto}
+use Rattle.sg_graph.specs.Laws.{KeepsPointedInto, KeepsInMajor}
 
 -- a root is reached by any number of rounds
 root_stays : (p : Program) (g : Graph) (root : ℕ → Type 0) (k n : ℕ) → root n → Reach p g root k n
@@ -47,3 +47,7 @@ keeps_pointed_into = record {
   stands = λ p g b ambiguous report h c apart pause n d q points. (kept_in_place p g b ambiguous report h c apart pause n d q points).0;
   stays = λ p g b ambiguous report h c apart pause n d q points. (kept_in_place p g b ambiguous report h c apart pause n d q points).1;
 }
+
+pub keeps_in_major : KeepsInMajor
+keeps_in_major p g b ambiguous report h c pause n d q points =
+    pause.keeps.stands n d ∙ (pause.keeps.pause.keeps n d).1 (root_stays p g _ g.count n (inl (d, q, inl points)))

@@ -11,6 +11,7 @@ use Rattle.sg_graph.specs.Graph.{Graph, Ref, Link}
 use Rattle.sg_words.specs.Reach.{Rounds, Reached}
 use Rattle.sg_graph.specs.Pause.{IsTarget, IsPair, Reach, IsReached, is_pair, holds_kept, is_widowed, link_after, IsPause, IsRoot}
 use Rattle.sg_graph.specs.Invariants.{IsPlain}
+use Rattle.sg_graph.specs.Major.{IsMajorRoot}
 use Rattle.sg_graph.specs.Laws.{QuietPause}
 use Rattle.sg_words.proofs.Closure.{from_rounds, to_rounds}
 
@@ -148,4 +149,9 @@ quiet_pause = record {
     λ r. (as_rounds p g plain (IsRoot p g b ambiguous) bound n).1 (to_rounds (IsTarget p g) (IsRoot p g b ambiguous) g.count bound n r),
   );
   pause = λ p g b ambiguous plain kept among exact. quiet p g plain (IsRoot p g b ambiguous) kept among exact;
+  reaches_major = λ p g b ambiguous plain bound n. (
+    λ k. from_rounds (IsTarget p g) (IsMajorRoot p g b ambiguous) g.count n ((as_rounds p g plain (IsMajorRoot p g b ambiguous) bound n).0 k),
+    λ r. (as_rounds p g plain (IsMajorRoot p g b ambiguous) bound n).1 (to_rounds (IsTarget p g) (IsMajorRoot p g b ambiguous) g.count bound n r),
+  );
+  pause_major = λ p g b ambiguous plain kept among exact. quiet p g plain (IsMajorRoot p g b ambiguous) kept among exact;
 }

@@ -55,6 +55,8 @@ module _ (p : Program) (marks used word size address : ℕ → ℕ) (state : ℕ
       bare = o.bare;
       owing = o.owing;
       kept = o.kept;
+      unmarked = o.unmarked;
+      within = o.within;
     }
 
     block_here : Block j (state j) (used j) → Block j (state j) bits
@@ -72,6 +74,8 @@ module _ (p : Program) (marks used word size address : ℕ → ℕ) (state : ℕ
           bare = λ q. cc;
           owing = λ s q. absurd q;
           kept = λ s m q. absurd q;
+          unmarked = λ q. cc;
+          within = λ s q m u. bit_kept (used j) i m (o.within s q m u);
         })
 
     taken_here : (y s : ℕ) → Taken y s j (used j) → Taken y s j bits
@@ -125,6 +129,8 @@ module _ (p : Program) (marks used word size address : ℕ → ℕ) (state : ℕ
             bare = λ q. cc;
             owing = λ s q. absurd q;
             kept = λ s i q. absurd q;
+            unmarked = λ q. cc;
+            within = λ s q i u. absurd (let bit = ap (λ bits. bit_at bits i) (old.unmarked e) ∙ bit_at-zero i in omega arith);
           }) c (t.each c l);
       clear = λ c l. put-from (λ c state. IsClear p (marks c) word owner c state) state j (Swept z)
           (λ old x from to none clean. old x from to none (λ d. subst (λ state. IsOwing state d.size) e d.owing)) c (t.clear c l);

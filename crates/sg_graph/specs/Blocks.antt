@@ -38,13 +38,15 @@ pub record IsTakenAt (p : Program) (marks : ℕ) (x s c : ℕ) (state : BlockWor
   pub of : IsOf state s
   pub taken : is_taken state used marks slot ≡ 1
 
--- What block c's own two words say: an old object of the block's size stands in each slot whose bit is set; no slot of a free block is
--- occupied; a block that is to be swept, or is being swept, is owed, and its marks are on occupied slots.
+-- What block c's own words say: an old object of the block's size stands in each slot whose bit is set; no slot of a free block is occupied or
+-- marked; a block that is to be swept, or is being swept, is owed; and marks are on occupied slots.
 pub record IsBlock (p : Program) (marks : ℕ) (size : ℕ → ℕ) (stands : ℕ → Bool) (address : ℕ → ℕ) (section : ℕ → Section) (owed : ℕ → Bool) (c : ℕ) (state : BlockWord) (used : ℕ) : Type 0 where
   pub filled : (s i : ℕ) → IsOf state s → i < slots s → is_taken state used marks i ≡ 1 → (n : ℕ) × IsOldAt size stands address section n (slot_at p c s i) s
   pub bare : state ≡ Free → used ≡ 0
   pub owing : (s : ℕ) → IsOwing state s → owed c ≡ true
   pub kept : (s i : ℕ) → IsOwing state s → bit_at marks i ≡ 1 → (i < slots s) × (bit_at used i ≡ 1)
+  pub unmarked : state ≡ Free → marks ≡ 0
+  pub within : (s : ℕ) → state ≡ Swept s → (i : ℕ) → bit_at marks i ≡ 1 → bit_at used i ≡ 1
 
 -- the block is zero outside of objects and of what is to be zeroed
 abbrev pub IsClear : Program → ℕ → (ℕ → ℕ) → (ℕ → Owner) → ℕ → BlockWord → Type 0

@@ -65,9 +65,17 @@ empty_book p = record {
   to = λ _. 0;
 }
 
+-- the object with this name stands at x, in this section
+abbrev pub placed_in : Book → Section → ℕ → ℕ → Book
+placed_in b section name x = record b { stands = put b.stands name true; address = put b.address name x; section = put b.section name section }
+
 -- the young object with this name stands at x
 abbrev pub placed : Book → ℕ → ℕ → Book
-placed b name x = record b { stands = put b.stands name true; address = put b.address name x; section = put b.section name Young }
+placed b name x = placed_in b Young name x
+
+-- the owed blocks are swept: none is owed any more, and nothing else changes
+abbrev pub swept_out : Book → Book
+swept_out b = record b { owed = λ _. false }
 
 -- the object takes n words at the front of k's buffer
 pub record Bumps (b : Book) (k n name : ℕ) (c : Book) : Type 0 where

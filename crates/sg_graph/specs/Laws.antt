@@ -1,5 +1,5 @@
 -- Laws of the definitions: that they mean what their names say.
-use Rattle.std.specs.Prelude.{◌≡◌, ◌≢◌, ℕ, ◌+◌, ◌^◌, ◌<◌, ◌≤◌, ◌⊎◌, ◌↔◌, Bool, true, List, [], ◌∷◌, ◌++◌, map}
+use Rattle.std.specs.Prelude.{◌≡◌, ◌≢◌, ℕ, ◌+◌, ◌^◌, ◌<◌, ◌≤◌, ◌⊎◌, ◌↔◌, Bool, true, false, List, [], ◌∷◌, ◌++◌, map}
 use Rattle.std.specs.List.{Contains}
 use Rattle.std.specs.Int.{bit_at}
 use Rattle.std.specs.Int.Bits.{bit_or}
@@ -17,11 +17,14 @@ use Rattle.sg_graph.specs.declared.reports.EpochReport.{EpochReport}
 use Rattle.sg_graph.specs.declared.reports.MinorReport.{MinorReport}
 use Rattle.sg_graph.specs.Graph.{Graph}
 use Rattle.sg_graph.specs.Blocks.{IsOldAt, AreBlocks}
+use Rattle.sg_graph.specs.Swept.{AreSwept, AreAtRest, AreInhabited}
 use Rattle.sg_graph.specs.Heap.{Owner, Of}
 use Rattle.sg_graph.specs.Book.{Book, Section, Old, block_at, slot_at, IsApart}
 use Rattle.sg_graph.specs.Epoch.{Said, Turn, IsEpoch}
 use Rattle.sg_graph.specs.Pause.{IsTarget, IsReached, IsPause, IsPointedInto, IsRoot}
 use Rattle.sg_graph.specs.Minor.{IsMinorPause}
+use Rattle.sg_graph.specs.declared.reports.MajorReport.{MajorReport}
+use Rattle.sg_graph.specs.Major.{IsMajorRoot, IsMajorPause}
 use Rattle.sg_graph.specs.Invariants.{IsPlain}
 use Rattle.sg_graph.specs.Run.{Phase, Epoch, Goes, IsRun, IsWholeRun}
 use Rattle.sg_graph.specs.Follows.{FollowsTo, IsRunBy, IsWholeRunBy}
@@ -55,12 +58,24 @@ pub record KeepsPointedInto : Type 0 where
       IsApart p g b → IsMinorPause p g b ambiguous report h c →
       (n : ℕ) → n ≢ 0 → b.stands n ≡ true → IsPointedInto g b ambiguous n → c.address n ≡ b.address n
 
+-- what an ambiguous word points into stands after a major pause, which moves nothing
+abbrev pub KeepsInMajor : Type 0
+KeepsInMajor =
+    (p : Program) (g : Graph) (b : Book) (ambiguous : List ℕ) (report : MajorReport) (h : Graph) (c : Book) → IsMajorPause p g b ambiguous report h c →
+    (n : ℕ) → n ≢ 0 → b.stands n ≡ true → IsPointedInto g b ambiguous n → c.stands n ≡ true
+
+-- giving each of these numbers of words in turn at the front of the lowest fragment that has them, one finds no room
+pub data LacksWords (fragments : ℕ) (limit : ℕ → ℕ) : (ℕ → ℕ) → List ℕ → Type 0 where
+  NoRoom : (next : ℕ → ℕ) (n : ℕ) (more : List ℕ) → ((f : ℕ) → f < fragments → limit f < next f + n) → LacksWords fragments limit next (n ∷ more)
+  RoomBefore : (next : ℕ → ℕ) (n : ℕ) (more : List ℕ) (f : ℕ) → f < fragments → next f + n ≤ limit f → ((j : ℕ) → j < f → limit j < next j + n) →
+      LacksWords fragments limit (put next f (next f + n)) more → LacksWords fragments limit next (n ∷ more)
+
 -- the roots of a minor pause reach only objects of the graph
 abbrev pub ReachesObjects : Program → Graph → Book → List ℕ → Type 0
 ReachesObjects p g b ambiguous = (n : ℕ) → Reached (IsTarget p g) (IsRoot p g b ambiguous) n → (1 ≤ n) × (n ≤ g.count)
 
 -- In a graph without pairs, weak links and registrations each field of an object that holds a reference is strong, what the
--- roots reach in as many rounds as there are objects is all that they ever reach, and a minor pause that keeps exactly this
+-- roots reach in as many rounds as there are objects is all that they ever reach, and a pause that keeps exactly this
 -- changes nothing of the graph.
 pub record QuietPause : Type 0 where
   pub none_ready : (p : Program) (g : Graph) → IsPlain p g → (n : ℕ) → Contains g.ready n → ⊥
@@ -71,6 +86,13 @@ pub record QuietPause : Type 0 where
   pub pause : (p : Program) (g : Graph) (b : Book) (ambiguous : List ℕ) → IsPlain p g → (kept : ℕ → Bool) →
       ((n : ℕ) → kept n ≡ true → (1 ≤ n) × (n ≤ g.count)) →
       ((n : ℕ) → n ≢ 0 → kept n ≡ true ↔ IsReached p g (IsRoot p g b ambiguous) n) → IsPause p g (IsRoot p g b ambiguous) g kept
+  -- the same for a major pause
+  pub reaches_major : (p : Program) (g : Graph) (b : Book) (ambiguous : List ℕ) → IsPlain p g →
+      ((n : ℕ) → Reached (IsTarget p g) (IsMajorRoot p g b ambiguous) n → (1 ≤ n) × (n ≤ g.count)) →
+      (n : ℕ) → IsReached p g (IsMajorRoot p g b ambiguous) n ↔ Reached (IsTarget p g) (IsMajorRoot p g b ambiguous) n
+  pub pause_major : (p : Program) (g : Graph) (b : Book) (ambiguous : List ℕ) → IsPlain p g → (kept : ℕ → Bool) →
+      ((n : ℕ) → kept n ≡ true → (1 ≤ n) × (n ≤ g.count)) →
+      ((n : ℕ) → n ≢ 0 → kept n ≡ true ↔ IsReached p g (IsMajorRoot p g b ambiguous) n) → IsPause p g (IsMajorRoot p g b ambiguous) g kept
 
 -- A mutator's next statement has one answer, and so leads to one graph and one book.
 abbrev pub HasOneTurn : Type 0
@@ -122,3 +144,15 @@ BlockOpens =
 pub record BlocksGo : Type 0 where
   pub slot_gets : SlotGets
   pub block_opens : BlockOpens
+
+-- Where all blocks that were to be swept were swept, the blocks are as their words say and none is owed; none is being swept, and an object still
+-- stands in each swept one.
+pub record BlocksAreSwept : Type 0 where
+  pub blocks : (p : Program) (marks used used' word word' size address : ℕ → ℕ) (state state' : ℕ → BlockWord) (stands owed : ℕ → Bool)
+      (section : ℕ → Section) (owner : ℕ → Owner) → AreBlocks p marks state used word size stands address section owed owner → AreAtRest p state →
+      AreSwept p marks used used' word word' state state' → AreBlocks p marks state' used' word' size stands address section (λ _. false) owner
+  pub settled : (p : Program) (marks used used' word word' : ℕ → ℕ) (state state' : ℕ → BlockWord) → AreAtRest p state →
+      AreSwept p marks used used' word word' state state' → AreAtRest p state'
+  pub inhabited : (p : Program) (marks used used' word word' size address : ℕ → ℕ) (state state' : ℕ → BlockWord) (stands owed : ℕ → Bool)
+      (section : ℕ → Section) (owner : ℕ → Owner) → AreBlocks p marks state used word size stands address section owed owner → AreAtRest p state →
+      AreSwept p marks used used' word word' state state' → AreInhabited p state stands address → AreInhabited p state' stands address

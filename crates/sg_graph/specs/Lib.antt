@@ -7,6 +7,8 @@ pub mod Pause
 pub mod Tiling
 pub mod Minor
 pub mod Copies
+pub mod Major
+pub mod Sections
 pub mod Stop
 pub mod Run
 pub mod Heap
@@ -15,3 +17,4 @@ pub mod Invariants
 pub mod Laws
 pub mod Turns
 pub mod Follows
+pub mod Swept

@@ -1,4 +1,4 @@
-ghost use Rattle.sg_graph.specs.Laws.{BlocksGo, EndsBehindLast, HasOneReport, HasOneTurn, KeepsPointedInto, QuietPause, RunsByTurns};
+ghost use Rattle.sg_graph.specs.Laws.{BlocksAreSwept, BlocksGo, EndsBehindLast, HasOneReport, HasOneTurn, KeepsInMajor, KeepsPointedInto, QuietPause, RunsByTurns};
 
 /// The law of the end: a run ends behind the epoch that is told to be the last one. It does nothing; its contract is the
 /// law.
@@ -39,4 +39,15 @@ pub fn runs_by_turns()
 /// block is still as its own words say. It does nothing; its contract is the law.
 pub fn blocks_go()
     ensures { BlocksGo }
+{}
+
+/// The law of what is pointed into, for a major pause: it stands after it. It does nothing; its contract is the law.
+pub fn keeps_in_major()
+    ensures { KeepsInMajor }
+{}
+
+/// The law of sweeping: where all blocks that were to be swept were swept, each block is as its own words say, none is owed, and
+/// an object still stands in each swept one. It does nothing; its contract is the law.
+pub fn blocks_are_swept()
+    ensures { BlocksAreSwept }
 {}

@@ -9,10 +9,13 @@ mod names;
 mod reports;
 
 pub use laws::{
-    ends_behind_last, keeps_pointed_into, one_report, one_turn, quiet_pause, runs_by_turns,
+    blocks_are_swept, ends_behind_last, keeps_in_major, keeps_pointed_into, one_report, one_turn,
+    quiet_pause, runs_by_turns,
 };
 pub use names::names_are_pairs;
-pub use reports::{EpochReport, MinorReport, Part, Service, StopReport};
+pub use reports::{
+    BlockLine, EpochReport, MajorReport, MinorReport, Part, Sections, Service, StopReport,
+};
 pub use sg_program::{
     Answer, Class, Config, Item, Leave, Name, Program, Request, Script, Statement, script_finals,
     script_total, total,

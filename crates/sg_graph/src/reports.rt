@@ -39,6 +39,39 @@ pub struct MinorReport {
     pub pieces: List<Piece>,
 }
 
+/// What a major pause did, in all sections.
+#[derive(Debug, Drop)]
+pub struct MajorReport {
+    /// How many objects were kept.
+    pub kept: u32,
+    /// How many objects were freed.
+    pub freed: u32,
+    /// The gaps of the nursery, in increasing order of address.
+    pub pieces: List<Piece>,
+}
+
+/// A block in which something stands.
+#[derive(Clone, Copy, Debug, PartialEq, Eq)]
+pub struct BlockLine {
+    /// The block's number.
+    pub block: u32,
+    /// The words of its slots.
+    pub size: u32,
+    /// In how many of them an object stands.
+    pub used: u32,
+}
+
+/// What stands in each section.
+#[derive(Debug, Drop)]
+pub struct Sections {
+    /// How many objects stand in the nursery.
+    pub young: u32,
+    /// The words of these.
+    pub young_words: u32,
+    /// The blocks of the major heap in which something stands, in order of numbers.
+    pub blocks: List<BlockLine>,
+}
+
 /// The answer to one request.
 #[derive(Clone, Copy, Debug, PartialEq, Eq)]
 pub struct Service {

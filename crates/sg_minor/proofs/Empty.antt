@@ -126,6 +126,8 @@ module _ (p : Program) where
         bare = λ e. zeros p.config.blocks c;
         owing = λ z owing. absurd (none_owing c z l owing);
         kept = λ z i owing set. absurd (none_owing c z l owing);
+        unmarked = λ e. zeros p.config.blocks c;
+        within = λ z e i set. absurd (let k = not_free c (Swept z) l e in cc);
       };
       clear = λ c l x from to none dirty. all_zero x (omega arith);
       sized = λ c z l of. absurd (none_of c z l of);

@@ -99,7 +99,8 @@ module _ (p : Program) (s : Contents) (g : Graph) (b : Book) (ambiguous pins mov
       (
         owner3 the_pause,
         held the_pause,
-        is-settled the_pause (words_of v) (λ x. refl) copied-by.1 (clear_heap p s g b heap.0 heap.1.0 heap.1.1 contents heap.1.2) ended.carded heap.0.unowed,
+        is-settled the_pause (words_of v) (λ x. refl) copied-by.1 (clear_heap p s g b heap.0 heap.1.0 heap.1.1 contents heap.1.2)
+            (λ c. ap (λ (z : Contents). slice_index z.marks c) fitted.same ∙ heap.0.unmarked c) ended.carded heap.0.unowed,
       ),
     );
     copies = record {

@@ -1,6 +1,8 @@
 -- After a pause blocks and cards are settled.
 use Rattle.std.proofs.Common.{◌≡◌, ◌≢◌, ℕ, ◌+◌, ◌<◌, ◌≤◌, inl, inr, true, false, refl, sym, ap, ◌∙◌, subst, arith, ◌⊎◌}
+use Rattle.std.specs.Int.{bit_at}
 use Rattle.std.proofs.lemmas.Bool.{false≢true}
+use Rattle.std.proofs.lemmas.Nat.Bits.{bit_at-zero}
 use Rattle.sg_words.specs.Address.{byte_at}
 use Rattle.sg_words.specs.Blocks.{IsSizeClass, IsOf, IsOwing, is_taken, card_of}
 use Rattle.sg_words.specs.Words.{Words}
@@ -41,7 +43,7 @@ not-sweeping state z (inl e) h = let k : Free ≡ Sweeping z = sym e ∙ h in cc
 not-sweeping state z (inr q) h = let k : Swept q.0 ≡ Sweeping z = sym q.2 ∙ h in cc
 
 module _ (c : Ended) (w : Words) (is : (x : ℕ) → w.word x ≡ c.v x) (by : AreBlocksBy c.p c.g (booked c) w.block w.used)
-    (clear : (x : ℕ) → nursery_end c.p ≤ x → x < old_end c.p → ((n : ℕ) → c.owner x ≢ Of n) → c.w x ≡ 0) where
+    (clear : (x : ℕ) → nursery_end c.p ≤ x → x < old_end c.p → ((n : ℕ) → c.owner x ≢ Of n) → c.w x ≡ 0) (none_marked : (j : ℕ) → w.marks j ≡ 0) where
   -- an object that had a word of the major heap has it still
   old-word : (n x : ℕ) → nursery_end c.p ≤ x → IsWordOf c.g c.b n x → owner3 c x ≡ Of n
   old-word n x l o = elim (lies c n o.stands (name-some n o.some)) [
@@ -89,6 +91,8 @@ module _ (c : Ended) (w : Words) (is : (x : ℕ) → w.word x ≡ c.v x) (by : A
       bare = by.bare j there;
       owing = λ z h. absurd (no-owing (w.block j) z (by.states j there) h);
       kept = λ z i h set. absurd (no-owing (w.block j) z (by.states j there) h);
+      unmarked = λ e. none_marked j;
+      within = λ z e i set. absurd (let none = ap (λ (m : ℕ). bit_at m i) (none_marked j) ∙ bit_at-zero i in omega arith);
     };
     clear = is-clear;
     sized = λ j z there of. of-class (w.block j) z (by.states j there) of;

@@ -326,6 +326,8 @@ module _ (p : Program) (lay : Constants) (w : Words) (scripts : AreFirstScripts 
       bare = λ e. opening.used c;
       owing = λ s o. absurd (subst (λ state. IsOwing state s) (opening.block c) o);
       kept = λ s i o. absurd (subst (λ state. IsOwing state s) (opening.block c) o);
+      unmarked = λ e. opening.marks c;
+      within = λ s e. absurd (let free : Free ≡ Swept s = sym (opening.block c) ∙ e in cc);
     };
     clear = λ c l x q r none clean. opening.word x;
     sized = λ c s l o. absurd (subst (λ state. IsOf state s) (opening.block c) o);

@@ -218,6 +218,8 @@ module _ (p : Program) (lay : Constants) (w : Words) (g : Graph) (b : Book) (sai
       bare = e.bare;
       owing = e.owing;
       kept = e.kept;
+      unmarked = e.unmarked;
+      within = e.within;
     };
     clear = λ c l y i j none clean. t.blocks.clear c l y i j (λ o e. none o (pl.old o y e)) clean;
     sized = t.blocks.sized;

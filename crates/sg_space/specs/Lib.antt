@@ -4,3 +4,4 @@ pub mod Changes
 pub mod Marks
 pub mod Inside
 pub mod Laws
+pub mod Swept

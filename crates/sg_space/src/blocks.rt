@@ -85,6 +85,14 @@ impl Space {
         }
     }
 
+    /// No slot of this block is marked from now on.
+    pub fn clear_marks(&mut self, b: u32)
+        requires { b < length self.old.marks }
+        ensures { self.new ≡ record self.old { marks = slice_set self.old.marks b 0 } }
+    {
+        self.set_marks(b, 0);
+    }
+
     /// The marks of this block become `mask`.
     fn set_marks(&mut self, b: u32, mask: u64)
         requires { b < length self.old.marks }

@@ -10,3 +10,5 @@ pub mod Sorted
 pub mod Programs
 pub mod Blocks
 pub mod Found
+pub mod Sweeps
+pub mod Zeroing

@@ -12,3 +12,4 @@ pub mod Programs
 pub mod Schedule
 pub mod Found
 pub mod Blocks
+pub mod Sweeps

@@ -325,6 +325,8 @@ module _ (p : Program) (s : Contents) (g : Graph) (b : Book) (owner : ℕ → Ow
       bare = e.bare;
       owing = e.owing;
       kept = e.kept;
+      unmarked = e.unmarked;
+      within = e.within;
     };
     clear = λ j l y from to none waste. behind y (omega arith) ∙ settled.blocks.clear j l y from to (λ m o. none m (owner_old m y o)) waste;
     sized = settled.blocks.sized;

@@ -1,0 +1,5 @@
+pub mod Names
+pub mod Sound
+pub mod Refers
+pub mod Fronted
+pub mod Kept

@@ -1,0 +1,10 @@
+use Rattle.std.proofs.Common.{◌≡◌, ◌≤◌, ◌*◌}
+use Rattle.sg_space.specs.Standing.{used_in}
+use Rattle.sg_major.specs.Parts.{bits_in}
+use Rattle.sg_major.proofs.counts.occupied_slots.Given as goal
+
+abbrev pub invariant-loop-b : goal.invariant-loop-b
+invariant-loop-b l = record {
+  counted : l.count ≡ bits_in (used_in l.space) l.b;
+  few : l.count ≤ 64 * l.b;
+}

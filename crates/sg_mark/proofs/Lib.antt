@@ -1,0 +1,10 @@
+pub mod Places
+pub mod Marked
+pub mod Few
+pub mod Grays
+pub mod Objects
+pub mod Scanned
+pub mod Traced
+pub mod Marks
+pub mod Seven
+pub mod Unmarked
