@@ -27,6 +27,7 @@ pub record AreFirstWords (w : Words) : Type 0 where
   pub word : (x : ℕ) → w.word x ≡ 0
   pub block : (c : ℕ) → w.block c ≡ Free
   pub used : (c : ℕ) → w.used c ≡ 0
+  pub marks : (c : ℕ) → w.marks c ≡ 0
 
 -- each script finds the kinds of operands that it needs, and has statements that are run now alone
 pub record AreFirstScripts (p : Program) : Type 0 where

@@ -81,6 +81,7 @@ first_words s shapes sections e = subst (λ t. AreFirstWords (words_of t)) (sym 
   word = clear_word (words_end sections);
   block = free_block sections.blocks;
   used = clear_word sections.blocks;
+  marks = clear_word sections.blocks;
 })
 
 first_constants : (p : Program) (s : Contents) (shapes : List Shape) → s ≡ clear_space (sections_in p) shapes → AreFirstConstants p (constants_of s)
