@@ -13,7 +13,7 @@ use Rattle.sg_graph.specs.Heap.{layout_of}
 use Rattle.sg_words.specs.Sections.{nursery_base, old_base, globals_base, words_end}
 use Rattle.sg_words.specs.declared.layout.Layout.{Layout}
 use Rattle.sg_space.specs.Space.{Contents}
-use Rattle.sg_minor.specs.Holding.{IsSpaceOf}
+use Rattle.sg_heap.specs.Holding.{IsSpaceOf}
 use Rattle.sg_round.specs.Area.{Area}
 use Rattle.sg_copy.specs.Copying.{is_strong_in, area_of}
 

@@ -7,7 +7,7 @@ use Rattle.sg_graph.specs.Book.{Book}
 use Rattle.sg_desc.specs.Shapes.{strong_any}
 use Rattle.sg_words.specs.declared.layout.Layout.{Layout}
 use Rattle.sg_space.specs.Space.{Contents}
-use Rattle.sg_minor.specs.Holding.{IsSpaceOf}
+use Rattle.sg_heap.specs.Holding.{IsSpaceOf}
 use Rattle.sg_copy.specs.Copying.{area_of, is_strong_in}
 use Rattle.sg_minor.proofs.Names.{IsAreaOf}
 use Rattle.sg_minor.proofs.Areas.{reference_is}

@@ -11,10 +11,11 @@ use Rattle.sg_graph.specs.declared.reports.MinorReport.{MinorReport}
 use Rattle.sg_space.specs.Space.{Contents, IsContents, cards_in}
 use Rattle.sg_space.specs.Standing.{word, IsSoundBy}
 use Rattle.sg_cards.specs.Seeds.{HasSeed}
-use Rattle.sg_minor.specs.Holding.{HoldsHeap}
+use Rattle.sg_heap.specs.Fronts.{fronts, IsFronted}
+use Rattle.sg_heap.specs.Holding.{HoldsHeap}
+use Rattle.sg_heap.specs.Laws.{FrontLaw}
 use Rattle.sg_minor.specs.Law.{HasPaused}
-use Rattle.sg_minor.proofs.Sound.{owner_of, young_inside, old_inside, nursery_is, blocks_is, sound_by}
-use Rattle.sg_minor.proofs.Soundly.{seeded}
+use Rattle.sg_minor.proofs.Sown.{fronted_heap, seeded}
 
 -- the space but for its cards, of which those are dirty that were and are needed
 pub record IsCleaned (v w : Contents) : Type 0 where
@@ -22,29 +23,32 @@ pub record IsCleaned (v w : Contents) : Type 0 where
   pub dirty : (owner : ℕ → Option ℕ) → IsSoundBy v owner → (c : ℕ) → c < cards_in v.layout → (slice_index w.cards c ≡ 1) ↔
       ((slice_index v.cards c ≡ 1) × HasSeed v owner c)
 
-module _ (p : Program) (v : Contents) (g : Graph) (b : Book) (heap : HoldsHeap p v g b) (contents : IsContents v) (w : Contents) (cleaned : IsCleaned v w) where
+module _ (law : FrontLaw) (p : Program) (v : Contents) (g : Graph) (b : Book) (heap : HoldsHeap p v g b) (contents : IsContents v) (w : Contents) (cleaned : IsCleaned v w) where
+  abbrev front : IsFronted p v g b heap.1.0
+  front = fronted_heap law p v g b heap contents
+
   carded : AreCarded p (λ c. slice_index w.cards c) g b
   carded = record {
     dirty = λ n i m l stands old within strong ref some young.
         let d : n ≢ 0 = λ z. absurd (omega arith) in
         let x = b.address n + 2 + i in
-        let place = old_inside p v g b heap.0 heap.1.0 heap.1.1 contents n d stands old in
+        let place = front.old_inside n d stands old in
         let from = place.0 in
         let to = place.1 in
-        let nursery = nursery_is p v g b heap.0 heap.1.0 heap.1.1 contents in
-        let blocks = blocks_is p v g b heap.0 heap.1.0 heap.1.1 contents in
+        let nursery = front.nursery_is in
+        let blocks = front.blocks_is in
         let before = heap.1.2.cards.dirty n i m l stands old within strong ref some young in
         let layout : card_of v.layout x ≡ card_of (layout_of p) x = ap (λ k. card_of k x) heap.0.layout in
         let held : word v x ≡ byte_at (b.address m) = heap.1.1.laid.fields.holds n i stands within ∙ ap (word_of b.address) ref in
         let target = known (g.field n i) m ref (heap.1.1.laid.fields.known n i stands within) in
-        let lies = young_inside p v g b heap.0 heap.1.0 heap.1.1 contents m (λ z. absurd (omega arith)) target young in
+        let lies = front.young_inside m (λ z. absurd (omega arith)) target young in
         let low = lies.0 in
         let high = lies.1 in
-        let seed = seeded p v g b heap.0 heap.1.0 heap.1.1 contents heap.1.2 x
+        let seed = seeded p v g b heap.0 heap.1.0 heap.1.1 front x
         (record { name = n; field = i; some = d; stands = stands; old = old; within = within; strong = strong; at = refl })
         (b.address m, held, (low, omega arith)) in
         ap (λ c. slice_index w.cards c) (sym layout)
-        ∙ (cleaned.dirty (owner_of p v g b heap.0 heap.1.0 heap.1.1 contents) (sound_by p v g b heap.0 heap.1.0 heap.1.1 contents heap.1.2) (card_of v.layout x)
+        ∙ (cleaned.dirty (fronts b.address heap.1.0) front.sound (card_of v.layout x)
         (omega arith)).1
         (ap (λ c. slice_index v.cards c) layout ∙ before, (x, seed, refl));
   }
@@ -62,8 +66,6 @@ module _ (p : Program) (v : Contents) (g : Graph) (b : Book) (heap : HoldsHeap p
       next = heap.0.next;
       limit = heap.0.limit;
       fits = heap.0.fits;
-      unmarked = heap.0.unmarked;
-      unowed = heap.0.unowed;
       pages = heap.0.pages;
       head = heap.0.head;
       made = heap.0.made;
@@ -83,12 +85,12 @@ module _ (p : Program) (v : Contents) (g : Graph) (b : Book) (heap : HoldsHeap p
     ),
   )
 
-pub paused_clean : (p : Program) (v : Contents) (g : Graph) (b : Book) (ambiguous : List ℕ) (report : MinorReport) → HasPaused p g b ambiguous v report →
+pub paused_clean : FrontLaw → (p : Program) (v : Contents) (g : Graph) (b : Book) (ambiguous : List ℕ) (report : MinorReport) → HasPaused p g b ambiguous v report →
     IsContents v → (w : Contents) → IsCleaned v w →
     HasPaused p g b ambiguous w report
-paused_clean p v g b ambiguous report paused contents w cleaned = record {
+paused_clean law p v g b ambiguous report paused contents w cleaned = record {
   book = paused.book;
   pause = paused.pause;
   copies = paused.copies;
-  heap = held_clean p v g paused.book paused.heap contents w cleaned;
+  heap = held_clean law p v g paused.book paused.heap contents w cleaned;
 }

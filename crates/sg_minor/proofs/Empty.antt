@@ -16,7 +16,7 @@ use Rattle.sg_graph.specs.Invariants.{IsPlain}
 use Rattle.sg_space.specs.Space.{Contents, clear_space, words_of}
 use Rattle.sg_space.specs.Standing.{word, block_in}
 use Rattle.sg_graph.specs.Heap.{Owner, Of, Frag, Nobody, IsLaid, layout_of}
-use Rattle.sg_minor.specs.Holding.{HoldsHeap}
+use Rattle.sg_heap.specs.Holding.{HoldsHeap}
 use Rattle.sg_minor.specs.Parts.{HoldsSome}
 use Rattle.sg_minor.proofs.Names.{of-same}
 
@@ -148,8 +148,6 @@ module _ (p : Program) where
       next = first_next;
       limit = first_end;
       fits = λ c z i l e set. absurd (let k = not_free c (Swept z) l e in cc);
-      unmarked = λ c. zeros p.config.blocks c;
-      unowed = λ c l. refl;
       pages = λ j. zeros p.config.pages j;
       head = refl;
       made = refl;
@@ -175,4 +173,4 @@ module _ (p : Program) where
   }
 
   pub empty_some : (s : Contents) → s ≡ empty_space → HoldsSome s
-  empty_some s e = subst HoldsSome (sym e) (p, no_objects p, empty_book p, empty_holds, plain)
+  empty_some s e = subst HoldsSome (sym e) (p, no_objects p, empty_book p, empty_holds, (λ c l. refl), plain)

@@ -15,7 +15,7 @@ use Rattle.sg_words.specs.declared.layout.Layout.{Layout}
 use Rattle.sg_words.specs.declared.pieces.Move.{Move}
 use Rattle.sg_words.specs.declared.steps.BlockWord.TheVariants.{Free, Swept}
 use Rattle.sg_words.proofs.Members.{map_in, in-filter, in-flat, last-cases, out}
-use Rattle.sg_words.proofs.Blocks.{slot_size-holds, slot_fits}
+use Rattle.sg_words.proofs.Blocks.{slot_size-holds, slot_fits, bit_cases}
 use Rattle.std.proofs.lemmas.Bool.{cases_lt}
 use Rattle.sg_words.proofs.Objects.{sent-at, slots-are}
 use Rattle.sg_program.specs.declared.program.Program.{Program}
@@ -37,7 +37,9 @@ use Rattle.sg_round.specs.Image.{IsImage}
 use Rattle.sg_round.specs.Order.{strong_of, leads, Fits}
 use Rattle.sg_round.specs.Round.{IsOpening, AreZoned, IsPassed, IsClear, Slot, Given, Copied}
 use Rattle.sg_copy.specs.Copying.{area_of, items_of, card_in, CanCopy, HasCopiedTo}
-use Rattle.sg_minor.specs.Joined.{global_slots, holds_young, slots_from, IsHome, IsPicture, IsTraced, HasSwept, HasBlocksOf, IsBegun, IsOrdered, IsOldField, OfOld, OfCopy, IsEnded, JoinLaw}
+use Rattle.sg_heap.specs.Fronts.{fronts, IsFronted}
+use Rattle.sg_heap.specs.Laws.{FrontLaw}
+use Rattle.sg_minor.specs.Joined.{global_slots, holds_young, slots_from, IsHome, IsPicture, IsTraced, HasSwept, HasBlocksOf, IsBegun, IsOrdered, IsOldField, OfOld, OfCopy, AreRisen, IsEnded, JoinLaw}
 use Rattle.sg_minor.proofs.Areas.{area_for, area_is, classes_are}
 use Rattle.sg_minor.proofs.Added.{AreSlots, slots_of_name, slots_outside, IsSeed, Global, Field, outside-is, seeds-each}
 use Rattle.sg_minor.proofs.InOrder.{IsNamedSearch, named-search, names-of, slots-named, in-names, fits-same}
@@ -49,7 +51,7 @@ use Rattle.sg_minor.proofs.Opens.{named, traced-young, opening}
 use Rattle.sg_minor.proofs.Pictures.{picture}
 use Rattle.sg_minor.proofs.Rises.{Rises, rises-append, rises-filter, rises-distinct, strict-rises, distinct-append}
 use Rattle.sg_minor.proofs.Starts.{AtField, AreStarts, starts}
-use Rattle.sg_minor.proofs.Sound.{owner_of, sound_by}
+use Rattle.sg_minor.proofs.Sown.{fronted_heap}
 use Rattle.sg_minor.proofs.Zoned.{zone_in, zone_zero, zoned, blocks_by}
 
 -- the globals' slots rise
@@ -70,7 +72,7 @@ rises-globals layout (suc n) = subst (Rises 0) (sym (map-append (λ (x : ℕ). g
     below n a h = let q = map_in (λ (x : ℕ). globals_base layout + x) a (numbers_below n) h in let l = in-below n q.0 q.1 in let e = q.2 in omega arith
 
 module _ (p : Program) (s : Contents) (g : Graph) (b : Book) (ambiguous pins : List ℕ) (found : List Seed) (tagged : Contents)
-    (begun : IsBegun p s g b ambiguous pins found tagged) where
+    (begun : IsBegun p s g b ambiguous pins found tagged) (front : IsFronted p s g b begun.heap.1.0) where
   abbrev pub owner : ℕ → Owner
   owner = begun.heap.1.0
 
@@ -98,12 +100,12 @@ module _ (p : Program) (s : Contents) (g : Graph) (b : Book) (ambiguous pins : L
   few : length p.classes ≤ 256
   few = let count = classes_are p s b begun.heap.0 in let most = begun.contents.shapes.classes in omega arith
 
-  of-owner : AreSeeds s (owner_of p s g b begun.heap.0 owner heap begun.contents) found
-  of-owner = begun.seeds (owner_of p s g b begun.heap.0 owner heap begun.contents) (sound_by p s g b begun.heap.0 owner heap begun.contents settled)
+  of-owner : AreSeeds s (fronts b.address owner) found
+  of-owner = begun.seeds (fronts b.address owner) (front.sound)
 
   slots-for : AreSlots p (word s) (area_for p) g b slots_before
   slots-for = subst (λ (a : Area). AreSlots p (word s) a g b slots_before) area_before
-      (are_slots p s g b begun.heap.0 owner heap begun.contents settled found of-owner)
+      (are_slots p s g b begun.heap.0 owner heap front found of-owner)
 
   pub begins : AreStarts p (word s) g b pins items
   begins = starts p (word s) g b owner heap ambiguous pins slots_before begun.pinned tagged area_tagged begun.tags slots-for
@@ -138,18 +140,18 @@ module _ (p : Program) (s : Contents) (g : Graph) (b : Book) (ambiguous pins : L
   once-slots : AreDistinct slots_before
   once-slots =
       distinct-append (filter (holds_young (area_of s) (word s)) (global_slots s.layout 64))
-      (found_slots p s g b begun.heap.0 owner heap begun.contents settled found of-owner)
+      (found_slots p s g b begun.heap.0 owner heap front found of-owner)
       (rises-distinct 0 (filter (holds_young (area_of s) (word s)) (global_slots s.layout 64))
       (rises-filter (holds_young (area_of s) (word s)) 0 (global_slots s.layout 64) (rises-globals s.layout 64)))
-      (rises-distinct 0 (found_slots p s g b begun.heap.0 owner heap begun.contents settled found of-owner)
-      (found_rise p s g b begun.heap.0 owner heap begun.contents settled found of-owner))
+      (rises-distinct 0 (found_slots p s g b begun.heap.0 owner heap front found of-owner)
+      (found_rise p s g b begun.heap.0 owner heap front found of-owner))
       (λ a i j.
       let from = globals-above a (in-filter (holds_young (area_of s) (word s)) a (global_slots s.layout 64) i).0 in
-      let q = in-filter (holds_young (area_of s) (word s)) a (flat_map (slots_of_name p g b) (old_names p s g b begun.heap.0 owner heap begun.contents settled))
-      (subst (λ (l : List ℕ). In a l) (found_are p s g b begun.heap.0 owner heap begun.contents settled found of-owner) j) in
-      let n = in-flat (slots_of_name p g b) a (old_names p s g b begun.heap.0 owner heap begun.contents settled) q.0 in
+      let q = in-filter (holds_young (area_of s) (word s)) a (flat_map (slots_of_name p g b) (old_names p s g b begun.heap.0 owner heap front))
+      (subst (λ (l : List ℕ). In a l) (found_are p s g b begun.heap.0 owner heap front found of-owner) j) in
+      let n = in-flat (slots_of_name p g b) a (old_names p s g b begun.heap.0 owner heap front) q.0 in
       let f = slots-are (λ k. is_strong_by (kind_of p (g.class n.0)) k (g.size n.0)) (b.address n.0) 0 (g.size n.0) a n.2 in
-      let o = old_named p s g b begun.heap.0 owner heap begun.contents settled n.0 n.1 in
+      let o = old_named p s g b begun.heap.0 owner heap front n.0 n.1 in
       let to = (in-old p (word s) g b owner heap n.0 o.1 o.0 o.2).1 in
       let l = f.1 in
       let at = f.3 in
@@ -168,7 +170,7 @@ module _ (p : Program) (s : Contents) (g : Graph) (b : Book) (ambiguous pins : L
       let fields = fields-are names in
       distinct-append slots_before (strong_of (area_of tagged) (word tagged) pins) once-slots
       (subst AreDistinct (sym fields) (rises-distinct 0 (flat_map (slots_of_name p g b) names.0)
-      (fields_rise p s g b begun.heap.0 owner heap begun.contents settled 0 0 names.0
+      (fields_rise p s g b begun.heap.0 owner heap front 0 0 names.0
       (subst (Rises 0) (sym names.1) (strict-rises 0 pins begun.in_order (λ a i. omega arith)))
       (λ n i. (names.2 n i).0.1) (λ n i. omega arith))))
       (λ a i j.
@@ -182,10 +184,10 @@ module _ (p : Program) (s : Contents) (g : Graph) (b : Book) (ambiguous pins : L
     zone = zone_in p owner;
     opening = subst (λ (a : Area). IsOpening a (word tagged) items pins (zone_in p owner)) (sym area_tagged)
         (opening p (word s) g b owner heap ambiguous pins begun.pinned (word tagged) begun.tags items begins few (zone_in p owner)
-        (zone_zero p s g b begun.heap.0 owner heap begun.contents settled));
+        (zone_zero p s g b begun.heap.0 owner heap front settled begun.owes));
     zoned = subst (λ (a : Area). AreZoned a (block_in tagged) (used_in tagged) (zone_in p owner)) (sym area_tagged)
         (subst (λ (z : Contents). AreZoned (area_for p) (block_in z) (used_in z) (zone_in p owner)) (sym begun.still.0)
-        (zoned p s g b begun.heap.0 owner heap begun.contents settled));
+        (zoned p s g b begun.heap.0 owner heap front settled begun.owes));
     once = once;
   }
 
@@ -260,7 +262,7 @@ module _ (p : Program) (s : Contents) (g : Graph) (b : Book) (ambiguous pins : L
           fits = subst (λ (z : ℕ). q.i < slots z) size q.fits;
           at = subst (λ (z : ℕ). copied.m a ≡ nursery_end p + 256 * q.b + z * q.i) size (let e = q.is in omega arith);
           empty = subst (λ (z : ℕ). IsEmptySlot p g b q.b z q.i) size
-              (clear_empty p g b (block_in s) (used_in s) (blocks_by p s g b begun.heap.0 owner heap begun.contents settled) q.b
+              (clear_empty p g b (block_in s) (used_in s) (blocks_by p s g b begun.heap.0 owner heap front settled begun.owes) q.b
               (slot_size (size_of (word tagged) a)) q.i q.fits
               (clear-slot q.b (slot_size (size_of (word tagged) a)) q.i q.state q.clear));
         }
@@ -415,6 +417,18 @@ module _ (p : Program) (s : Contents) (g : Graph) (b : Book) (ambiguous pins : L
             | inr q ↦ q.0
           ]
 
+      risen-bits : AreRisen s v
+      risen-bits = record {
+        opened = λ c. elim (copied.blocks.opened c) [
+          | inl same ↦ inl (block-after c ∙ same ∙ block-before c)
+          | inr q ↦ inr (sym (block-before c) ∙ q.1)
+        ];
+        risen = λ c i set. ap (λ (u : ℕ). bit_at u i) (used-after c) ∙ elim (bit_cases (used_in round c) i) [
+          | inl e ↦ e
+          | inr e ↦ absurd (let clear = copied.blocks.risen c i e in let before = ap (λ (u : ℕ). bit_at u i) (used-before c) in omega arith)
+        ];
+      }
+
       pub closes : IsEnded p s g b ambiguous pins copied.went copied.stayed copied.m v
       closes = record {
         traced = subst (λ (a : Area). IsTraced p a (word s) g b ambiguous (pins ++ copied.stayed) copied.went) (sym area_before)
@@ -425,13 +439,14 @@ module _ (p : Program) (s : Contents) (g : Graph) (b : Book) (ambiguous pins : L
             (word round) image_for;
         full = full_for;
         order = ordered;
+        risen = risen-bits;
         carded = λ x y f refers young. carded_for x y (subst (λ (a : Area). IsOldField p a (word s) g b copied.went copied.m x) area_before f) refers
             (subst (λ (a : Area). IsYoung a y) area_before young);
       }
 
-pub join_law : JoinLaw
-join_law = record {
-  opens = λ p s g b ambiguous pins found tagged begun. opens p s g b ambiguous pins found tagged begun;
+pub join_law : FrontLaw → JoinLaw
+join_law law = record {
+  opens = λ p s g b ambiguous pins found tagged begun. opens p s g b ambiguous pins found tagged begun (fronted_heap law p s g b begun.heap begun.contents);
   closes = λ p s g b ambiguous pins found tagged round told_moves told_fails begun copied v blocks swept.
-      closes p s g b ambiguous pins found tagged begun round told_moves told_fails copied v blocks swept;
+      closes p s g b ambiguous pins found tagged begun (fronted_heap law p s g b begun.heap begun.contents) round told_moves told_fails copied v blocks swept;
 }

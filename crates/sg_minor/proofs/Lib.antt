@@ -5,8 +5,7 @@ pub mod Names
 pub mod Named
 pub mod Ranges
 pub mod Tiles
-pub mod Sound
-pub mod Soundly
+pub mod Sown
 pub mod Added
 pub mod OldNames
 pub mod Pinned

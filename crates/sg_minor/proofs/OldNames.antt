@@ -18,20 +18,19 @@ use Rattle.sg_program.specs.declared.program.Program.{Program}
 use Rattle.sg_program.specs.Scripts.{kind_of}
 use Rattle.sg_graph.specs.Graph.{Graph}
 use Rattle.sg_graph.specs.Book.{Book, nursery_end}
-use Rattle.sg_graph.specs.Blocks.{AreSettled}
 use Rattle.sg_graph.specs.Copies.{StandsOld, AreByAddress}
 use Rattle.sg_graph.specs.Heap.{Owner, Of, Frag, Buf, Nobody, IsHeap, layout_of}
-use Rattle.sg_space.specs.Space.{Contents, IsContents, words_of}
+use Rattle.sg_space.specs.Space.{Contents}
 use Rattle.sg_space.specs.Standing.{word}
 use Rattle.sg_cards.specs.declared.found.Seed.{Seed}
 use Rattle.sg_cards.specs.Seeds.{AreSeeds}
 use Rattle.sg_copy.specs.Copying.{area_of}
-use Rattle.sg_minor.specs.Holding.{IsSpaceOf}
+use Rattle.sg_heap.specs.Fronts.{fronts, IsFronted}
+use Rattle.sg_heap.specs.Holding.{IsSpaceOf}
 use Rattle.sg_minor.specs.Joined.{global_slots, holds_young, slots_from}
 use Rattle.sg_minor.proofs.Added.{slots_of_name, AreSlots, young-word, young-word-is}
 use Rattle.sg_minor.proofs.Rises.{Rises, rises-lower, rises-append, rises-filter, rises-slots, rises-flat, rises-one, rises-strict, strict-rises}
-use Rattle.sg_minor.proofs.Sound.{owner_of, owns, owns_first, owned, one_owner, old_inside, old_there, nursery_is, sound_by}
-use Rattle.sg_minor.proofs.Soundly.{IsSown, sown, seeded}
+use Rattle.sg_minor.proofs.Sown.{IsSown, sown, seeded}
 
 -- the numbers of words whose addresses are in order
 pub words_in_order : (bytes : List ℕ) → IsStrictlyIncreasing bytes → ((a : ℕ) → Contains bytes a → byte_at (word_at a) ≡ a) → IsStrictlyIncreasing
@@ -110,26 +109,24 @@ module _ (address : ℕ → ℕ) (owner : ℕ → Owner) where
       (λ a i. let q = map_in address a (named_at address (owner x) x) i in let at = (at_name address (owner x) x q.0 q.1).1 in let same = q.2 in omega arith)
       (names_rise (suc x) k))
 
-module _ (p : Program) (s : Contents) (g : Graph) (b : Book) (is : IsSpaceOf p s b) (owner : ℕ → Owner) (heap : IsHeap p (word s) g b owner)
-    (contents : IsContents s) where
+module _ (p : Program) (s : Contents) (g : Graph) (b : Book) (owner : ℕ → Owner) (front : IsFronted p s g b owner) where
   -- an object that begins below another one ends there or below
   pub apart : (m n : ℕ) → b.stands m ≡ true → b.stands n ≡ true → b.address m < b.address n → b.address m + (g.size m + 2) ≤ b.address n
   apart m n standing stands below = elim (cases_lt (b.address n) (b.address m + (g.size m + 2))) [
     | inl over ↦
-        let same = one_owner p s g b is owner heap contents m n (b.address n) (owns p s g b is owner heap contents m (b.address n) standing (omega arith) over)
-        (owns_first p s g b is owner heap contents n stands) in
+        let same = front.one_owner m n (b.address n) (front.owns m (b.address n) standing (omega arith) over)
+        (front.owns_first n stands) in
         let at = ap b.address same in
         absurd (omega arith)
     | inr up ↦ up
   ]
 
   pub same_object : (m n : ℕ) → b.stands m ≡ true → b.stands n ≡ true → b.address m ≡ b.address n → m ≡ n
-  same_object m n standing stands e = one_owner p s g b is owner heap contents m n (b.address n)
-      (subst (λ z. owner z ≡ Of m) e (owns_first p s g b is owner heap contents m standing)) (owns_first p s g b is owner heap contents n stands)
+  same_object m n standing stands e = front.one_owner m n (b.address n)
+      (subst (λ z. owner z ≡ Of m) e (front.owns_first m standing)) (front.owns_first n stands)
 
 module _ (p : Program) (s : Contents) (g : Graph) (b : Book) (is : IsSpaceOf p s b) (owner : ℕ → Owner) (heap : IsHeap p (word s) g b owner)
-    (contents : IsContents s)
-    (settled : AreSettled p (words_of s) g b owner) where
+    (front : IsFronted p s g b owner) where
   abbrev pub old_names : List ℕ
   old_names = names b.address owner (nursery_end p) (256 * p.config.blocks)
 
@@ -137,15 +134,15 @@ module _ (p : Program) (s : Contents) (g : Graph) (b : Book) (is : IsSpaceOf p s
   old_named n i =
       let q = in_names b.address owner (nursery_end p) (256 * p.config.blocks) n i in
       let from = q.1 in
-      let stands = (owned p s g b is owner heap contents n (b.address n) q.0).0 in
+      let stands = (front.owned n (b.address n) q.0).0 in
       let some : n ≢ 0 = λ z. (let nil = ap b.address z ∙ heap.laid.nothing.at_nil in absurd (omega arith)) in
-      (some, stands, old_there p s g b is owner heap contents n some stands from)
+      (some, stands, front.old_there n some stands from)
 
   pub named_old : (n : ℕ) → StandsOld b n → In n old_names
   named_old n o =
-      let place = old_inside p s g b is owner heap contents n o.0 o.1 o.2 in
+      let place = front.old_inside n o.0 o.1 o.2 in
       let to = place.1 in
-      names_in b.address owner (nursery_end p) (256 * p.config.blocks) n (owns_first p s g b is owner heap contents n o.1) place.0 (omega arith)
+      names_in b.address owner (nursery_end p) (256 * p.config.blocks) n (front.owns_first n o.1) place.0 (omega arith)
 
   pub old_by_address : AreByAddress b (StandsOld b) old_names
   old_by_address = record {
@@ -163,10 +160,10 @@ module _ (p : Program) (s : Contents) (g : Graph) (b : Book) (is : IsSpaceOf p s
       (λ n i a h. let q = slots-are (λ j. is_strong_by (kind_of p (g.class n)) j (g.size n)) (b.address n) 0 (g.size n) a h in let l = q.1 in let e = q.3 in
       omega arith)
       (λ n i. omega arith)
-      (λ m n i j less. apart p s g b is owner heap contents m n (each m i) (each n j) less)
+      (λ m n i j less. apart p s g b owner front m n (each m i) (each n j) less)
       at from
 
-  module _ (found : List Seed) (seeds : AreSeeds s (owner_of p s g b is owner heap contents) found) where
+  module _ (found : List Seed) (seeds : AreSeeds s (fronts b.address owner) found) where
     abbrev pub found_slots : List ℕ
     found_slots = map (λ (seed : Seed). word_at seed.slot) found
 
@@ -192,18 +189,18 @@ module _ (p : Program) (s : Contents) (g : Graph) (b : Book) (is : IsSpaceOf p s
         (Contains-get_or (map (λ (seed : Seed). word_at seed.slot) xs) h.0 0
         (let n = length-map xs (λ (seed : Seed). word_at seed.slot) in let l = h.1 in omega arith)))
 
-    at_seed : (seed : Seed) → Contains found seed → (x : ℕ) × IsSown p s g b is owner heap contents settled x × (seed.slot ≡ byte_at x) ×
+    at_seed : (seed : Seed) → Contains found seed → (x : ℕ) × IsSown p s g b is owner heap front x × (seed.slot ≡ byte_at x) ×
         ((y : ℕ) × (word s x ≡ byte_at y) × IsYoung s.layout y)
     at_seed seed h =
         let q = seeds.each h.0 seed (slice_get_read found _ h.0 seed refl h.1 (sym h.2)) in (
           q.0,
-          sown p s g b is owner heap contents settled (owner_of p s g b is owner heap contents) (sound_by p s g b is owner heap contents settled) q.0 q.1,
+          sown p s g b is owner heap front (fronts b.address owner) (front.sound) q.0 q.1,
           q.2,
           q.1.young,
         )
 
     young_is : (y : ℕ) → IsYoung s.layout y → (512 ≤ y) × (y < nursery_end p)
-    young_is y h = let nursery = nursery_is p s g b is owner heap contents in let to = h.1 in (h.0, omega arith)
+    young_is y h = let nursery = front.nursery_is in let to = h.1 in (h.0, omega arith)
 
     found_field : (a : ℕ) → In a found_slots → In a (filter (holds_young (area_of s) (word s)) (flat_map (slots_of_name p g b) old_names))
     found_field a h =
@@ -227,7 +224,7 @@ module _ (p : Program) (s : Contents) (g : Graph) (b : Book) (is : IsSpaceOf p s
         let f = slots-are (λ i. is_strong_by (kind_of p (g.class n.0)) i (g.size n.0)) (b.address n.0) 0 (g.size n.0) a n.2 in
         let o = old_named n.0 n.1 in
         let y = young-word-is (area_of s) (word s a) q.1 in
-        let k = seeds.all a (seeded p s g b is owner heap contents settled a (record {
+        let k = seeds.all a (seeded p s g b is owner heap front a (record {
           name = n.0;
           field = f.0;
           some = o.0;

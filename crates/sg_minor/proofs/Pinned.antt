@@ -6,21 +6,19 @@ use Rattle.sg_program.specs.declared.program.Program.{Program}
 use Rattle.sg_graph.specs.Graph.{Graph}
 use Rattle.sg_graph.specs.Book.{Book}
 use Rattle.sg_graph.specs.Pause.{IsPinned}
-use Rattle.sg_space.specs.Space.{Contents, IsContents}
+use Rattle.sg_space.specs.Space.{Contents}
 use Rattle.sg_space.specs.Standing.{word}
-use Rattle.sg_graph.specs.Heap.{Owner, IsHeap}
-use Rattle.sg_minor.specs.Holding.{IsSpaceOf}
+use Rattle.sg_graph.specs.Heap.{Owner}
+use Rattle.sg_heap.specs.Fronts.{fronts, IsFronted}
 use Rattle.sg_words.specs.Lists.{In}
 use Rattle.sg_words.proofs.Numbers.{word_at-byte_at}
 use Rattle.sg_pins.specs.Pins.{ArePinned}
 use Rattle.sg_minor.specs.Joined.{ArePins}
 use Rattle.sg_nursery.specs.Parts.{ArePlain}
 use Rattle.sg_words.proofs.Members.{contains_in, in_contains, in_map, map_in}
-use Rattle.sg_minor.proofs.Sound.{owner_of, named_front, is_owned, owns, owns_first, owned, young_inside, young_there, class_is, few_classes, nursery_is}
 
-module _ (p : Program) (s : Contents) (g : Graph) (b : Book) (is : IsSpaceOf p s b) (owner : ℕ → Owner) (heap : IsHeap p (word s) g b owner)
-    (contents : IsContents s)
-    (ambiguous pins : List ℕ) (pinned : ArePinned s.layout (owner_of p s g b is owner heap contents) ambiguous pins) where
+module _ (p : Program) (s : Contents) (g : Graph) (b : Book) (owner : ℕ → Owner) (front : IsFronted p s g b owner)
+    (ambiguous pins : List ℕ) (pinned : ArePinned s.layout (fronts b.address owner) ambiguous pins) where
   -- the object at a pin
   pub pin_named : (a : ℕ) → Contains pins a → (n : ℕ) × IsPinned g b ambiguous n × (a ≡ byte_at (b.address n))
   pin_named a in_pins =
@@ -28,16 +26,16 @@ module _ (p : Program) (s : Contents) (g : Graph) (b : Book) (is : IsSpaceOf p s
       let h = q.0 in
       let young = q.3 in
       let into = q.4 in
-      let name = named_front b.address (owner (word_at into.0)) h into.2 in
+      let name = front.named_front (word_at into.0) h into.2 in
       let n = name.0 in
-      let o = owned p s g b is owner heap contents n (word_at into.0) name.2 in
+      let o = front.owned n (word_at into.0) name.2 in
       let at = name.3 in
       let low = o.1 in
       let high = o.2 in
-      let nursery = nursery_is p s g b is owner heap contents in
+      let nursery = front.nursery_is in
       let below = young.1 in (
         n,
-        ((name.1, o.0, young_there p s g b is owner heap contents n name.1 o.0 (omega arith)), (into.0, into.1, (omega arith, omega arith))),
+        ((name.1, o.0, front.young_there n name.1 o.0 (omega arith)), (into.0, into.1, (omega arith, omega arith))),
         q.1 ∙ ap byte_at
             (sym at),
       )
@@ -55,13 +53,13 @@ module _ (p : Program) (s : Contents) (g : Graph) (b : Book) (is : IsSpaceOf p s
         let v = is_pinned.1.0 in
         let low = is_pinned.1.2.0 in
         let high = is_pinned.1.2.1 in
-        let place = young_inside p s g b is owner heap contents n some stands young in
+        let place = front.young_inside n some stands young in
         let from = place.0 in
         let to = place.1 in
-        let nursery = nursery_is p s g b is owner heap contents in
-        let mine = is_owned p s g b is owner heap contents n (word_at v) some
-        (owns p s g b is owner heap contents n (word_at v) stands (omega arith) (omega arith)) in
-        let first = is_owned p s g b is owner heap contents n (b.address n) some (owns_first p s g b is owner heap contents n stands) in
+        let nursery = front.nursery_is in
+        let mine = front.is_owned n (word_at v) some
+        (front.owns n (word_at v) stands (omega arith) (omega arith)) in
+        let first = front.is_owned n (b.address n) some (front.owns_first n stands) in
         let there = pinned.all (b.address n) first (from, omega arith) (v, is_pinned.1.1, mine) in
         subst (λ z. In z (map word_at pins)) (word_at-byte_at (b.address n))
         (in_map word_at (byte_at (b.address n)) pins (in_contains (byte_at (b.address n)) pins there));
@@ -73,17 +71,17 @@ module _ (p : Program) (s : Contents) (g : Graph) (b : Book) (is : IsSpaceOf p s
     section = λ a in_pins.
         let n = pin_named a in_pins in
         let at = n.2 in
-        let place = young_inside p s g b is owner heap contents n.0 n.1.0.0 n.1.0.1 n.1.0.2 in
+        let place = front.young_inside n.0 n.1.0.0 n.1.0.1 n.1.0.2 in
         let from = place.0 in
         let to = place.1 in
-        let nursery = nursery_is p s g b is owner heap contents in
+        let nursery = front.nursery_is in
         (omega arith, omega arith);
     plain = λ a in_pins.
         let n = pin_named a in_pins in
         let at : word_at a ≡ b.address n.0 = ap word_at n.2 ∙ word_at-byte_at (b.address n.0) in (
           g.class n.0,
-          few_classes p s g b is owner heap contents n.0 n.1.0.0 n.1.0.1,
-          ap (word s) at ∙ class_is p s g b is owner heap contents n.0 n.1.0.0
+          front.few_classes n.0 n.1.0.0 n.1.0.1,
+          ap (word s) at ∙ front.class_is n.0 n.1.0.0
               n.1.0.1,
         );
   }

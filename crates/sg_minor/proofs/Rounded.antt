@@ -26,7 +26,7 @@ use Rattle.sg_round.specs.Area.{IsYoung, Traces}
 use Rattle.sg_round.specs.Image.{IsImage}
 use Rattle.sg_nursery.specs.Pieces.{AreStanding, IsTaken, first_word, word_behind}
 use Rattle.sg_nursery.specs.Parts.{IsStaying, AreRounded, AreStaying, AreKept, AreCleaned, HasTagged}
-use Rattle.sg_minor.specs.Holding.{IsSpaceOf}
+use Rattle.sg_heap.specs.Fronts.{fronts, IsFronted}
 use Rattle.sg_minor.specs.Joined.{ArePins, IsHome, HasSwept}
 use Rattle.sg_minor.specs.Law.{AreTold, AreToldMoves, HaveWords}
 use Rattle.sg_minor.proofs.Areas.{area_for}
@@ -35,7 +35,6 @@ use Rattle.sg_minor.proofs.OldNames.{same_object}
 use Rattle.sg_minor.proofs.Opens.{named, traced-young, start-owned}
 use Rattle.sg_minor.proofs.Quiet.{first-word}
 use Rattle.sg_minor.proofs.Starts.{AreStarts}
-use Rattle.sg_minor.proofs.Sound.{owner_of, named_front, is_owned, owns, owns_first, owned, one_owner, length_is, class_is, young_inside, young_there, few_classes, nursery_is, blocks_is}
 
 named_or_free : (o : Owner) → ((n : ℕ) × (o ≡ Of n)) ⊎ ((n : ℕ) → o ≢ Of n)
 named_or_free (Of n) = inl (n, refl)
@@ -43,8 +42,8 @@ named_or_free (Frag f) = inr (λ n e. (let z = e in cc))
 named_or_free (Buf k) = inr (λ n e. (let z = e in cc))
 named_or_free Nobody = inr (λ n e. (let z = e in cc))
 
-module _ (p : Program) (s : Contents) (g : Graph) (b : Book) (is : IsSpaceOf p s b) (owner : ℕ → Owner) (heap : IsHeap p (word s) g b owner)
-    (contents : IsContents s)
+module _ (p : Program) (s : Contents) (g : Graph) (b : Book) (owner : ℕ → Owner) (heap : IsHeap p (word s) g b owner) (contents : IsContents s)
+    (front : IsFronted p s g b owner)
     (ambiguous pins : List ℕ) (ps : ArePins g b ambiguous pins) (tagged : Contents) (tags : HasTagged (word s) pins (word tagged)) (items : List ℕ)
     (begins : AreStarts p (word s) g b pins items) where
   -- a name that is the young object at a
@@ -60,7 +59,7 @@ module _ (p : Program) (s : Contents) (g : Graph) (b : Book) (is : IsSpaceOf p s
   no_pin_free : (x : ℕ) → ((n : ℕ) → owner x ≢ Of n) → has x pins ≡ false
   no_pin_free x free = out x pins (λ i.
       let q = ps.each x i in
-      free q.0 (subst (λ z. owner z ≡ Of q.0) q.2 (owns_first p s g b is owner heap contents q.0 q.1.0.1)))
+      free q.0 (subst (λ z. owner z ≡ Of q.0) q.2 (front.owns_first q.0 q.1.0.1)))
 
   module _ (went stayed : List ℕ) (m v : ℕ → ℕ) (image : IsImage (area_for p) (word tagged) items (λ _. true) went stayed m v (λ _. false))
       (homes : (a : ℕ) → In a went → IsHome p (word s) g b m a) where
@@ -87,7 +86,7 @@ module _ (p : Program) (s : Contents) (g : Graph) (b : Book) (is : IsSpaceOf p s
     pub same_first : (n : ℕ) → n ≢ 0 → b.stands n ≡ true → b.section n ≡ Young → has (b.address n) went ≡ false → has (b.address n) stayed ≡ false →
         v (b.address n) ≡ word tagged (b.address n)
     same_first n some stands young not_went not_stayed =
-        let place = young_inside p s g b is owner heap contents n some stands young in
+        let place = front.young_inside n some stands young in
         let to = place.1 in
         first-word p (word s) g b owner heap ambiguous pins ps (word tagged) tags items begins went stayed m v image n stands some not_went not_stayed
         (λ a i h l. uncopied (b.address n) a i (omega arith) h)
@@ -97,7 +96,7 @@ module _ (p : Program) (s : Contents) (g : Graph) (b : Book) (is : IsSpaceOf p s
         let q = stayed_named a in_stayed in
         let length = size-at p (word s) g b owner heap ambiguous pins ps (word tagged) tags a q.0 q.2 q.1 q.4 in
         let at = q.4 in
-        (q.0, owns p s g b is owner heap contents q.0 (a + 2 + i) q.2 (omega arith) (omega arith))
+        (q.0, front.owns q.0 (a + 2 + i) q.2 (omega arith) (omega arith))
 
     -- a word of the nursery that no object has is zero
     pub free_zero : (x : ℕ) → IsYoung (area_for p) x → ((n : ℕ) → owner x ≢ Of n) → v x ≡ 0
@@ -110,8 +109,8 @@ module _ (p : Program) (s : Contents) (g : Graph) (b : Book) (is : IsSpaceOf p s
         ]))
         refl
         (λ a i h l. uncopied x a i young.1 h)
-        (out x went (λ i. let q = went_named x i in free q.0 (subst (λ z. owner z ≡ Of q.0) q.4 (owns_first p s g b is owner heap contents q.0 q.2))))
-        (out x stayed (λ i. let q = stayed_named x i in free q.0 (subst (λ z. owner z ≡ Of q.0) q.4 (owns_first p s g b is owner heap contents q.0 q.2))))
+        (out x went (λ i. let q = went_named x i in free q.0 (subst (λ z. owner z ≡ Of q.0) q.4 (front.owns_first q.0 q.2))))
+        (out x stayed (λ i. let q = stayed_named x i in free q.0 (subst (λ z. owner z ≡ Of q.0) q.4 (front.owns_first q.0 q.2))))
         (λ a i in_stayed l strong e. let q = failed_field a i in_stayed l in absurd (free q.0 (subst (λ z. owner z ≡ Of q.0) (sym e) q.1)))
         ∙ tags.same x (no_pin_free x free)
         ∙ heap.laid.clear.clear x young.0 young.1 free
@@ -122,8 +121,8 @@ module _ (p : Program) (s : Contents) (g : Graph) (b : Book) (is : IsSpaceOf p s
         let q = home_in a i in
         let from = q.0 in
         let to = q.1 in
-        let nursery = nursery_is p s g b is owner heap contents in
-        let blocks = blocks_is p s g b is owner heap contents in
+        let nursery = front.nursery_is in
+        let blocks = front.blocks_is in
         let most_blocks = contents.layout.blocks_most in
         let most_nursery = contents.layout.nursery_most in
         is_address (m a) (omega arith) (omega arith)
@@ -132,7 +131,7 @@ module _ (p : Program) (s : Contents) (g : Graph) (b : Book) (is : IsSpaceOf p s
     pinned_plain : (a c : ℕ) → word tagged a ≡ plain_word c → In a pins → ⊥
     pinned_plain a c plain i =
         let q = ps.each a i in
-        let first = ap (word s) (sym q.2) ∙ class_is p s g b is owner heap contents q.0 q.1.0.0 q.1.0.1 in
+        let first = ap (word s) (sym q.2) ∙ front.class_is q.0 q.1.0.0 q.1.0.1 in
         let t = tags.tagged a i in
         absurd (omega arith)
 
@@ -140,14 +139,14 @@ module _ (p : Program) (s : Contents) (g : Graph) (b : Book) (is : IsSpaceOf p s
     stayed_first n some stands i =
         let f = image.failed (b.address n) i in
         let same = tags.same (b.address n) (out (b.address n) pins (pinned_plain (b.address n) f.1.0 f.1.1)) in
-        image.pinned (b.address n) i ∙ ap (λ z. z + 2) (same ∙ class_is p s g b is owner heap contents n some stands)
+        image.pinned (b.address n) i ∙ ap (λ z. z + 2) (same ∙ front.class_is n some stands)
 
     pinned_first : (n : ℕ) → n ≢ 0 → b.stands n ≡ true → b.section n ≡ Young → In (b.address n) pins → v (b.address n) ≡ plain_word (g.class n) + 2
     pinned_first n some stands young i =
         same_first n some stands young
         (out (b.address n) went (λ j. let f = image.moved (b.address n) j in pinned_plain (b.address n) f.1.0 f.1.1 i))
         (out (b.address n) stayed (λ j. let f = image.failed (b.address n) j in pinned_plain (b.address n) f.1.0 f.1.1 i))
-        ∙ tags.tagged (b.address n) i ∙ ap (λ z. z + 2) (class_is p s g b is owner heap contents n some stands)
+        ∙ tags.tagged (b.address n) i ∙ ap (λ z. z + 2) (front.class_is n some stands)
 
     pub stays_first : (n : ℕ) → n ≢ 0 → b.stands n ≡ true → b.section n ≡ Young → In (b.address n) (pins ++ stayed) → v (b.address n) ≡ plain_word (g.class n) +
         2
@@ -164,8 +163,7 @@ module _ (p : Program) (s : Contents) (g : Graph) (b : Book) (is : IsSpaceOf p s
         | inl i ↦ inr (inl (in-right (b.address n) pins stayed i))
         | inr not_stayed ↦ elim (cases_Bool (has (b.address n) pins)) [
           | inl i ↦ inr (inl (in-left (b.address n) pins stayed i))
-          | inr not_pin ↦ inr (inr (same_first n some stands young not_went not_stayed ∙ tags.same (b.address n) not_pin ∙ class_is p s g b is owner heap
-              contents n some stands))
+          | inr not_pin ↦ inr (inr (same_first n some stands young not_went not_stayed ∙ tags.same (b.address n) not_pin ∙ front.class_is n some stands))
         ]
       ]
     ]
@@ -197,39 +195,39 @@ module _ (p : Program) (s : Contents) (g : Graph) (b : Book) (is : IsSpaceOf p s
       | inr j ↦ stayed_named a j
     ]
 
-    module _ (told : List Object) (tells : TellsYoung s (owner_of p s g b is owner heap contents) told) where
+    module _ (told : List Object) (tells : TellsYoung s (fronts b.address owner) told) where
       -- the name of an object of the list, and the object of a name
       told_name : (o : Object) → Contains told o → (n : ℕ) × (n ≢ 0) × (b.stands n ≡ true) × (b.section n ≡ Young) × (o.at ≡ byte_at (b.address n)) ×
           (o.class ≡ g.class n) × (o.words ≡ g.size n + 2)
       told_name o i =
           let t = tells.each i.0 o (slice_get_read told _ i.0 o refl i.1 (sym i.2)) in
-          let q = named_front b.address (owner t.0) t.0 t.1 in
+          let q = front.named_front t.0 t.0 t.1 in
           let n = q.0 in
           let at = q.3 in
-          let owns_it = owned p s g b is owner heap contents n t.0 q.2 in
-          let nursery = nursery_is p s g b is owner heap contents in
+          let owns_it = front.owned n t.0 q.2 in
+          let nursery = front.nursery_is in
           let below = t.2.1 in
-          let first : word s t.0 ≡ plain_word (g.class n) = ap (word s) (sym at) ∙ class_is p s g b is owner heap contents n q.1 owns_it.0 in
-          let size : word s (t.0 + 1) ≡ g.size n = ap (λ z. word s (z + 1)) (sym at) ∙ length_is p s g b is owner heap contents n q.1 owns_it.0 in
+          let first : word s t.0 ≡ plain_word (g.class n) = ap (word s) (sym at) ∙ front.class_is n q.1 owns_it.0 in
+          let size : word s (t.0 + 1) ≡ g.size n = ap (λ z. word s (z + 1)) (sym at) ∙ front.length_is n q.1 owns_it.0 in
           let class = t.3.class in
           let words = t.3.words in
-          (n, q.1, owns_it.0, young_there p s g b is owner heap contents n q.1 owns_it.0 (omega arith), t.3.at ∙ ap byte_at (sym at), omega arith, omega arith)
+          (n, q.1, owns_it.0, front.young_there n q.1 owns_it.0 (omega arith), t.3.at ∙ ap byte_at (sym at), omega arith, omega arith)
 
       name_told : (n : ℕ) → n ≢ 0 → b.stands n ≡ true → b.section n ≡ Young → (o : Object) × Contains told o × (o.at ≡ byte_at (b.address n)) ×
           (o.class ≡ g.class n) × (o.words ≡ g.size n + 2)
       name_told n some stands young =
-          let place = young_inside p s g b is owner heap contents n some stands young in
+          let place = front.young_inside n some stands young in
           let from = place.0 in
           let to = place.1 in
-          let nursery = nursery_is p s g b is owner heap contents in
-          let t = tells.all (b.address n) (is_owned p s g b is owner heap contents n (b.address n) some (owns_first p s g b is owner heap contents n stands))
+          let nursery = front.nursery_is in
+          let t = tells.all (b.address n) (front.is_owned n (b.address n) some (front.owns_first n stands))
           (from, omega arith) in
           let o = t.1 in
           let in_told : Contains told o = (t.0, slice_get_within told t.0 o t.2, get_or_from_slice_get told t.0 o o t.2) in
           let q = told_name o in_told in
           let at = q.4 in
           let is_at = t.3 in
-          let same = same_object p s g b is owner heap contents q.0 n q.2 stands (omega arith) in
+          let same = same_object p s g b owner front q.0 n q.2 stands (omega arith) in
           (o, in_told, t.3, q.5 ∙ ap g.class same, q.6 ∙ ap (λ z. g.size z + 2) same)
 
       first_is : (o : Object) (n : ℕ) → o.at ≡ byte_at (b.address n) → first_word o ≡ b.address n
@@ -246,9 +244,9 @@ module _ (p : Program) (s : Contents) (g : Graph) (b : Book) (is : IsSpaceOf p s
           elim (cases_lt (first_word r) (word_behind q)) [
             | inr up ↦ up
             | inl over ↦
-                let mine = owns_first p s g b is owner heap contents n.0 n.2 in
-                let other = owns p s g b is owner heap contents k.0 (b.address n.0) k.2 (omega arith) (omega arith) in
-                let same = ap b.address (one_owner p s g b is owner heap contents k.0 n.0 (b.address n.0) other mine) in
+                let mine = front.owns_first n.0 n.2 in
+                let other = front.owns k.0 (b.address n.0) k.2 (omega arith) (omega arith) in
+                let same = ap b.address (front.one_owner k.0 n.0 (b.address n.0) other mine) in
                 absurd (omega arith)
           ]
 
@@ -258,10 +256,10 @@ module _ (p : Program) (s : Contents) (g : Graph) (b : Book) (is : IsSpaceOf p s
             let n = told_name o i in
             let at = n.4 in
             let words = n.6 in
-            let place = young_inside p s g b is owner heap contents n.0 n.1 n.2 n.3 in
+            let place = front.young_inside n.0 n.1 n.2 n.3 in
             let from = place.0 in
             let to = place.1 in
-            let nursery = nursery_is p s g b is owner heap contents in
+            let nursery = front.nursery_is in
             (omega arith, omega arith, omega arith);
         apart = λ j k d l there. told_apart (get_or told j d) (get_or told k d) (Contains-get_or told j d (omega arith)) (Contains-get_or told k d there)
             (rising (λ (o : Object). o.at) told tells.in_order j k d l there);
@@ -274,7 +272,7 @@ module _ (p : Program) (s : Contents) (g : Graph) (b : Book) (is : IsSpaceOf p s
             let n = told_name o i in
             let at = n.4 in
             let class = n.5 in
-            let few = few_classes p s g b is owner heap contents n.0 n.1 n.2 in
+            let few = front.few_classes n.0 n.1 n.2 in
             let first = ap v (first_is o n.0 at) in
             record {
               class = omega arith;
@@ -302,7 +300,7 @@ module _ (p : Program) (s : Contents) (g : Graph) (b : Book) (is : IsSpaceOf p s
           let q = name_told n.0 n.1 n.2 n.3 in
           let o = q.0 in
           let at = q.2 in
-          let size : word s (a + 1) ≡ g.size n.0 = ap (λ z. word s (z + 1)) (sym n.4) ∙ length_is p s g b is owner heap contents n.0 n.1 n.2 in
+          let size : word s (a + 1) ≡ g.size n.0 = ap (λ z. word s (z + 1)) (sym n.4) ∙ front.length_is n.0 n.1 n.2 in
           let words = q.4 in (
             o,
             q.1,
@@ -322,7 +320,7 @@ module _ (p : Program) (s : Contents) (g : Graph) (b : Book) (is : IsSpaceOf p s
       told_size o i =
           let n = told_name o i in
           let first = first_is o n.0 n.4 in
-          let size : word s (first_word o + 1) ≡ g.size n.0 = ap (λ z. word s (z + 1)) first ∙ length_is p s g b is owner heap contents n.0 n.1 n.2 in
+          let size : word s (first_word o + 1) ≡ g.size n.0 = ap (λ z. word s (z + 1)) first ∙ front.length_is n.0 n.1 n.2 in
           let words = n.6 in
           omega arith
 
@@ -331,7 +329,7 @@ module _ (p : Program) (s : Contents) (g : Graph) (b : Book) (is : IsSpaceOf p s
           let n = told_name o i in
           let at = n.4 in
           let words = n.6 in
-          (n.0, owns p s g b is owner heap contents n.0 x n.2 (omega arith) (omega arith))
+          (n.0, front.owns n.0 x n.2 (omega arith) (omega arith))
 
       not_taken : (x : ℕ) → ((n : ℕ) → owner x ≢ Of n) → IsTaken told x → ⊥
       not_taken x free t = let q = told_owner t.0 x t.1 t.2 t.3 in free q.0 q.1
@@ -343,15 +341,15 @@ module _ (p : Program) (s : Contents) (g : Graph) (b : Book) (is : IsSpaceOf p s
         swept_zero x young none (inr free) = cleaned.others x (not_taken x free) ∙ free_zero x young free
         swept_zero x young none (inl q) =
             let n = q.0 in
-            let o = owned p s g b is owner heap contents n x q.1 in
+            let o = front.owned n x q.1 in
             let from = o.1 in
             let to = o.2 in
             let low = young.0 in
             let high = young.1 in
-            let nursery = nursery_is p s g b is owner heap contents in
+            let nursery = front.nursery_is in
             let some : n ≢ 0 = λ z. (let at = ap b.address z ∙ heap.laid.nothing.at_nil in let nil = ap g.size z ∙ heap.laid.nothing.no_size in absurd
             (omega arith)) in
-            let is_young = young_there p s g b is owner heap contents n some o.0 (omega arith) in
+            let is_young = front.young_there n some o.0 (omega arith) in
             let t = name_told n some o.0 is_young in
             let at = t.2 in
             let words = t.4 in
@@ -379,7 +377,7 @@ module _ (p : Program) (s : Contents) (g : Graph) (b : Book) (is : IsSpaceOf p s
               let high = place.2 in
               let from = t.2 in
               let to = t.3 in
-              let nursery = nursery_is p s g b is owner heap contents in
+              let nursery = front.nursery_is in
               old (omega arith, omega arith));
         }
 

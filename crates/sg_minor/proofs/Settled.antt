@@ -1,8 +1,7 @@
 -- After a pause blocks and cards are settled.
-use Rattle.std.proofs.Common.{◌≡◌, ◌≢◌, ℕ, ◌+◌, ◌<◌, ◌≤◌, inl, inr, true, false, refl, sym, ap, ◌∙◌, subst, arith, ◌⊎◌}
+use Rattle.std.proofs.Common.{◌≡◌, ◌≢◌, ℕ, ◌+◌, ◌<◌, ◌≤◌, inl, inr, true, refl, sym, ap, ◌∙◌, subst, arith, ◌⊎◌}
 use Rattle.std.specs.Int.{bit_at}
 use Rattle.std.proofs.lemmas.Bool.{false≢true}
-use Rattle.std.proofs.lemmas.Nat.Bits.{bit_at-zero}
 use Rattle.sg_words.specs.Address.{byte_at}
 use Rattle.sg_words.specs.Blocks.{IsSizeClass, IsOf, IsOwing, is_taken, card_of}
 use Rattle.sg_words.specs.Words.{Words}
@@ -14,6 +13,7 @@ use Rattle.sg_graph.specs.Book.{Young, Old, nursery_end, old_end, slot_words, wo
 use Rattle.sg_graph.specs.Blocks.{IsClear, AreBlocks, AreSettled}
 use Rattle.sg_graph.specs.Heap.{Of, layout_of}
 use Rattle.sg_round.specs.Area.{IsYoung}
+use Rattle.sg_heap.specs.Holding.{OwesNothing}
 use Rattle.sg_minor.specs.Joined.{IsOldField, OfOld, OfCopy, IsUncopied}
 use Rattle.sg_minor.proofs.Mirrors.{AreBlocksBy}
 use Rattle.sg_minor.proofs.Names.{some-name, name-some, size-is, strong-of}
@@ -42,8 +42,13 @@ not-sweeping : (state : BlockWord) (z : ℕ) → (state ≡ Free) ⊎ ((y : ℕ)
 not-sweeping state z (inl e) h = let k : Free ≡ Sweeping z = sym e ∙ h in cc
 not-sweeping state z (inr q) h = let k : Swept q.0 ≡ Sweeping z = sym q.2 ∙ h in cc
 
+-- free blocks have no mark, and swept ones on occupied slots alone
+pub record AreMarked (blocks : ℕ) (w : Words) : Type 0 where
+  pub unmarked : (j : ℕ) → j < blocks → w.block j ≡ Free → w.marks j ≡ 0
+  pub within : (j z i : ℕ) → j < blocks → w.block j ≡ Swept z → bit_at (w.marks j) i ≡ 1 → bit_at (w.used j) i ≡ 1
+
 module _ (c : Ended) (w : Words) (is : (x : ℕ) → w.word x ≡ c.v x) (by : AreBlocksBy c.p c.g (booked c) w.block w.used)
-    (clear : (x : ℕ) → nursery_end c.p ≤ x → x < old_end c.p → ((n : ℕ) → c.owner x ≢ Of n) → c.w x ≡ 0) (none_marked : (j : ℕ) → w.marks j ≡ 0) where
+    (clear : (x : ℕ) → nursery_end c.p ≤ x → x < old_end c.p → ((n : ℕ) → c.owner x ≢ Of n) → c.w x ≡ 0) (marked : AreMarked c.p.config.blocks w) where
   -- an object that had a word of the major heap has it still
   old-word : (n x : ℕ) → nursery_end c.p ≤ x → IsWordOf c.g c.b n x → owner3 c x ≡ Of n
   old-word n x l o = elim (lies c n o.stands (name-some n o.some)) [
@@ -91,8 +96,8 @@ module _ (c : Ended) (w : Words) (is : (x : ℕ) → w.word x ≡ c.v x) (by : A
       bare = by.bare j there;
       owing = λ z h. absurd (no-owing (w.block j) z (by.states j there) h);
       kept = λ z i h set. absurd (no-owing (w.block j) z (by.states j there) h);
-      unmarked = λ e. none_marked j;
-      within = λ z e i set. absurd (let none = ap (λ (m : ℕ). bit_at m i) (none_marked j) ∙ bit_at-zero i in omega arith);
+      unmarked = marked.unmarked j there;
+      within = λ z e i set. marked.within j z i there e set;
     };
     clear = is-clear;
     sized = λ j z there of. of-class (w.block j) z (by.states j there) of;
@@ -118,7 +123,7 @@ module _ (c : Ended) (w : Words) (is : (x : ℕ) → w.word x ≡ c.v x) (by : A
 
   module _ (carded : (x y : ℕ) → IsOldField c.p c.area c.w c.g c.b c.moves c.m x → c.v x ≡ byte_at y → IsYoung c.area y → w.card (card_of (layout_of c.p) x) ≡
       1)
-      (unowed : (j : ℕ) → j < c.p.config.blocks → c.b.owed j ≡ false) where
+      (owes : OwesNothing c.p c.b) where
     pub is-settled : AreSettled c.p w c.g (booked c) (owner3 c)
     is-settled = record {
       blocks = are-blocks;
@@ -126,7 +131,7 @@ module _ (c : Ended) (w : Words) (is : (x : ℕ) → w.word x ≡ c.v x) (by : A
       inhabited = λ j z there e.
           let n = by.inhabited j z there e in
           (n.0, n.1.some, n.1.stands, n.1.above, n.1.below);
-      owes = λ j there e. absurd (false≢true (sym (unowed j there) ∙ e));
+      owes = λ j there e. absurd (false≢true (sym (owes j there) ∙ e));
       cards = record {
         dirty = λ n i m l s o within strong ref some young.
             let stands = target-stands c n i m s within ref in

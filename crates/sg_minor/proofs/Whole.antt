@@ -18,12 +18,14 @@ use Rattle.sg_copy.specs.Copying.{CanCopy, HasCopiedTo}
 use Rattle.sg_pins.specs.Pins.{ArePinned}
 use Rattle.sg_nursery.specs.Parts.{HasTagged, AreRounded, AreStaying, AreKept, AreCleaned, ArePlain}
 use Rattle.sg_nursery.specs.Pieces.{ArePieces}
-use Rattle.sg_minor.specs.Holding.{HoldsHeap}
+use Rattle.sg_heap.specs.Fronts.{fronts, IsFronted}
+use Rattle.sg_heap.specs.Holding.{HoldsHeap, OwesNothing}
+use Rattle.sg_heap.specs.Laws.{FrontLaw}
 use Rattle.sg_minor.specs.Joined.{ArePins, AreFound, slots_from, HasSwept, HasBlocksOf, IsBegun, IsEnded, JoinLaw}
 use Rattle.sg_minor.specs.Law.{AreTold, IsRefitted, HasPaused, PauseLaw}
 use Rattle.sg_minor.specs.Laws.{ArePinnedIn}
 use Rattle.sg_minor.specs.Parts.{HasTraced, HasFinished}
-use Rattle.sg_minor.proofs.Sound.{owner_of, sound_by}
+use Rattle.sg_minor.proofs.Sown.{fronted_heap}
 use Rattle.sg_minor.proofs.Pinned.{are_pins, are_plain}
 use Rattle.sg_minor.proofs.OldNames.{words_in_order}
 use Rattle.sg_minor.proofs.Joins.{area_before, begins, items, image_for, homes}
@@ -36,22 +38,26 @@ pub pins_told : (s : Contents) (told seen : List Object) (ambiguous pins : List 
     pins
 pins_told s told seen ambiguous pins e tells pinned owner sound = pinned s owner sound (subst (TellsYoung s owner) (sym e) (tells owner sound))
 
-module _ (p : Program) (s : Contents) (g : Graph) (b : Book) (heap : HoldsHeap p s g b) (contents : IsContents s) (ambiguous bytes : List ℕ)
+module _ (law : FrontLaw) (p : Program) (s : Contents) (g : Graph) (b : Book) (heap : HoldsHeap p s g b) (contents : IsContents s) (ambiguous bytes : List ℕ)
     (pinned : ArePinnedIn s ambiguous bytes) where
-  pins_of_heap : ArePinned s.layout (owner_of p s g b heap.0 heap.1.0 heap.1.1 contents) ambiguous bytes
-  pins_of_heap = pinned (owner_of p s g b heap.0 heap.1.0 heap.1.1 contents) (sound_by p s g b heap.0 heap.1.0 heap.1.1 contents heap.1.2)
+  abbrev front : IsFronted p s g b heap.1.0
+  front = fronted_heap law p s g b heap contents
+
+  pins_of_heap : ArePinned s.layout (fronts b.address heap.1.0) ambiguous bytes
+  pins_of_heap = pinned (fronts b.address heap.1.0) (front.sound)
 
   named_pins : ArePins g b ambiguous (map word_at bytes)
-  named_pins = are_pins p s g b heap.0 heap.1.0 heap.1.1 contents ambiguous bytes pins_of_heap
+  named_pins = are_pins p s g b heap.1.0 front ambiguous bytes pins_of_heap
 
   pub plain_pins : ArePlain s bytes
-  plain_pins = are_plain p s g b heap.0 heap.1.0 heap.1.1 contents ambiguous bytes pins_of_heap
+  plain_pins = are_plain p s g b heap.1.0 front ambiguous bytes pins_of_heap
 
-  module _ (found : List Seed) (seeds : AreFound s found) (tagged : Contents) (still : IsStill s tagged)
+  module _ (owes : OwesNothing p b) (found : List Seed) (seeds : AreFound s found) (tagged : Contents) (still : IsStill s tagged)
       (tags : HasTagged (word s) (map word_at bytes) (word tagged)) where
-    begun : IsBegun p s g b ambiguous (map word_at bytes) found tagged
+    abbrev begun : IsBegun p s g b ambiguous (map word_at bytes) found tagged
     begun = record {
       heap = heap;
+      owes = owes;
       contents = contents;
       pinned = named_pins;
       in_order = words_in_order bytes pins_of_heap.in_order plain_pins.whole;
@@ -65,25 +71,25 @@ module _ (p : Program) (s : Contents) (g : Graph) (b : Book) (heap : HoldsHeap p
 
     module _ (told : List Object) (tells : (owner : ℕ → Option ℕ) → IsSoundBy s owner → TellsYoung s owner told)
         (round : Contents) (moves : List Move) (fails : List ℕ) (copied : HasCopiedTo tagged (slots_from s found) (map word_at bytes) round moves fails) where
-      told_of_heap : TellsYoung s (owner_of p s g b heap.0 heap.1.0 heap.1.1 contents) told
-      told_of_heap = tells (owner_of p s g b heap.0 heap.1.0 heap.1.1 contents) (sound_by p s g b heap.0 heap.1.0 heap.1.1 contents heap.1.2)
+      told_of_heap : TellsYoung s (fronts b.address heap.1.0) told
+      told_of_heap = tells (fronts b.address heap.1.0) (front.sound)
 
       round_layout : round.layout ≡ s.layout
       round_layout = ap (λ (z : Contents). z.layout) copied.still.same ∙ ap (λ (z : Contents). z.layout) still.0
 
       pub is_rounded : AreRounded round.layout (word round) told
       is_rounded = subst (λ l. AreRounded l (word round) told) (sym round_layout)
-          (told_rounded p s g b heap.0 heap.1.0 heap.1.1 contents ambiguous (map word_at bytes) named_pins tagged tags
-          (items p s g b ambiguous (map word_at bytes) found tagged begun) (begins p s g b ambiguous (map word_at bytes) found tagged begun)
-          copied.went copied.stayed copied.m (word round) (image_for p s g b ambiguous (map word_at bytes) found tagged begun round moves fails copied)
-          (homes p s g b ambiguous (map word_at bytes) found tagged begun round moves fails copied)
+          (told_rounded p s g b heap.1.0 heap.1.1 contents front ambiguous (map word_at bytes) named_pins tagged tags
+          (items p s g b ambiguous (map word_at bytes) found tagged begun front) (begins p s g b ambiguous (map word_at bytes) found tagged begun front)
+          copied.went copied.stayed copied.m (word round) (image_for p s g b ambiguous (map word_at bytes) found tagged begun front round moves fails copied)
+          (homes p s g b ambiguous (map word_at bytes) found tagged begun front round moves fails copied)
           told told_of_heap)
 
       pub is_staying : AreStaying (word round) told bytes
-      is_staying = told_staying p s g b heap.0 heap.1.0 heap.1.1 contents ambiguous (map word_at bytes) named_pins tagged tags
-          (items p s g b ambiguous (map word_at bytes) found tagged begun) (begins p s g b ambiguous (map word_at bytes) found tagged begun)
-          copied.went copied.stayed copied.m (word round) (image_for p s g b ambiguous (map word_at bytes) found tagged begun round moves fails copied)
-          (homes p s g b ambiguous (map word_at bytes) found tagged begun round moves fails copied)
+      is_staying = told_staying p s g b heap.1.0 heap.1.1 contents front ambiguous (map word_at bytes) named_pins tagged tags
+          (items p s g b ambiguous (map word_at bytes) found tagged begun front) (begins p s g b ambiguous (map word_at bytes) found tagged begun front)
+          copied.went copied.stayed copied.m (word round) (image_for p s g b ambiguous (map word_at bytes) found tagged begun front round moves fails copied)
+          (homes p s g b ambiguous (map word_at bytes) found tagged begun front round moves fails copied)
           told told_of_heap bytes pins_of_heap.in_order plain_pins.whole refl
 
       card_bit : (c : ℕ) → slice_index round.cards c ≤ 1
@@ -131,11 +137,11 @@ module _ (p : Program) (s : Contents) (g : Graph) (b : Book) (heap : HoldsHeap p
         ended : JoinLaw → IsEnded p s g b ambiguous (map word_at bytes) copied.went copied.stayed copied.m final
         ended join = join.closes p s g b ambiguous (map word_at bytes) found tagged round moves fails begun copied final blocks_of
             (subst (λ (a : Area). HasSwept a (word s) (map word_at bytes ++ copied.stayed) (word round) (word final))
-            (sym (area_before p s g b ambiguous (map word_at bytes) found tagged begun))
-            (has_swept p s g b heap.0 heap.1.0 heap.1.1 contents ambiguous (map word_at bytes) named_pins tagged tags
-            (items p s g b ambiguous (map word_at bytes) found tagged begun) (begins p s g b ambiguous (map word_at bytes) found tagged begun)
-            copied.went copied.stayed copied.m (word round) (image_for p s g b ambiguous (map word_at bytes) found tagged begun round moves fails copied)
-            (homes p s g b ambiguous (map word_at bytes) found tagged begun round moves fails copied)
+            (sym (area_before p s g b ambiguous (map word_at bytes) found tagged begun front))
+            (has_swept p s g b heap.1.0 heap.1.1 contents front ambiguous (map word_at bytes) named_pins tagged tags
+            (items p s g b ambiguous (map word_at bytes) found tagged begun front) (begins p s g b ambiguous (map word_at bytes) found tagged begun front)
+            copied.went copied.stayed copied.m (word round) (image_for p s g b ambiguous (map word_at bytes) found tagged begun front round moves fails copied)
+            (homes p s g b ambiguous (map word_at bytes) found tagged begun front round moves fails copied)
             told told_of_heap (word final) (subst (λ l. AreCleaned told (word round) (λ x. slice_index l x)) (sym words_is) f.cleaned)))
 
         after : final ≡ record s {
@@ -173,31 +179,31 @@ module _ (p : Program) (s : Contents) (g : Graph) (b : Book) (heap : HoldsHeap p
         }
 
         pub is_paused : JoinLaw → PauseLaw → IsPlain p g → HasPaused p g b ambiguous final report
-        is_paused join law plain =
-            law p s g b ambiguous (map word_at bytes) copied.went copied.stayed copied.m final f.standing report heap plain contents named_pins (ended join)
+        is_paused join pause plain =
+            pause p s g b ambiguous (map word_at bytes) copied.went copied.stayed copied.m final f.standing report heap owes plain contents named_pins (ended join)
             (record {
               pins = subst (λ (z : List ℕ). AreTold z (map word_at bytes)) (sym f.pins_are)
-                  (told_pins p s g b heap.0 heap.1.0 heap.1.1 contents ambiguous (map word_at bytes) named_pins tagged tags
-                  (items p s g b ambiguous (map word_at bytes) found tagged begun) (begins p s g b ambiguous (map word_at bytes) found tagged begun)
-                  copied.went copied.stayed copied.m (word round) (image_for p s g b ambiguous (map word_at bytes) found tagged begun round moves fails copied)
-                  (homes p s g b ambiguous (map word_at bytes) found tagged begun round moves fails copied)
+                  (told_pins p s g b heap.1.0 heap.1.1 contents front ambiguous (map word_at bytes) named_pins tagged tags
+                  (items p s g b ambiguous (map word_at bytes) found tagged begun front) (begins p s g b ambiguous (map word_at bytes) found tagged begun front)
+                  copied.went copied.stayed copied.m (word round) (image_for p s g b ambiguous (map word_at bytes) found tagged begun front round moves fails copied)
+                  (homes p s g b ambiguous (map word_at bytes) found tagged begun front round moves fails copied)
                   told told_of_heap bytes pins_of_heap.in_order plain_pins.whole refl);
-              moves = told_moves p s g b heap.0 heap.1.0 heap.1.1 contents ambiguous (map word_at bytes) named_pins tagged tags
-                  (items p s g b ambiguous (map word_at bytes) found tagged begun) (begins p s g b ambiguous (map word_at bytes) found tagged begun)
-                  copied.went copied.stayed copied.m (word round) (image_for p s g b ambiguous (map word_at bytes) found tagged begun round moves fails copied)
-                  (homes p s g b ambiguous (map word_at bytes) found tagged begun round moves fails copied)
+              moves = told_moves p s g b heap.1.0 heap.1.1 contents front ambiguous (map word_at bytes) named_pins tagged tags
+                  (items p s g b ambiguous (map word_at bytes) found tagged begun front) (begins p s g b ambiguous (map word_at bytes) found tagged begun front)
+                  copied.went copied.stayed copied.m (word round) (image_for p s g b ambiguous (map word_at bytes) found tagged begun front round moves fails copied)
+                  (homes p s g b ambiguous (map word_at bytes) found tagged begun front round moves fails copied)
                   told told_of_heap bytes pins_of_heap.in_order plain_pins.whole refl f.standing report.moves report.fails kept_here;
-              fails = told_fails p s g b heap.0 heap.1.0 heap.1.1 contents ambiguous (map word_at bytes) named_pins tagged tags
-                  (items p s g b ambiguous (map word_at bytes) found tagged begun) (begins p s g b ambiguous (map word_at bytes) found tagged begun)
-                  copied.went copied.stayed copied.m (word round) (image_for p s g b ambiguous (map word_at bytes) found tagged begun round moves fails copied)
-                  (homes p s g b ambiguous (map word_at bytes) found tagged begun round moves fails copied)
+              fails = told_fails p s g b heap.1.0 heap.1.1 contents front ambiguous (map word_at bytes) named_pins tagged tags
+                  (items p s g b ambiguous (map word_at bytes) found tagged begun front) (begins p s g b ambiguous (map word_at bytes) found tagged begun front)
+                  copied.went copied.stayed copied.m (word round) (image_for p s g b ambiguous (map word_at bytes) found tagged begun front round moves fails copied)
+                  (homes p s g b ambiguous (map word_at bytes) found tagged begun front round moves fails copied)
                   told told_of_heap bytes pins_of_heap.in_order plain_pins.whole refl f.standing report.moves report.fails kept_here;
               spares = f.spares;
             })
-            (have_words p s g b heap.0 heap.1.0 heap.1.1 contents ambiguous (map word_at bytes) named_pins tagged tags
-            (items p s g b ambiguous (map word_at bytes) found tagged begun) (begins p s g b ambiguous (map word_at bytes) found tagged begun)
-            copied.went copied.stayed copied.m (word round) (image_for p s g b ambiguous (map word_at bytes) found tagged begun round moves fails copied)
-            (homes p s g b ambiguous (map word_at bytes) found tagged begun round moves fails copied)
+            (have_words p s g b heap.1.0 heap.1.1 contents front ambiguous (map word_at bytes) named_pins tagged tags
+            (items p s g b ambiguous (map word_at bytes) found tagged begun front) (begins p s g b ambiguous (map word_at bytes) found tagged begun front)
+            copied.went copied.stayed copied.m (word round) (image_for p s g b ambiguous (map word_at bytes) found tagged begun front round moves fails copied)
+            (homes p s g b ambiguous (map word_at bytes) found tagged begun front round moves fails copied)
             told told_of_heap bytes pins_of_heap.in_order plain_pins.whole refl f.standing report.moves report.fails kept_here)
             (subst (λ l. ArePieces l f.standing report.pieces) swept_layout f.tiles) refitted
 

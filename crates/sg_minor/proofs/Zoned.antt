@@ -1,8 +1,8 @@
 -- The blocks of a space that holds a graph by a book, and the words of its major heap that are no object's.
-use Rattle.std.proofs.Common.{◌≡◌, ◌≢◌, ℕ, ◌<◌, ◌≤◌, ◌⊎◌, inl, inr, cond, leb, ltb, Bool, true, false, refl, sym, ap, ◌∙◌, subst, arith}
+use Rattle.std.proofs.Common.{◌≡◌, ◌≢◌, ℕ, ◌-◌, ◌/◌, ◌<◌, ◌≤◌, ◌⊎◌, inl, inr, cond, leb, ltb, Bool, true, false, refl, sym, ap, ◌∙◌, subst, arith}
 use Rattle.std.specs.Int.{bit_at}
 use Rattle.std.proofs.lemmas.Bool.{cases_Bool, cond-true, cond-false, le-leb, lt-ltb, leb-true, ltb-true, false≢true}
-use Rattle.sg_words.specs.Blocks.{IsSizeClass, IsOf, is_taken}
+use Rattle.sg_words.specs.Blocks.{IsSizeClass, IsOf, IsOwing, is_taken}
 use Rattle.sg_words.specs.declared.steps.BlockWord.{BlockWord}
 use Rattle.sg_words.specs.declared.steps.BlockWord.TheVariants.{Free, Swept, Need, Sweeping}
 use Rattle.sg_words.proofs.Blocks.{slot_fits}
@@ -11,13 +11,13 @@ use Rattle.sg_graph.specs.Graph.{Graph}
 use Rattle.sg_graph.specs.Book.{Book, nursery_end, old_end, slot_words}
 use Rattle.sg_graph.specs.Blocks.{AreSettled}
 use Rattle.sg_graph.specs.Heap.{Owner, Of, Frag, Buf, Nobody, IsHeap}
-use Rattle.sg_space.specs.Space.{Contents, IsContents, words_of}
+use Rattle.sg_space.specs.Space.{Contents, words_of}
 use Rattle.sg_space.specs.Standing.{word, block_in, used_in, marks_in}
 use Rattle.sg_round.specs.Round.{AreZoned}
-use Rattle.sg_minor.specs.Holding.{IsSpaceOf}
+use Rattle.sg_heap.specs.Fronts.{IsFronted}
+use Rattle.sg_heap.specs.Holding.{IsSpaceOf, OwesNothing}
 use Rattle.sg_minor.proofs.Areas.{area_for}
 use Rattle.sg_minor.proofs.Mirrors.{AreBlocksBy, clear_empty}
-use Rattle.sg_minor.proofs.Sound.{owned_block, not_owing, few_fields, inside, old_there, owned, no_dirty, block_of}
 
 -- whether a word with this owner is no object's
 is_free : Owner → Bool
@@ -79,11 +79,12 @@ states_of (Need y) need sweeping sized = absurd (need y refl)
 states_of (Sweeping y) need sweeping sized = absurd (sweeping y refl)
 
 module _ (p : Program) (s : Contents) (g : Graph) (b : Book) (is : IsSpaceOf p s b) (owner : ℕ → Owner) (heap : IsHeap p (word s) g b owner)
-    (contents : IsContents s)
-    (settled : AreSettled p (words_of s) g b owner) where
+    (front : IsFronted p s g b owner) (settled : AreSettled p (words_of s) g b owner) (owes : OwesNothing p b) where
+  not_owing : (c z : ℕ) → c < p.config.blocks → IsOwing (block_in s c) z → ⊥
+  not_owing c z there owing = false≢true (sym (owes c there) ∙ (settled.blocks.each c there).owing z owing)
+
   not_need : (c y : ℕ) → c < p.config.blocks → block_in s c ≢ Need y
-  not_need c y there e = not_owing p s g b is owner heap contents (Need y) c y there
-      (subst (λ (w : BlockWord). owned_block p s g b is owner heap contents w c) e (settled.blocks.each c there).owing) refl
+  not_need c y there e = not_owing c y there (subst (λ (w : BlockWord). IsOwing w y) (sym e) refl)
 
   not_sweeping : (c y : ℕ) → c < p.config.blocks → block_in s c ≢ Sweeping y
   not_sweeping c y there e = settled.settled c y there e
@@ -119,13 +120,13 @@ module _ (p : Program) (s : Contents) (g : Graph) (b : Book) (is : IsSpaceOf p s
           record {
             some = n.1;
             stands = n.2;
-            old = old_there p s g b is owner heap contents n.0 some n.2 (let low = n.3 in omega arith);
+            old = front.old_there n.0 some n.2 (let low = n.3 in omega arith);
             above = n.3;
             below = n.4;
           },
         );
-    small = λ n l stands. let few = few_fields p s g b is owner heap contents n (λ k. absurd (omega arith)) stands in omega arith;
-    others = λ n l stands. elim (inside p s g b is owner heap contents n (λ k. absurd (omega arith)) stands) [
+    small = λ n l stands. let few = front.few_fields n (λ k. absurd (omega arith)) stands in omega arith;
+    others = λ n l stands. elim (heap.laid.objects.inside n l stands) [
       | inl young ↦ inr young.2
       | inr old ↦ inl old.0
     ];
@@ -134,8 +135,8 @@ module _ (p : Program) (s : Contents) (g : Graph) (b : Book) (is : IsSpaceOf p s
   -- a word of the blocks that is no object's is zero
   pub clear_heap : (y : ℕ) → nursery_end p ≤ y → y < old_end p → ((n : ℕ) → owner y ≢ Of n) → word s y ≡ 0
   clear_heap y from to none =
-      let c = block_of p s g b is owner heap contents settled y from to in
-      settled.blocks.clear c.0 c.1 y c.2 c.3 none (no_dirty p s g b is owner heap contents settled c.0 y c.1)
+      let c = (y - nursery_end p) / 256 in
+      settled.blocks.clear c (omega arith) y (omega arith) (omega arith) none (λ d. not_owing c d.size (omega arith) d.owing)
 
   pub zone_zero : IsZone p (word s) owner (zone_in p owner)
   zone_zero = record {
@@ -155,7 +156,7 @@ module _ (p : Program) (s : Contents) (g : Graph) (b : Book) (is : IsSpaceOf p s
         let from = inner.2 in
         let to = inner.3 in
         is_zone p owner y (omega arith) (omega arith) (not-free (owner y) (λ n e.
-        let o = owned p s g b is owner heap contents n y e in
+        let o = front.owned n y e in
         let some : n ≢ 0 = λ k. (let nil = ap b.address k ∙ heap.laid.nothing.at_nil in let none = ap g.size k ∙ heap.laid.nothing.no_size in let end = o.2 in
         absurd (omega arith)) in
         clear_empty p g b (block_in s) (used_in s) blocks_by c z i inner.1 clear n y

@@ -1,5 +1,6 @@
 -- How the parts of a pause meet: tags of the pinned objects, a round of copying, tags away and sweep.
 use Rattle.std.specs.Prelude.{◌≡◌, ◌≢◌, ℕ, ◌+◌, ◌<◌, ◌≤◌, ◌⊎◌, nat_le, nat_lt, ◌==◌, ◌&&◌, Bool, true, false, if◌then◌else◌, Option, List, ◌++◌, map, filter}
+use Rattle.std.specs.Int.{bit_at}
 use Rattle.std.specs.List.Sorted.{IsStrictlyIncreasing}
 use Rattle.sg_words.specs.Found.{IsSearched}
 use Rattle.sg_words.specs.Address.{byte_at, word_at}
@@ -8,6 +9,7 @@ use Rattle.sg_words.specs.Lists.{In, has}
 use Rattle.sg_words.specs.Objects.{size_of, sent}
 use Rattle.sg_words.specs.Reach.{Reached}
 use Rattle.sg_words.specs.Sections.{globals_base}
+use Rattle.sg_words.specs.declared.steps.BlockWord.TheVariants.{Free}
 use Rattle.sg_words.specs.declared.layout.Layout.{Layout}
 use Rattle.sg_words.specs.declared.pieces.Move.{Move}
 use Rattle.sg_desc.specs.Shapes.{is_strong as is_strong_by}
@@ -29,7 +31,7 @@ use Rattle.sg_round.specs.Order.{Fits}
 use Rattle.sg_round.specs.Round.{IsPassed}
 use Rattle.sg_copy.specs.Copying.{area_of, card_in, CanCopy, HasCopiedTo}
 use Rattle.sg_nursery.specs.Parts.{HasTagged}
-use Rattle.sg_minor.specs.Holding.{HoldsHeap}
+use Rattle.sg_heap.specs.Holding.{HoldsHeap, OwesNothing}
 
 -- these are the first words of exactly the pinned objects
 pub record ArePins (g : Graph) (b : Book) (ambiguous pins : List ℕ) : Type 0 where
@@ -127,6 +129,7 @@ pub record HasBlocksOf (old new : Contents) : Type 0 where
 -- the parts of a pause up to the round
 pub record IsBegun (p : Program) (s : Contents) (g : Graph) (b : Book) (ambiguous pins : List ℕ) (found : List Seed) (tagged : Contents) : Type 0 where
   pub heap : HoldsHeap p s g b
+  pub owes : OwesNothing p b
   pub contents : IsContents s
   pub pinned : ArePins g b ambiguous pins
   pub in_order : IsStrictlyIncreasing pins
@@ -151,6 +154,11 @@ pub data IsOldField (p : Program) (area : Area) (w : ℕ → ℕ) (g : Graph) (b
       x ≡ b.address n + 2 + i → IsOldField p area w g b moves m x
   OfCopy : (a i : ℕ) → In a moves → i < w (a + 1) → is_strong area w a i ≡ true → x ≡ m a + 2 + i → IsOldField p area w g b moves m x
 
+-- a block's word changes from Free alone, and no bit falls
+pub record AreRisen (s v : Contents) : Type 0 where
+  pub opened : (c : ℕ) → (block_in v c ≡ block_in s c) ⊎ (block_in s c ≡ Free)
+  pub risen : (c i : ℕ) → bit_at (used_in s c) i ≡ 1 → bit_at (used_in v c) i ≡ 1
+
 -- where the objects are after a pause, what stayed and what moved, and how blocks and cards are
 pub record IsEnded (p : Program) (s : Contents) (g : Graph) (b : Book) (ambiguous pins : List ℕ) (moves fails : List ℕ) (m : ℕ → ℕ) (v : Contents) : Type 0
   where
@@ -160,6 +168,7 @@ pub record IsEnded (p : Program) (s : Contents) (g : Graph) (b : Book) (ambiguou
     pub failed : (a : ℕ) → In a fails → has a pins ≡ false
     pub full : (a c : ℕ) → In a fails → c < p.config.blocks → IsPassed (block_in v) (used_in v) (slot_size (size_of (word s) a)) c
     pub order : IsOrdered p s g b ambiguous moves fails m v
+    pub risen : AreRisen s v
     -- each strong field of an old object that refers to a young one has a dirty card
     pub carded : (x y : ℕ) → IsOldField p (area_of s) (word s) g b moves m x → word v x ≡ byte_at y → IsYoung (area_of s) y → card_in v (card_of (layout_of p) x)
         ≡ 1

@@ -16,7 +16,7 @@ use Rattle.sg_graph.specs.Minor.{sources, IsMinorPause}
 use Rattle.sg_space.specs.declared.objects.Object.{Object}
 use Rattle.sg_space.specs.Space.{Contents, IsContents}
 use Rattle.sg_space.specs.Standing.{word}
-use Rattle.sg_minor.specs.Holding.{HoldsHeap}
+use Rattle.sg_heap.specs.Holding.{HoldsHeap, OwesNothing}
 use Rattle.sg_words.specs.Lists.{In}
 use Rattle.sg_words.specs.Objects.{size_of}
 use Rattle.sg_nursery.specs.Pieces.{IsTaken, ArePieces}
@@ -59,7 +59,7 @@ abbrev pub PauseLaw : Type 0
 PauseLaw =
     (p : Program) (s : Contents) (g : Graph) (b : Book) (ambiguous pins moves fails : List ℕ) (m : ℕ → ℕ) (v : Contents) (standing : List Object)
     (report : MinorReport) →
-    HoldsHeap p s g b → IsPlain p g → IsContents s → ArePins g b ambiguous pins → IsEnded p s g b ambiguous pins moves fails m v → IsReportOf report pins moves
+    HoldsHeap p s g b → OwesNothing p b → IsPlain p g → IsContents s → ArePins g b ambiguous pins → IsEnded p s g b ambiguous pins moves fails m v → IsReportOf report pins moves
     fails m →
     HaveWords standing (word s) (pins ++ fails) → ArePieces s.layout standing report.pieces → IsRefitted s v report.pieces →
     HasPaused p g b ambiguous v report

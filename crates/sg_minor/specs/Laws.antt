@@ -12,7 +12,7 @@ use Rattle.sg_cards.specs.Seeds.{AreCarded}
 use Rattle.sg_pins.specs.Pins.{ArePinned}
 use Rattle.sg_nursery.specs.Parts.{HasTagged, ArePlain}
 use Rattle.sg_copy.specs.Copying.{CanCopy}
-use Rattle.sg_minor.specs.Holding.{HoldsHeap}
+use Rattle.sg_heap.specs.Holding.{HoldsHeap, OwesNothing}
 use Rattle.sg_minor.specs.Joined.{AreFound, slots_from}
 
 -- by the first words of its objects the space is sound, refers soundly, and has a dirty card for each field that needs one
@@ -32,7 +32,7 @@ pub record HeapLaw : Type 0 where
   -- what is pinned has plain tags
   pub plain : (p : Program) (s : Contents) (g : Graph) (b : Book) → HoldsHeap p s g b → IsContents s → (ambiguous pins : List ℕ) →
       ArePinnedIn s ambiguous pins → ArePlain s pins
-  -- once that is tagged, a round may copy from the globals, the seeds and the fields of the pinned objects on
-  pub copies : (p : Program) (s : Contents) (g : Graph) (b : Book) → HoldsHeap p s g b → IsContents s → (ambiguous pins : List ℕ) →
+  -- once that is tagged, where no block is owed, a round may copy from the globals, the seeds and the fields of the pinned objects on
+  pub copies : (p : Program) (s : Contents) (g : Graph) (b : Book) → HoldsHeap p s g b → OwesNothing p b → IsContents s → (ambiguous pins : List ℕ) →
       ArePinnedIn s ambiguous pins → (found : List Seed) → AreFound s found → (tagged : Contents) → IsStill s tagged →
       HasTagged (word s) (map word_at pins) (word tagged) → CanCopy tagged (slots_from s found) (map word_at pins)

@@ -16,13 +16,13 @@ use Rattle.sg_cards.specs.declared.found.Seed.{Seed}
 use Rattle.sg_copy.specs.Copying.{area_of, HasCopiedTo}
 use Rattle.sg_nursery.specs.Parts.{HasTagged, AreKept, AreCleaned}
 use Rattle.sg_nursery.specs.Pieces.{ArePieces}
-use Rattle.sg_minor.specs.Holding.{HoldsHeap}
+use Rattle.sg_heap.specs.Holding.{HoldsHeap, OwesNothing}
 use Rattle.sg_minor.specs.Joined.{holds_young, slots_from}
 use Rattle.sg_minor.specs.Laws.{ArePinnedIn}
 
--- some program's graph stands in the space by some book
+-- some program's graph stands in the space by some book, and no block is owed
 abbrev pub HoldsSome : Contents → Type 0
-HoldsSome s = (p : Program) × (g : Graph) × (b : Book) × HoldsHeap p s g b × IsPlain p g
+HoldsSome s = (p : Program) × (g : Graph) × (b : Book) × HoldsHeap p s g b × OwesNothing p b × IsPlain p g
 
 -- to the list of addresses those of these slots are added that refer to young objects, in order
 abbrev pub Adds : Contents → List ℕ → List ℕ → List ℕ → Type 0

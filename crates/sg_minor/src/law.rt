@@ -3,12 +3,14 @@ ghost use Rattle.sg_minor.specs.Laws.{HeapLaw};
 
 use crate::join::join_law;
 use sg_graph::quiet_pause;
+use sg_heap::front_law;
 
 /// The law of a minor pause: the words after it hold the graph by a new book, of which the report tells. It does nothing;
 /// its contract is the law, and it rests on the one of a quiet pause.
 pub fn pause_law()
     ensures { PauseLaw }
 {
+    front_law();
     quiet_pause();
 }
 
@@ -17,5 +19,6 @@ pub fn pause_law()
 pub fn heap_law()
     ensures { HeapLaw }
 {
+    front_law();
     join_law();
 }

@@ -6,7 +6,7 @@ ghost use Rattle.sg_graph.specs.Invariants.{IsPlain};
 ghost use Rattle.sg_space.specs.Space.{IsContents};
 ghost use Rattle.sg_space.specs.Standing.{word};
 ghost use Rattle.sg_nursery.specs.Parts.{AreRounded, AreStaying};
-ghost use Rattle.sg_minor.specs.Holding.{HoldsHeap};
+ghost use Rattle.sg_heap.specs.Holding.{HoldsHeap, OwesNothing};
 ghost use Rattle.sg_minor.specs.Joined.{AreFound};
 ghost use Rattle.sg_minor.specs.Law.{HasPaused};
 ghost use Rattle.sg_minor.specs.Parts.{HoldsSome, HasTraced, HasFinished};
@@ -17,6 +17,7 @@ use crate::slots::first_slots;
 use sg_cards::{Seed, Seeds, clean};
 use sg_copy::copy_one;
 use sg_graph::MinorReport;
+use sg_heap::front_law;
 use sg_nursery::build;
 use sg_nursery::sweep::sweep;
 use sg_nursery::tag::tag;
@@ -42,13 +43,14 @@ pub fn minor(
 ) -> Result<(Space, MinorReport), AllocError>
     requires some { HoldsSome space }
     requires found { AreFound space found }
-    ensures paused { IfOk result (λ r. (p : Program) (g : Graph) (b : Book) → HoldsHeap p space g b → IsPlain p g → HasPaused p g b ambiguous.now r.0 r.1) }
+    ensures paused { IfOk result (λ r. (p : Program) (g : Graph) (b : Book) → HoldsHeap p space g b → OwesNothing p b → IsPlain p g → HasPaused p g b ambiguous.now r.0 r.1) }
     ensures contents { IfOk result (λ r. IsContents r.0) }
     ensures stop { IfOk result (λ r. r.0.stop ≡ space.stop) }
     ensures layout { IfOk result (λ r. r.0.layout ≡ space.layout) }
     ensures shapes { IfOk result (λ r. r.0.shapes ≡ space.shapes) }
 {
-    // The two laws: these calls do nothing.
+    // The laws: these calls do nothing.
+    front_law();
     pause_law();
     join_law();
     let traced = trace(alloc, space, ambiguous, found.all())?;
@@ -82,7 +84,8 @@ fn trace(
     ensures traced { IfOk result (λ traced. HasTraced space ambiguous.now seeds.now traced.told traced.pins traced.space) }
     ensures before { IfOk result (λ _. IsContents space) }
 {
-    // The law: this call does nothing.
+    // The laws: these calls do nothing.
+    front_law();
     join_law();
     let layout = space.layout();
     let told = space.walk_nursery(alloc)?;

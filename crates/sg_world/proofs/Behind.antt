@@ -19,7 +19,7 @@ use Rattle.sg_graph.specs.Stop.{Asked, asked_by, requests_in, wants_pause, want_
 use Rattle.sg_graph.specs.Run.{Phase, Epoch}
 use Rattle.sg_graph.specs.Follows.{IsEpochBy, IsWholeRunBy}
 use Rattle.sg_space.specs.Space.{Contents, words_of, IsContents}
-use Rattle.sg_minor.specs.Holding.{HoldsHeap}
+use Rattle.sg_world.specs.Holding.{HoldsHeap}
 use Rattle.sg_rules.specs.Rules.{Constants, Left, Actor, fresh}
 use Rattle.sg_rules.specs.Resting.{IsRequestOf}
 use Rattle.sg_order.specs.Rest.{IsReady, IsHeld, before_it}

@@ -26,6 +26,7 @@ use Rattle.sg_graph.specs.Follows.FollowsTo.{GoesOn}
 use Rattle.sg_space.specs.Space.{Contents, words_of, IsContents}
 use Rattle.sg_frag.specs.Plain.{KeepsSections}
 use Rattle.sg_minor.specs.Law.{HasPaused}
+use Rattle.sg_world.specs.Holding.{HoldsHeap}
 use Rattle.sg_rules.specs.Rules.{Idle, Actor, fresh, owning}
 use Rattle.sg_order.specs.Rest.{IsReady}
 use Rattle.sg_order.specs.Serving.{StaysReady, ServesReady}
@@ -138,6 +139,13 @@ module _ (keeps : KeepsPointedInto) (stays : StaysReady) (serves : ServesReady) 
   can_go k o Yielded r = tt
   can_go k o stage r = absurd r
 
+  -- and no block is owed after the pause either
+  heap_after : HoldsHeap p v t.graph paused.book
+  heap_after = (
+    record { space = paused.heap.0; unowed = λ j l. ap (λ (owed : ℕ → Bool). owed j) paused.pause.tidies.owed ∙ t.holds.0.unowed j l },
+    paused.heap.1,
+  )
+
   script_few : (k : ℕ) → length (script_of p k) ≤ 1048576
   script_few k = let l = few_in p.mutators k in let q = t.of.can.limits.statements in omega arith
 
@@ -158,9 +166,9 @@ module _ (keeps : KeepsPointedInto) (stays : StaysReady) (serves : ServesReady) 
   pub is_open : IsOpen v
   is_open = record {
     contents = contents;
-    ends = ends_of_heap p v t.graph paused.book paused.heap;
+    ends = ends_of_heap p v t.graph paused.book heap_after;
     bytes =
-        addresses_of_heap p v t.graph paused.book paused.heap;
+        addresses_of_heap p v t.graph paused.book heap_after;
   }
 
   same_requests : requests_of os ≡ requests_of world.mutators
@@ -171,7 +179,7 @@ module _ (keeps : KeepsPointedInto) (stays : StaysReady) (serves : ServesReady) 
   module _ (services : List Service) (u : Contents) (ns : List Mutating) (go : GoOn p v os services u ns) (kept : KeepsSections v u)
       (stopped : u.stop ≡ 0) where
     all : HaveGoneOn p t.graph paused.book 0 os services u ns
-    all = all_go serves makes p t.graph paused.book 0 v u os ns services go (record { contents = contents; plain = t.plain; heap = paused.heap })
+    all = all_go serves makes p t.graph paused.book 0 v u os ns services go (record { contents = contents; plain = t.plain; heap = heap_after })
         (λ r o e. subst (λ k. HasLeftReady p t.graph paused.book k o o.stage × (o.number ≡ k)) (let q : r ≡ 0 + r = omega arith in q) (left_dropped r o e))
 
     requests_so : requests_of os ≡ requests_in report.parts
@@ -293,7 +301,7 @@ module _ (keeps : KeepsPointedInto) (stays : StaysReady) (serves : ServesReady) 
               going = stopped;
               untold = each_actor (λ k a. a.told ≡ []) (λ k n e. (now k n e).untold) (λ k l. refl);
             };
-            space = record { contents = all.holding.contents; layout = all.holding.heap.0.layout };
+            space = record { contents = all.holding.contents; layout = all.holding.heap.0.space.layout };
             are = are;
             stages = λ k n e. (now k n e).stage;
             going = λ ended. t.going (λ k l. sym (all.ended k) ∙ ended k l);

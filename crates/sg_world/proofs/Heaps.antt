@@ -12,7 +12,7 @@ use Rattle.sg_program.specs.declared.program.Program.{Program}
 use Rattle.sg_graph.specs.Graph.{Mutator, Graph}
 use Rattle.sg_graph.specs.Book.{Book}
 use Rattle.sg_graph.specs.Invariants.{IsPlain}
-use Rattle.sg_minor.specs.Holding.{HoldsHeap}
+use Rattle.sg_world.specs.Holding.{HoldsHeap}
 use Rattle.sg_minor.specs.Parts.{HoldsSome}
 use Rattle.sg_space.specs.Space.{Contents, words_of}
 use Rattle.sg_space.specs.Standing.{block_in}
@@ -65,9 +65,9 @@ held_of_heap p s g b plain holds = record {
   heap = holds.1.1;
   settled = holds.1.2;
   plain = plain;
-  number = holds.0.fragments;
-  limits = λ f l. omega (arith, holds.0.limit f l);
-  nexts = holds.0.next;
+  number = holds.0.space.fragments;
+  limits = λ f l. omega (arith, holds.0.space.limit f l);
+  nexts = holds.0.space.next;
 }
 
 -- an owed block is still to be swept, and such a one was owed before
@@ -78,27 +78,27 @@ not_owed state z owed e owing not = let q : false ≡ true = sym not ∙ owing z
 pub heap_of_held : (p : Program) (s t : Contents) (g h : Graph) (b c : Book) → KeepsSections s t → LeavesBlocks s t → HoldsHeap p s g b →
     IsHeld p (constants_of t) (words_of t) h c → HoldsHeap p t h c
 heap_of_held p s t g h b c keeps leaves holds held = (
-  record {
-    layout = keeps.layout ∙ holds.0.layout;
-    shapes = keeps.shapes ∙ holds.0.shapes;
+  record { space = record {
+    layout = keeps.layout ∙ holds.0.space.layout;
+    shapes = keeps.shapes ∙ holds.0.space.shapes;
     fragments = held.number;
-    same = keeps.next ∙ holds.0.same ∙ sym (ap length keeps.ends);
+    same = keeps.next ∙ holds.0.space.same ∙ sym (ap length keeps.ends);
     next = held.nexts;
     limit = λ f l.
-        let there : f < b.fragments = omega (arith, held.number, holds.0.fragments, ap length keeps.ends) in
-        omega (arith, held.limits f l, holds.0.limit f there, ap (λ (ends : List ℕ). get_or ends f 0) keeps.ends);
-    fits = λ j z i l e q. holds.0.fits j z i l (was_block j ∙ e) (ap (λ (f : ℕ → ℕ). bit_at (f j) i) (sym leaves.used) ∙ q);
-    unmarked = λ j. ap (λ (marks : List ℕ). get_or marks j 0) keeps.marks ∙ holds.0.unmarked j;
+        let there : f < b.fragments = omega (arith, held.number, holds.0.space.fragments, ap length keeps.ends) in
+        omega (arith, held.limits f l, holds.0.space.limit f there, ap (λ (ends : List ℕ). get_or ends f 0) keeps.ends);
+    fits = λ j z i l e q. holds.0.space.fits j z i l (was_block j ∙ e) (ap (λ (f : ℕ → ℕ). bit_at (f j) i) (sym leaves.used) ∙ q);
+    pages = λ j. ap (λ (pages : List ℕ). get_or pages j 0) keeps.pages ∙ holds.0.space.pages j;
+    head = leaves.head ∙ holds.0.space.head;
+    made = keeps.made ∙ holds.0.space.made;
+    registered = keeps.registered ∙ holds.0.space.registered;
+    pairs = keeps.pairs ∙ holds.0.space.pairs;
+  };
     unowed = λ j l. elim (cases_Bool (c.owed j)) [
       | inl e ↦ let need = held.settled.owes j l e in
           absurd (not_owed (block_in s j) need.0 (b.owed j) (was_block j ∙ need.1) (holds.1.2.blocks.each j l).owing (holds.0.unowed j l))
       | inr e ↦ e
     ];
-    pages = λ j. ap (λ (pages : List ℕ). get_or pages j 0) keeps.pages ∙ holds.0.pages j;
-    head = leaves.head ∙ holds.0.head;
-    made = keeps.made ∙ holds.0.made;
-    registered = keeps.registered ∙ holds.0.registered;
-    pairs = keeps.pairs ∙ holds.0.pairs;
   },
   (held.owner, held.heap, held.settled),
 )
@@ -109,16 +109,16 @@ heap_of_held p s t g h b c keeps leaves holds held = (
 -- its fragments end in the nursery, and begin at words of it
 pub ends_of_heap : (p : Program) (s : Contents) (g : Graph) (b : Book) → HoldsHeap p s g b → EndsInside s
 ends_of_heap p s g b holds f l =
-    let there : f < b.fragments = omega (arith, holds.0.fragments) in
-    let nursery : s.layout.nursery ≡ p.config.nursery = ap (λ (l : Sections). l.nursery) holds.0.layout in
+    let there : f < b.fragments = omega (arith, holds.0.space.fragments) in
+    let nursery : s.layout.nursery ≡ p.config.nursery = ap (λ (l : Sections). l.nursery) holds.0.space.layout in
     let inside = (holds.1.1.laid.fragments.inside f there).2 in
-    omega (arith, holds.0.limit f there)
+    omega (arith, holds.0.space.limit f there)
 
 pub addresses_of_heap : (p : Program) (s : Contents) (g : Graph) (b : Book) → HoldsHeap p s g b → HasByteAddresses s
 addresses_of_heap p s g b holds f l =
-    let there : f < b.fragments = omega (arith, holds.0.fragments) in
+    let there : f < b.fragments = omega (arith, holds.0.space.fragments) in
     let inside = (holds.1.1.laid.fragments.inside f there).0 in
-    (omega (arith, holds.0.next f there), omega (arith, holds.0.next f there))
+    (omega (arith, holds.0.space.next f there), omega (arith, holds.0.space.next f there))
 
 -- the heap doesn't depend on what mutators have
 pub heap_on : (p : Program) (s : Contents) (g : Graph) (b : Book) (mutator : ℕ → Mutator) → HoldsHeap p s g b → HoldsHeap p s (record g { mutator = mutator }) b
@@ -151,22 +151,20 @@ heap_on p s g b mutator holds = let laid = holds.1.1.laid in let settled = holds
 -- the stop word is no part of the heap
 pub heap_stays : (p : Program) (s t : Contents) (g : Graph) (b : Book) (word : ℕ) → t ≡ record s { stop = word } → HoldsHeap p s g b → HoldsHeap p t g b
 heap_stays p s t g b word e holds = subst (λ u. HoldsHeap p u g b) (sym e) (
-  record {
-    layout = holds.0.layout;
-    shapes = holds.0.shapes;
-    fragments = holds.0.fragments;
-    same = holds.0.same;
-    next = holds.0.next;
-    limit = holds.0.limit;
-    fits = holds.0.fits;
-    unmarked = holds.0.unmarked;
-    unowed = holds.0.unowed;
-    pages = holds.0.pages;
-    head = holds.0.head;
-    made = holds.0.made;
-    registered = holds.0.registered;
-    pairs = holds.0.pairs;
-  },
+  record { space = record {
+    layout = holds.0.space.layout;
+    shapes = holds.0.space.shapes;
+    fragments = holds.0.space.fragments;
+    same = holds.0.space.same;
+    next = holds.0.space.next;
+    limit = holds.0.space.limit;
+    fits = holds.0.space.fits;
+    pages = holds.0.space.pages;
+    head = holds.0.space.head;
+    made = holds.0.space.made;
+    registered = holds.0.space.registered;
+    pairs = holds.0.space.pairs;
+  }; unowed = holds.0.unowed },
   (
     holds.1.0,
     holds.1.1,
@@ -181,7 +179,8 @@ heap_stays p s t g b word e holds = subst (λ u. HoldsHeap p u g b) (sym e) (
 )
 
 pub some_stays : (s t : Contents) (word : ℕ) → t ≡ record s { stop = word } → HoldsSome s → HoldsSome t
-some_stays s t word e h = (h.0, h.1, h.2, heap_stays h.0 s t h.1 h.2 word e h.3, h.4)
+some_stays s t word e h = let stays = heap_stays h.0 s t h.1 h.2 word e (record { space = h.3.0; unowed = h.4 }, h.3.1) in
+    (h.0, h.1, h.2, (stays.0.space, stays.1), h.4, h.5)
 
 -- a standing object with a name has an address in the heap
 pub high : (p : Program) (s : Contents) (g : Graph) (b : Book) → HoldsHeap p s g b → (n : ℕ) → 1 ≤ n → b.stands n ≡ true → nursery_base ≤ b.address n

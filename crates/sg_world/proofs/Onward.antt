@@ -12,7 +12,7 @@ use Rattle.sg_graph.specs.Graph.{Graph}
 use Rattle.sg_graph.specs.Book.{Book}
 use Rattle.sg_graph.specs.Invariants.{IsPlain}
 use Rattle.sg_graph.specs.Stop.{Asked, IsServed, Serves}
-use Rattle.sg_minor.specs.Holding.{HoldsHeap}
+use Rattle.sg_world.specs.Holding.{HoldsHeap}
 use Rattle.sg_space.specs.Space.{Contents, words_of, IsContents}
 use Rattle.sg_rules.specs.Rules.{Mid, Idle, Actor}
 use Rattle.sg_rules.specs.Resting.{served}

@@ -16,7 +16,7 @@ use Rattle.sg_words.specs.Sections.{nursery_base, globals_base}
 use Rattle.sg_space.specs.Space.{Contents, words_of}
 use Rattle.sg_space.specs.Standing.{word, block_in, used_in, marks_in}
 use Rattle.sg_graph.specs.Heap.{Owner, Of, Frag, Buf, IsHeaded, IsKnown, IsKnownEntry, IsOfSort, Nothing, Objects, Fields, layout_of, Globals, Clear, Fragments, Buffers, IsHeap}
-use Rattle.sg_minor.specs.Holding.{IsSpaceOf, HoldsHeap}
+use Rattle.sg_world.specs.Holding.{IsSpaceOf, HoldsHeap}
 
 -- an object of this class, with so many fields and n words, has its place at the word x, at the front of fragment f
 pub record HasPlaced (s : Contents) (f x n class fields : ℕ) (t : Contents) : Type 0 where
@@ -360,25 +360,23 @@ module _ (p : Program) (s : Contents) (g : Graph) (b : Book) (owner : ℕ → Ow
   }
 
   space' : IsSpaceOf p (record s { words = t.words; next = t.next }) c
-  space' = record {
-    layout = sp.layout;
-    shapes = sp.shapes;
-    fragments = sp.fragments;
-    same = pl.nexts ∙ sp.same;
+  space' = record { space = record {
+    layout = sp.space.layout;
+    shapes = sp.space.shapes;
+    fragments = sp.space.fragments;
+    same = pl.nexts ∙ sp.space.same;
     next = λ i l. elim (cases_eq i f) [
       | inl e ↦ ap (slice_index t.next) e ∙ pl.next ∙ sym (ap byte_at (next_f i e))
-      | inr d ↦ pl.other i d ∙ sp.next i l ∙ sym (ap byte_at (next_other i d))
+      | inr d ↦ pl.other i d ∙ sp.space.next i l ∙ sym (ap byte_at (next_other i d))
     ];
-    limit = sp.limit;
-    fits = sp.fits;
-    unmarked = sp.unmarked;
-    unowed = sp.unowed;
-    pages = sp.pages;
-    head = sp.head;
-    made = sp.made;
-    registered = sp.registered;
-    pairs = sp.pairs;
-  }
+    limit = sp.space.limit;
+    fits = sp.space.fits;
+    pages = sp.space.pages;
+    head = sp.space.head;
+    made = sp.space.made;
+    registered = sp.space.registered;
+    pairs = sp.space.pairs;
+  }; unowed = sp.unowed }
 
   -- the space holds the graph with the new object
   pub holds_placed : HoldsHeap p t h c

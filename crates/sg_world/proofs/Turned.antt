@@ -19,7 +19,7 @@ use Rattle.sg_graph.specs.Book.{Book, placed}
 use Rattle.sg_graph.specs.Pause.{is_pair}
 use Rattle.sg_graph.specs.Invariants.{IsPlain}
 use Rattle.sg_graph.specs.Stop.{Places, Takes, HasNoFragment, IsServed}
-use Rattle.sg_minor.specs.Holding.{HoldsHeap}
+use Rattle.sg_world.specs.Holding.{HoldsHeap}
 use Rattle.sg_space.specs.Space.{Contents, IsContents}
 use Rattle.sg_rules.specs.Resting.{IsRunnable}
 use Rattle.sg_order.specs.Held.{RunnableMakes}
@@ -32,8 +32,8 @@ module _ (p : Program) (s : Contents) (g : Graph) (b : Book) (contents : IsConte
   has_no_fragment : (n : ℕ) (t : Contents) → HasNowhere s n t → HasNoFragment b n
   has_no_fragment n t nowhere = record {
     none = λ f l.
-        let there : f < length s.ends = omega (arith, holds.0.fragments) in
-        omega (arith, nowhere.none f there, holds.0.next f l, holds.0.limit f l);
+        let there : f < length s.ends = omega (arith, holds.0.space.fragments) in
+        omega (arith, nowhere.none f there, holds.0.space.next f l, holds.0.space.limit f l);
   }
 
   -- A fragment of it gave a new object its place: by the book the lowest one with room, and the space holds the graph with the
@@ -53,10 +53,10 @@ module _ (p : Program) (s : Contents) (g : Graph) (b : Book) (contents : IsConte
     c = record (placed b (suc g.count) x) { next = put b.next fragment (x + n) }
 
     there : fragment < b.fragments
-    there = let number = holds.0.fragments in let l = is.there in omega arith
+    there = let number = holds.0.space.fragments in let l = is.there in omega arith
 
     at : a ≡ byte_at x
-    at = is.at ∙ holds.0.next fragment there
+    at = is.at ∙ holds.0.space.next fragment there
 
     at_word : word_at a ≡ x
     at_word = omega (arith, at)
@@ -64,14 +64,14 @@ module _ (p : Program) (s : Contents) (g : Graph) (b : Book) (contents : IsConte
     takes : Takes b n (suc g.count) fragment c
     takes = record {
       there = there;
-      room = omega (arith, is.room, holds.0.next fragment there, holds.0.limit fragment there);
-      lowest = λ j l. let below : j < b.fragments = let m = there in omega arith in omega (arith, is.lowest j l, holds.0.next j below, holds.0.limit j below);
+      room = omega (arith, is.room, holds.0.space.next fragment there, holds.0.space.limit fragment there);
+      lowest = λ j l. let below : j < b.fragments = let m = there in omega arith in omega (arith, is.lowest j l, holds.0.space.next j below, holds.0.space.limit j below);
       after = refl;
     }
 
     is_inside : x + n ≤ length s.words
     is_inside =
-        let nursery : s.layout.nursery ≡ p.config.nursery = ap (λ (l : Sections). l.nursery) holds.0.layout in
+        let nursery : s.layout.nursery ≡ p.config.nursery = ap (λ (l : Sections). l.nursery) holds.0.space.layout in
         omega (arith, takes.room, (holds.1.1.laid.fragments.inside fragment there).2, contents.words)
 
     has_placed : HasPlaced s fragment x n class fields t
@@ -79,7 +79,7 @@ module _ (p : Program) (s : Contents) (g : Graph) (b : Book) (contents : IsConte
       still = is.after ∙ sym (λ i. record s { words = (is.after i).words; next = (is.after i).next });
       nexts = ap (λ (s : Contents). length s.next) is.after ∙ length-set s.next fragment (a + byte_at n);
       next = ap (λ (s : Contents). get_or s.next fragment 0) is.after
-          ∙ get_or-set_same s.next fragment (a + byte_at n) 0 (omega (arith, holds.0.same, is.there)) ∙ omega (arith, at);
+          ∙ get_or-set_same s.next fragment (a + byte_at n) 0 (omega (arith, holds.0.space.same, is.there)) ∙ omega (arith, at);
       other = λ j d. ap (λ (s : Contents). get_or s.next j 0) is.after ∙ get_or-set_other s.next fragment j (a + byte_at n) 0 d;
       tag = ap (λ (s : Contents). get_or s.words x 0) is.after ∙ ap (λ y. get_or (set (written y) y (plain_word class)) x 0) at_word
           ∙ get_or-set_same (written x) x (plain_word class) 0 (omega (arith, is_inside, length-set s.words (x + 1) fields));

@@ -1,3 +1,4 @@
+pub mod Holding
 pub mod Placing
 pub mod Starting
 pub mod Stopping

@@ -13,7 +13,7 @@ use Rattle.sg_graph.specs.Stop.{Asked, requests_in, want_pause}
 use Rattle.sg_graph.specs.Run.{Phase, Epoch}
 use Rattle.sg_graph.specs.Follows.{FollowsTo, IsEpochBy, IsWholeRunBy}
 use Rattle.sg_space.specs.Space.{Contents, IsContents}
-use Rattle.sg_minor.specs.Holding.{HoldsHeap}
+use Rattle.sg_world.specs.Holding.{HoldsHeap}
 use Rattle.sg_rules.specs.Rules.{fresh}
 use Rattle.sg_rules.specs.Resting.{IsRequestOf}
 use Rattle.sg_order.specs.Rest.{IsReady}

@@ -7,7 +7,7 @@ ghost use Rattle.sg_graph.specs.Book.{Book};
 ghost use Rattle.sg_graph.specs.Invariants.{IsPlain};
 ghost use Rattle.sg_space.specs.Space.{IsContents};
 ghost use Rattle.sg_frag.specs.Plain.{KeepsSections};
-ghost use Rattle.sg_minor.specs.Holding.{HoldsHeap};
+ghost use Rattle.sg_heap.specs.Holding.{HoldsHeap, OwesNothing};
 ghost use Rattle.sg_minor.specs.Law.{HasPaused};
 ghost use Rattle.sg_minor.specs.Parts.{HoldsSome};
 ghost use Rattle.sg_actor.specs.State.{Mutating, DropsBuffer};
@@ -31,7 +31,7 @@ pub(crate) fn pause(
 ) -> Result<(Space, MinorReport), AllocError>
     requires some { HoldsSome space }
     requires few { length mutators.old ≤ 16 }
-    ensures paused { IfOk result (λ r. (p : AnyProgram) (h : Graph) (b : Book) → HoldsHeap p space h b → IsPlain p h →
+    ensures paused { IfOk result (λ r. (p : AnyProgram) (h : Graph) (b : Book) → HoldsHeap p space h b → OwesNothing p b → IsPlain p h →
         HasPaused p h b (held_in mutators.old) r.0 r.1) }
     ensures registers { IfOk result (λ _. HaveRegisters mutators.old) }
     ensures going { IfOk result (λ r. r.0.stop ≡ 0) }

@@ -1,7 +1,7 @@
 use Rattle.std.proofs.Common.{sym, ap, ◌∙◌, subst}
 use Rattle.sg_space.specs.Space.{Contents}
 use Rattle.sg_minor.specs.Joined.{AreFound}
-use Rattle.sg_minor.proofs.Sound.{sound_of_heap}
+use Rattle.sg_minor.proofs.Sown.{sound_heap}
 use Rattle.sg_minor.proofs.Whole.{is_rounded, is_staying, is_paused, round_contents, same_after}
 use Rattle.sg_minor.proofs.Cleaned.{paused_clean}
 use Rattle.sg_minor.proofs.pause.minor.Goals as goal
@@ -15,7 +15,7 @@ finish-requires-clause-contents c =
     let r = c.in_ok-traced.traced in
     let t = c.in_ok-traced.ensures.traced in
     let found = subst (AreFound c.args.space) (sym c.all.ensures) c.requires.found in
-    round_contents h.0 c.args.space h.1 h.2 h.3 c.in_ok-traced.ensures.before c.args.ambiguous.now r.pins t.pinned c.all.result.now found t.tagged t.still
+    round_contents c.front_law.ensures h.0 c.args.space h.1 h.2 h.3 c.in_ok-traced.ensures.before c.args.ambiguous.now r.pins t.pinned h.4 c.all.result.now found t.tagged t.still
     t.tags r.told t.tells r.space t.moves t.fails
     t.copied
 
@@ -25,7 +25,7 @@ finish-requires-clause-rounded c =
     let r = c.in_ok-traced.traced in
     let t = c.in_ok-traced.ensures.traced in
     let found = subst (AreFound c.args.space) (sym c.all.ensures) c.requires.found in
-    is_rounded h.0 c.args.space h.1 h.2 h.3 c.in_ok-traced.ensures.before c.args.ambiguous.now r.pins t.pinned c.all.result.now found t.tagged t.still t.tags
+    is_rounded c.front_law.ensures h.0 c.args.space h.1 h.2 h.3 c.in_ok-traced.ensures.before c.args.ambiguous.now r.pins t.pinned h.4 c.all.result.now found t.tagged t.still t.tags
     r.told t.tells r.space t.moves t.fails
     t.copied
 
@@ -35,7 +35,7 @@ finish-requires-clause-pins c =
     let r = c.in_ok-traced.traced in
     let t = c.in_ok-traced.ensures.traced in
     let found = subst (AreFound c.args.space) (sym c.all.ensures) c.requires.found in
-    is_staying h.0 c.args.space h.1 h.2 h.3 c.in_ok-traced.ensures.before c.args.ambiguous.now r.pins t.pinned c.all.result.now found t.tagged t.still t.tags
+    is_staying c.front_law.ensures h.0 c.args.space h.1 h.2 h.3 c.in_ok-traced.ensures.before c.args.ambiguous.now r.pins t.pinned h.4 c.all.result.now found t.tagged t.still t.tags
     r.told t.tells r.space t.moves t.fails
     t.copied
 
@@ -45,10 +45,11 @@ clean-requires c =
     let r = c.in_ok-traced.traced in
     let t = c.in_ok-traced.ensures.traced in
     let found = subst (AreFound c.args.space) (sym c.all.ensures) c.requires.found in
-    let paused = is_paused h.0 c.args.space h.1 h.2 h.3 c.in_ok-traced.ensures.before c.args.ambiguous.now r.pins t.pinned c.all.result.now found t.tagged
+    let paused = is_paused c.front_law.ensures h.0 c.args.space h.1 h.2 h.3 c.in_ok-traced.ensures.before c.args.ambiguous.now r.pins t.pinned h.4 c.all.result.now found t.tagged
     t.still t.tags r.told t.tells r.space
-    t.moves t.fails t.copied c.in_ok-space.space c.in_ok-space.report c.in_ok-space.ensures.finished c.join_law.ensures c.pause_law.ensures h.4 in
-    sound_of_heap h.0 c.in_ok-space.space h.1 paused.book paused.heap c.in_ok-space.ensures.contents
+    t.moves t.fails t.copied c.in_ok-space.space c.in_ok-space.report c.in_ok-space.ensures.finished c.join_law.ensures c.pause_law.ensures h.5 in
+    let heap = sound_heap c.front_law.ensures h.0 c.in_ok-space.space h.1 paused.book paused.heap c.in_ok-space.ensures.contents in
+    (heap.owner, heap.sound)
 
 pub returns : goal.returns
 returns c =
@@ -59,8 +60,8 @@ returns c =
     let after = same_after s c.in_ok-space.space c.args.ambiguous.now r.pins c.all.result.now r.told r.space c.in_ok-space.report t
     c.in_ok-space.ensures.finished in
     record {
-      paused = λ p g b heap plain. paused_clean p c.in_ok-space.space g b c.args.ambiguous.now c.in_ok-space.report
-          (is_paused p s g b heap c.in_ok-traced.ensures.before c.args.ambiguous.now r.pins t.pinned c.all.result.now found t.tagged t.still t.tags r.told
+      paused = λ p g b heap owes plain. paused_clean c.front_law.ensures p c.in_ok-space.space g b c.args.ambiguous.now c.in_ok-space.report
+          (is_paused c.front_law.ensures p s g b heap c.in_ok-traced.ensures.before c.args.ambiguous.now r.pins t.pinned owes c.all.result.now found t.tagged t.still t.tags r.told
           t.tells r.space
           t.moves t.fails t.copied c.in_ok-space.space c.in_ok-space.report c.in_ok-space.ensures.finished c.join_law.ensures c.pause_law.ensures plain)
           c.in_ok-space.ensures.contents c.clean.new.space (record { still = c.clean.ensures.still; dirty = c.clean.ensures.dirty });

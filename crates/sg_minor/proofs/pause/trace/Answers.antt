@@ -5,33 +5,36 @@ use Rattle.sg_space.specs.declared.objects.Object.{Object}
 use Rattle.sg_space.specs.Standing.{word}
 use Rattle.sg_copy.specs.Copying.{CanCopy, HasCopiedTo}
 use Rattle.sg_nursery.specs.Parts.{HasTagged, ArePlain}
-use Rattle.sg_minor.proofs.Sound.{sound_of_heap}
+use Rattle.sg_minor.proofs.Sown.{sound_heap}
 use Rattle.sg_minor.proofs.Whole.{plain_pins, can_copy, pins_told}
 use Rattle.sg_minor.proofs.pause.trace.Goals as goal
 
 pub walk_nursery-requires : goal.walk_nursery-requires
-walk_nursery-requires c = let h = c.requires.some in sound_of_heap h.0 c.args.space h.1 h.2 h.3 c.layout-layout.ensures.contents
+walk_nursery-requires c =
+    let h = c.requires.some in
+    let heap = sound_heap c.front_law.ensures h.0 c.args.space h.1 h.2 h.3 c.layout-layout.ensures.contents in
+    (heap.owner, heap.sound)
 
 pub pinned_among-requires : goal.pinned_among-requires
 pinned_among-requires c =
     let h = c.requires.some in
-    let sound = sound_of_heap h.0 c.args.space h.1 h.2 h.3 c.layout-layout.ensures.contents in
+    let heap = sound_heap c.front_law.ensures h.0 c.args.space h.1 h.2 h.3 c.layout-layout.ensures.contents in
     subst (λ (told : List Object). IsStrictlyIncreasing (map (λ (o : Object). o.at) told)) (sym c.as_slice.ensures)
-    (c.in_ok-told.ensures sound.0 sound.1).in_order
+    (c.in_ok-told.ensures heap.owner heap.sound).in_order
 
 pub tag-requires-clause-in_order : goal.tag-requires-clause-in_order
 tag-requires-clause-in_order c =
     let h = c.requires.some in
-    let sound = sound_of_heap h.0 c.args.space h.1 h.2 h.3 c.layout-layout.ensures.contents in
+    let heap = sound_heap c.front_law.ensures h.0 c.args.space h.1 h.2 h.3 c.layout-layout.ensures.contents in
     subst IsStrictlyIncreasing (sym c.as_slice-2.ensures)
     (pins_told c.args.space c.in_ok-told.told _ c.args.ambiguous.now c.in_ok-pins.pins c.as_slice.ensures c.in_ok-told.ensures c.in_ok-pins.ensures.pinned
-    sound.0 sound.1).in_order
+    heap.owner heap.sound).in_order
 
 pub tag-requires-clause-plain : goal.tag-requires-clause-plain
 tag-requires-clause-plain c =
     let h = c.requires.some in
     subst (ArePlain c.args.space) (sym c.as_slice-2.ensures)
-    (plain_pins h.0 c.args.space h.1 h.2 h.3 c.layout-layout.ensures.contents c.args.ambiguous.now c.in_ok-pins.pins
+    (plain_pins c.front_law.ensures h.0 c.args.space h.1 h.2 h.3 c.layout-layout.ensures.contents c.args.ambiguous.now c.in_ok-pins.pins
     (pins_told c.args.space c.in_ok-told.told _ c.args.ambiguous.now c.in_ok-pins.pins c.as_slice.ensures c.in_ok-told.ensures c.in_ok-pins.ensures.pinned))
 
 pub copy_one-requires : goal.copy_one-requires
@@ -44,8 +47,8 @@ copy_one-requires c =
     subst (λ (z : List ℕ). CanCopy tagged (map word_at z) (map word_at c.as_slice-3.result.now)) (sym c.deref.ensures.value)
     (subst (λ (z : List ℕ). CanCopy tagged (map word_at c.in_ok-slots.slots.items) (map word_at z)) (sym c.as_slice-3.ensures)
     (subst (λ (z : List ℕ). CanCopy tagged z (map word_at bytes)) (sym c.in_ok-slots.ensures)
-    (can_copy h.0 s h.1 h.2 h.3 c.layout-layout.ensures.contents c.args.ambiguous.now bytes
-    (pins_told s c.in_ok-told.told _ c.args.ambiguous.now bytes c.as_slice.ensures c.in_ok-told.ensures c.in_ok-pins.ensures.pinned)
+    (can_copy c.front_law.ensures h.0 s h.1 h.2 h.3 c.layout-layout.ensures.contents c.args.ambiguous.now bytes
+    (pins_told s c.in_ok-told.told _ c.args.ambiguous.now bytes c.as_slice.ensures c.in_ok-told.ensures c.in_ok-pins.ensures.pinned) h.4
     c.args.seeds.now c.requires.found tagged c.tag.ensures.still tags c.join_law.ensures)))
 
 pub returns : goal.returns

@@ -34,4 +34,4 @@ returns c =
     let more = c.in_ok-world-3.ensures.between p [] [] c.in_ok-world-2.first comes.0 comes.1 c.epoch.new.order stops in
     let next = c.in_ok-world-4.ensures.comes p [] _ more in
     let t = at_stop_of p [] _ c.in_ok-world-4.second c.in_ok-world-4.world c.epoch-2.new.order next c.if-second.false in
-    subst HoldsSome (sym c.into_space.ensures) (p, t.graph, t.book, t.holds, t.plain)
+    subst HoldsSome (sym c.into_space.ensures) (p, t.graph, t.book, (t.holds.0.space, t.holds.1), t.holds.0.unowed, t.plain)

@@ -21,7 +21,7 @@ serve_all-requires-clause-open c =
     let t = subst (λ (w : Worldly). IsAtStop r.0 r.1 r.2 r.3 r.4 r.5 w r.6) same r.7 in
     is_open c.keeps_pointed_into.ensures c.stays_ready.ensures c.serves_ready.ensures c.held_is_sound.ensures c.runnable_makes.ensures r.0 r.1 r.2 r.3 r.4 r.5
     world r.6 t
-    c.in_ok-space.space c.in_ok-space.minor (c.in_ok-space.ensures.paused r.0 t.graph t.book t.holds t.plain) c.in_ok-space.ensures.contents
+    c.in_ok-space.space c.in_ok-space.minor (c.in_ok-space.ensures.paused r.0 t.graph t.book (t.holds.0.space, t.holds.1) t.holds.0.unowed t.plain) c.in_ok-space.ensures.contents
     c.in_ok-space.ensures.registers
     os c.in_ok-space.ensures.dropped
 
@@ -42,7 +42,7 @@ serve_all-requires-clause-may c k m e =
     subst (λ (p : Program). MayGoOn p m) (sym t.of.program)
     (may_go_on c.keeps_pointed_into.ensures c.stays_ready.ensures c.serves_ready.ensures c.held_is_sound.ensures c.runnable_makes.ensures r.0 r.1 r.2 r.3 r.4
     r.5 world r.6 t
-    c.in_ok-space.space c.in_ok-space.minor (c.in_ok-space.ensures.paused r.0 t.graph t.book t.holds t.plain) c.in_ok-space.ensures.contents
+    c.in_ok-space.space c.in_ok-space.minor (c.in_ok-space.ensures.paused r.0 t.graph t.book (t.holds.0.space, t.holds.1) t.holds.0.unowed t.plain) c.in_ok-space.ensures.contents
     c.in_ok-space.ensures.registers
     os c.in_ok-space.ensures.dropped k m (ap (λ (xs : List Mutating). slice_get xs k) (sym whole) ∙ e))
 
@@ -77,7 +77,7 @@ returns-clause-between c p turns phases report order swept schedule at =
     let after : c.from_vec.result ≡ ns = c.from_vec.ensures ∙ front_all ns _ c.into_vec-mutators.result.len (count ∙ as_many ∙ c.as_mut_slice.ensures.len) in
     goes_on c.keeps_pointed_into.ensures c.stays_ready.ensures c.serves_ready.ensures c.held_is_sound.ensures c.runnable_makes.ensures p turns phases report
     order swept world schedule t
-    c.in_ok-space.space c.in_ok-space.minor (c.in_ok-space.ensures.paused p t.graph t.book t.holds t.plain) c.in_ok-space.ensures.contents
+    c.in_ok-space.space c.in_ok-space.minor (c.in_ok-space.ensures.paused p t.graph t.book (t.holds.0.space, t.holds.1) t.holds.0.unowed t.plain) c.in_ok-space.ensures.contents
     c.in_ok-space.ensures.registers
     os c.in_ok-space.ensures.dropped c.in_ok-served.served c.serve_all.new.space ns go c.in_ok-served.ensures.keeps
     (c.in_ok-served.ensures.stop ∙ c.in_ok-space.ensures.going)
