@@ -30,5 +30,5 @@ copy_one-requires c =
     subst (λ (z : List ℕ). CanCopy tagged (map word_at z) (map word_at c.as_slice-2.result.now)) (sym c.deref.ensures.value)
     (subst (λ (z : List ℕ). CanCopy tagged (map word_at slots) (map word_at z)) (sym c.as_slice-2.ensures)
     (subst (λ (z : List ℕ). CanCopy tagged z (map word_at pins)) (sym (c.in_ok-slots.ensures ∙ ap (λ (seeds : List Seed). slots_from s seeds) c.all.ensures))
-    (c.heap_law.ensures.copies h.0 s h.1 h.2 h.3 c.layout.ensures.contents c.args.ambiguous.now pins c.in_ok-pins.ensures found c.in_ok-found.ensures tagged
+    (c.heap_law.ensures.copies h.0 s h.1 h.2 h.3 h.4 c.layout.ensures.contents c.args.ambiguous.now pins c.in_ok-pins.ensures found c.in_ok-found.ensures tagged
     c.tag.ensures.still (subst (λ (z : List ℕ). HasTagged (word s) (map word_at z) (word tagged)) c.as_slice.ensures c.tag.ensures.tagged))))
