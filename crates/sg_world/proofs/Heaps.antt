@@ -78,22 +78,23 @@ not_owed state z owed e owing not = let q : false ≡ true = sym not ∙ owing z
 pub heap_of_held : (p : Program) (s t : Contents) (g h : Graph) (b c : Book) → KeepsSections s t → LeavesBlocks s t → HoldsHeap p s g b →
     IsHeld p (constants_of t) (words_of t) h c → HoldsHeap p t h c
 heap_of_held p s t g h b c keeps leaves holds held = (
-  record { space = record {
-    layout = keeps.layout ∙ holds.0.space.layout;
-    shapes = keeps.shapes ∙ holds.0.space.shapes;
-    fragments = held.number;
-    same = keeps.next ∙ holds.0.space.same ∙ sym (ap length keeps.ends);
-    next = held.nexts;
-    limit = λ f l.
-        let there : f < b.fragments = omega (arith, held.number, holds.0.space.fragments, ap length keeps.ends) in
-        omega (arith, held.limits f l, holds.0.space.limit f there, ap (λ (ends : List ℕ). get_or ends f 0) keeps.ends);
-    fits = λ j z i l e q. holds.0.space.fits j z i l (was_block j ∙ e) (ap (λ (f : ℕ → ℕ). bit_at (f j) i) (sym leaves.used) ∙ q);
-    pages = λ j. ap (λ (pages : List ℕ). get_or pages j 0) keeps.pages ∙ holds.0.space.pages j;
-    head = leaves.head ∙ holds.0.space.head;
-    made = keeps.made ∙ holds.0.space.made;
-    registered = keeps.registered ∙ holds.0.space.registered;
-    pairs = keeps.pairs ∙ holds.0.space.pairs;
-  };
+  record {
+    space = record {
+      layout = keeps.layout ∙ holds.0.space.layout;
+      shapes = keeps.shapes ∙ holds.0.space.shapes;
+      fragments = held.number;
+      same = keeps.next ∙ holds.0.space.same ∙ sym (ap length keeps.ends);
+      next = held.nexts;
+      limit = λ f l.
+          let there : f < b.fragments = omega (arith, held.number, holds.0.space.fragments, ap length keeps.ends) in
+          omega (arith, held.limits f l, holds.0.space.limit f there, ap (λ (ends : List ℕ). get_or ends f 0) keeps.ends);
+      fits = λ j z i l e q. holds.0.space.fits j z i l (was_block j ∙ e) (ap (λ (f : ℕ → ℕ). bit_at (f j) i) (sym leaves.used) ∙ q);
+      pages = λ j. ap (λ (pages : List ℕ). get_or pages j 0) keeps.pages ∙ holds.0.space.pages j;
+      head = leaves.head ∙ holds.0.space.head;
+      made = keeps.made ∙ holds.0.space.made;
+      registered = keeps.registered ∙ holds.0.space.registered;
+      pairs = keeps.pairs ∙ holds.0.space.pairs;
+    };
     unowed = λ j l. elim (cases_Bool (c.owed j)) [
       | inl e ↦ let need = held.settled.owes j l e in
           absurd (not_owed (block_in s j) need.0 (b.owed j) (was_block j ∙ need.1) (holds.1.2.blocks.each j l).owing (holds.0.unowed j l))
@@ -151,20 +152,23 @@ heap_on p s g b mutator holds = let laid = holds.1.1.laid in let settled = holds
 -- the stop word is no part of the heap
 pub heap_stays : (p : Program) (s t : Contents) (g : Graph) (b : Book) (word : ℕ) → t ≡ record s { stop = word } → HoldsHeap p s g b → HoldsHeap p t g b
 heap_stays p s t g b word e holds = subst (λ u. HoldsHeap p u g b) (sym e) (
-  record { space = record {
-    layout = holds.0.space.layout;
-    shapes = holds.0.space.shapes;
-    fragments = holds.0.space.fragments;
-    same = holds.0.space.same;
-    next = holds.0.space.next;
-    limit = holds.0.space.limit;
-    fits = holds.0.space.fits;
-    pages = holds.0.space.pages;
-    head = holds.0.space.head;
-    made = holds.0.space.made;
-    registered = holds.0.space.registered;
-    pairs = holds.0.space.pairs;
-  }; unowed = holds.0.unowed },
+  record {
+    space = record {
+      layout = holds.0.space.layout;
+      shapes = holds.0.space.shapes;
+      fragments = holds.0.space.fragments;
+      same = holds.0.space.same;
+      next = holds.0.space.next;
+      limit = holds.0.space.limit;
+      fits = holds.0.space.fits;
+      pages = holds.0.space.pages;
+      head = holds.0.space.head;
+      made = holds.0.space.made;
+      registered = holds.0.space.registered;
+      pairs = holds.0.space.pairs;
+    };
+    unowed = holds.0.unowed;
+  },
   (
     holds.1.0,
     holds.1.1,

@@ -360,23 +360,26 @@ module _ (p : Program) (s : Contents) (g : Graph) (b : Book) (owner : ℕ → Ow
   }
 
   space' : IsSpaceOf p (record s { words = t.words; next = t.next }) c
-  space' = record { space = record {
-    layout = sp.space.layout;
-    shapes = sp.space.shapes;
-    fragments = sp.space.fragments;
-    same = pl.nexts ∙ sp.space.same;
-    next = λ i l. elim (cases_eq i f) [
-      | inl e ↦ ap (slice_index t.next) e ∙ pl.next ∙ sym (ap byte_at (next_f i e))
-      | inr d ↦ pl.other i d ∙ sp.space.next i l ∙ sym (ap byte_at (next_other i d))
-    ];
-    limit = sp.space.limit;
-    fits = sp.space.fits;
-    pages = sp.space.pages;
-    head = sp.space.head;
-    made = sp.space.made;
-    registered = sp.space.registered;
-    pairs = sp.space.pairs;
-  }; unowed = sp.unowed }
+  space' = record {
+    space = record {
+      layout = sp.space.layout;
+      shapes = sp.space.shapes;
+      fragments = sp.space.fragments;
+      same = pl.nexts ∙ sp.space.same;
+      next = λ i l. elim (cases_eq i f) [
+        | inl e ↦ ap (slice_index t.next) e ∙ pl.next ∙ sym (ap byte_at (next_f i e))
+        | inr d ↦ pl.other i d ∙ sp.space.next i l ∙ sym (ap byte_at (next_other i d))
+      ];
+      limit = sp.space.limit;
+      fits = sp.space.fits;
+      pages = sp.space.pages;
+      head = sp.space.head;
+      made = sp.space.made;
+      registered = sp.space.registered;
+      pairs = sp.space.pairs;
+    };
+    unowed = sp.unowed;
+  }
 
   -- the space holds the graph with the new object
   pub holds_placed : HoldsHeap p t h c
