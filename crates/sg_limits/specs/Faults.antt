@@ -5,7 +5,7 @@ use Rattle.sg_desc.specs.declared.shapes.Descriptor.TheVariants.{Ephemeron}
 use Rattle.sg_desc.specs.declared.shapes.Shape.{Shape}
 use Rattle.sg_desc.specs.Shapes.{is_vector}
 use Rattle.sg_program.specs.declared.program.Class.{Class}
-use Rattle.sg_program.specs.declared.program.Statement.TheVariants.{GPut, GGet, WSet, WGet, Final, NextFin, Collect, Sections}
+use Rattle.sg_program.specs.declared.program.Statement.TheVariants.{GPut, GGet, WSet, WGet, Final, NextFin}
 use Rattle.sg_program.specs.declared.program.Program.{Program}
 use Rattle.sg_program.specs.Limits.{MayHave, IsNurserySize, most_blocks, most_pages, least_buffer, most_buffer, most_workers, most_cement, most_classes, most_fields, most_vector, last_place, most_times, most_nesting, most_statements, most_finals, most_mutators}
 use Rattle.sg_program.specs.Scripts.{statements_in, finals_in}
@@ -144,11 +144,9 @@ pub record KeepsLimits (found : List Numbered) : Type 0 where
 abbrev pub IsPairClass : List Class → List ℕ → Type 0
 IsPairClass classes name = (c : ℕ) × (class : Class) × (slice_get classes c ≡ Some class) × (class.name ≡ name) × (class.shape.kind ≡ Ephemeron)
 
--- the line is of the language and isn't run yet: the major heap, large vectors, weak links, finalization, pairs
+-- the line is of the language and isn't run yet: new objects of the major heap, large vectors, weak links, finalization, pairs
 pub data IsLater (before : List Sentence) : Sentence → Type 0 where
   Old : (r : ℕ) (name : List ℕ) → IsLater before (Makes AsMature r name)
-  Major : IsLater before (Says (Collect true))
-  Told : IsLater before (Says Sections)
   Wide : (count r : ℕ) (name : List ℕ) → most_fields < count → IsLater before (Makes (AsVector count) r name)
   LinkSet : (w r : ℕ) (long : Bool) → IsLater before (Says (WSet w r long))
   LinkGet : (r w : ℕ) → IsLater before (Says (WGet r w))

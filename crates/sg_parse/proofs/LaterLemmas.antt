@@ -7,11 +7,11 @@ use Rattle.std.proofs.lemmas.Option.{same_Some}
 use Rattle.sg_desc.specs.Shapes.{is_vector}
 use Rattle.sg_program.specs.declared.program.Class.{Class}
 use Rattle.sg_program.specs.declared.program.Statement.{Statement}
-use Rattle.sg_program.specs.declared.program.Statement.TheVariants.{WSet, WGet, Final, NextFin, Collect, Sections}
+use Rattle.sg_program.specs.declared.program.Statement.TheVariants.{WSet, WGet, Final, NextFin}
 use Rattle.sg_text.specs.declared.line.Line.{Line}
 use Rattle.sg_text.specs.Lines.{Maker, AsNew, AsVector, AsMature, Sentence, Heads, Sets, Declares, Begins, Repeats, Ends, Makes, Says}
 use Rattle.sg_grammar.specs.Text.{IsClassName, StandsFor}
-use Rattle.sg_limits.specs.Faults.{class_in, classes_in, wants_vector, IsFit, IsMisnamed, IsPairClass, IsLater, Old, Major, Told, Wide, LinkSet, LinkGet, Registers, Ready, PairOf}
+use Rattle.sg_limits.specs.Faults.{class_in, classes_in, wants_vector, IsFit, IsMisnamed, IsPairClass, IsLater, Old, Wide, LinkSet, LinkGet, Registers, Ready, PairOf}
 use Rattle.sg_parse.specs.Names.{HaveOwnNames, IsMadeLater, IsDoneLater, IsLaterBy}
 use Rattle.sg_text.specs.Reading.{sentence_of}
 use Rattle.sg_parse.specs.Indices.{HasNoneIn, IsFirstIn}
@@ -147,9 +147,6 @@ done_later before (WSet w r long) h = LinkSet w r long
 done_later before (WGet r w) h = LinkGet r w
 done_later before (Final r) h = Registers r
 done_later before (NextFin r) h = Ready r
-done_later before (Collect true) h = Major
-done_later before (Collect false) h = absurd cc
-done_later before Sections h = Told
 done_later before s h = absurd h
 
 made_later : (lines : List Sentence) (i : ℕ) (maker : Maker) (r : ℕ) (name : List ℕ) → HasNoneIn IsMisnamed lines → slice_get lines i ≡ Some (Makes maker r name) → IsMadeLater (classes_in lines) maker name → IsLater (take i lines) (Makes maker r name)
@@ -164,8 +161,6 @@ later_is lines i line named at h = absurd h
 
 later_by : (before : List Sentence) (classes : List Class) (line : Sentence) → ((name : List ℕ) → IsPairClass (classes_in before) name → IsPairClass classes name) → IsLater before line → IsLaterBy classes line
 later_by before classes line pairs (Old r name) = tt
-later_by before classes line pairs Major = refl
-later_by before classes line pairs Told = tt
 later_by before classes line pairs (Wide count r name wide) = wide
 later_by before classes line pairs (LinkSet w r long) = tt
 later_by before classes line pairs (LinkGet r w) = tt

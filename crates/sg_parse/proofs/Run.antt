@@ -1,5 +1,5 @@
 -- A program that is read from lines of which none isn't run yet: all its statements are run.
-use Rattle.std.proofs.Common.{◌≡◌, ℕ, inl, inr, true, false, Option, Some, List, [], ◌∷◌, ◌++◌, length, take, slice_get, refl, sym, ap, subst, ◌∙◌, append_assoc}
+use Rattle.std.proofs.Common.{◌≡◌, ℕ, inl, inr, Option, Some, List, [], ◌∷◌, ◌++◌, length, take, slice_get, refl, sym, ap, subst, ◌∙◌, append_assoc}
 use Rattle.std.specs.List.{AllByRecursion}
 use Rattle.std.proofs.lemmas.Bool.{cases_lt}
 use Rattle.std.proofs.lemmas.Grind.{flat_map-append}
@@ -7,7 +7,7 @@ use Rattle.std.proofs.lemmas.List.{append-nil}
 use Rattle.std.proofs.Math.Seq.{take-append_seam}
 use Rattle.sg_program.specs.declared.program.Class.{Class}
 use Rattle.sg_program.specs.declared.program.Statement.{Statement}
-use Rattle.sg_program.specs.declared.program.Statement.TheVariants.{New, NewV, Mature, WSet, WGet, Final, NextFin, Collect, Sections}
+use Rattle.sg_program.specs.declared.program.Statement.TheVariants.{New, NewV, Mature, WSet, WGet, Final, NextFin}
 use Rattle.sg_program.specs.declared.program.Item.{Item}
 use Rattle.sg_program.specs.declared.program.Script.{Script}
 use Rattle.sg_program.specs.declared.program.Program.{Program}
@@ -54,9 +54,6 @@ run_says p (WSet w r long) fine = absurd (fine.1 tt)
 run_says p (WGet r w) fine = absurd (fine.1 tt)
 run_says p (Final r) fine = absurd (fine.1 tt)
 run_says p (NextFin r) fine = absurd (fine.1 tt)
-run_says p (Collect true) fine = absurd (fine.1 refl)
-run_says p (Collect false) fine = tt
-run_says p Sections fine = absurd (fine.1 tt)
 run_says p s fine = tt
 
 run_makes : (p : Program) (maker : Maker) (r class : ℕ) (name : List ℕ) → StandsFor p.classes name class → IsFine p (Makes maker r name) → IsBuilt p (made_by maker r class)

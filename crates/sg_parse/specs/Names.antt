@@ -1,10 +1,10 @@
 -- The classes of a text by their names, as the code holds them.
-use Rattle.std.specs.Prelude.{◌≡◌, ℕ, ◌<◌, ◌⊎◌, IsTrue, Some, List, map, slice_get}
+use Rattle.std.specs.Prelude.{◌≡◌, ℕ, ◌<◌, ◌⊎◌, Some, List, map, slice_get}
 use Rattle.sg_program.specs.Limits.{most_fields}
 use Rattle.sg_desc.specs.declared.shapes.Shape.{Shape}
 use Rattle.sg_program.specs.declared.program.Class.{Class}
 use Rattle.sg_program.specs.declared.program.Statement.{Statement}
-use Rattle.sg_program.specs.declared.program.Statement.TheVariants.{WSet, WGet, Final, NextFin, Collect, Sections}
+use Rattle.sg_program.specs.declared.program.Statement.TheVariants.{WSet, WGet, Final, NextFin}
 use Rattle.sg_text.specs.declared.line.Form.{Form}
 use Rattle.sg_parse.specs.declared.names.Names.{Names}
 use Rattle.sg_text.specs.Lines.{Maker, AsNew, AsVector, AsMature, Sentence, Declares, Makes, Says}
@@ -58,8 +58,6 @@ IsDoneLater (WSet w r long) = Unit {0}
 IsDoneLater (WGet r w) = Unit {0}
 IsDoneLater (Final r) = Unit {0}
 IsDoneLater (NextFin r) = Unit {0}
-IsDoneLater (Collect major) = IsTrue major
-IsDoneLater Sections = Unit {0}
 IsDoneLater statement = ⊥
 
 -- the line isn't run yet, where the classes are these

@@ -51,9 +51,7 @@ fn is_done_later(statement: &Statement) -> bool
         Statement::WSet { .. }
         | Statement::WGet { .. }
         | Statement::Final { .. }
-        | Statement::NextFin { .. }
-        | Statement::Sections => true,
-        Statement::Collect { major } => *major,
+        | Statement::NextFin { .. } => true,
         _ => false,
     }
 }
@@ -132,6 +130,9 @@ mod tests {
         let wide = make(Maker::Vector { count: 63 }, b"v");
         let major = Line::Do(Statement::Collect { major: true });
         let minor = Line::Do(Statement::Collect { major: false });
+        let sections = Line::Do(Statement::Sections);
+        let registers = Line::Do(Statement::Final { r: 0 });
+        let ready = Line::Do(Statement::NextFin { r: 0 });
         let begin = Line::Mutator;
         let put = at(Cell::GPut, 63);
         let get = at(Cell::GGet, 0);
@@ -139,7 +140,9 @@ mod tests {
         let read = at(Cell::WGet, 0);
         let table = [
             (
-                &[plain, refs, pair, begin, fixed, vector, minor][..],
+                &[
+                    plain, refs, pair, begin, fixed, vector, minor, major, sections,
+                ][..],
                 None,
                 None,
             ),
@@ -152,17 +155,22 @@ mod tests {
             ),
             (&[refs, begin, make(Maker::Mature, b"v")], Some(2), None),
             (
-                &[pair, begin, make(Maker::Fixed, b"p"), major],
+                &[pair, begin, make(Maker::Fixed, b"p"), ready],
                 None,
                 Some(2),
             ),
             (
-                &[plain, begin, make(Maker::Mature, b"a"), major],
+                &[plain, begin, make(Maker::Mature, b"a"), ready],
                 None,
                 Some(2),
             ),
-            (&[refs, begin, vector, wide, major], None, Some(3)),
-            (&[begin, minor, Line::End, begin, major], None, Some(4)),
+            (&[refs, begin, vector, wide, ready], None, Some(3)),
+            (&[begin, minor, Line::End, begin, registers], None, Some(4)),
+            (
+                &[begin, major, sections, Line::End, begin, ready],
+                None,
+                Some(5),
+            ),
             (
                 &[begin, put, get, Line::End, begin, get, put, minor],
                 None,

@@ -15,7 +15,7 @@ fn told(alloc: Global, text: &str) -> Result<String, AllocError> {
 // The words of the nursery and the statements of a text, or how it is refused.
 #[test]
 fn texts_are_read_or_refused(rt: HostRuntime) -> Result<(), Fail> {
-    let rows: [(&str, &str); 24] = [
+    let rows: [(&str, &str); 25] = [
         ("sgen 1\nmutator\nend\n", "4096 0"),
         (
             "sgen 1\nnursery 512\nclass A plain 2\nmutator\nnew r0 A\nrepeat 3\ndrop r3\nrepeat 3\nend\nend\nend\n",
@@ -58,8 +58,12 @@ fn texts_are_read_or_refused(rt: HostRuntime) -> Result<(), Fail> {
             "Later { line: 4 }",
         ),
         (
-            "sgen 1\nmutator\nend\nmutator\ncollect major\nend\n",
-            "Later { line: 5 }",
+            "sgen 1\nmutator\nend\nmutator\ncollect major\nsections\nend\n",
+            "4096 2",
+        ),
+        (
+            "sgen 1\nmutator\ncollect major\nend\nmutator\nsections\nfinal r1\nend\n",
+            "Later { line: 7 }",
         ),
         ("sgen 1\n", "Limit { line: 2, which: Mutators }"),
         (

@@ -119,8 +119,6 @@ IsBuilt p (WSet w r long) = ⊥
 IsBuilt p (WGet r w) = ⊥
 IsBuilt p (Final r) = ⊥
 IsBuilt p (NextFin r) = ⊥
-IsBuilt p (Collect true) = ⊥
-IsBuilt p Sections = ⊥
 IsBuilt p s = Unit {0}
 
 -- the statements, repeats written out, find the kinds that they need

@@ -2,7 +2,9 @@
 use Rattle.std.specs.Prelude.{◌≡◌, ℕ, zero, suc, ◌+◌, ◌<◌, ◌≤◌, Bool, true, false, length, Option, Some, None, List, [], ◌∷◌, ◌++◌, slice_get}
 use Rattle.std.specs.List.{flat_map, sum_by, count_by}
 use Rattle.sg_program.specs.declared.program.Statement.{Statement}
-use Rattle.sg_program.specs.declared.program.Statement.TheVariants.{New, NewV, Mature, Final}
+use Rattle.sg_program.specs.declared.program.Statement.TheVariants.{New, NewV, Mature, Final, Collect, Sections}
+use Rattle.sg_program.specs.declared.answers.Request.{Request}
+use Rattle.sg_program.specs.declared.answers.Request.TheVariants.{Need, Minor, Major, Sections as AllSections}
 use Rattle.sg_program.specs.declared.program.Item.{Item, fold-Item}
 use Rattle.sg_program.specs.declared.program.Item.TheOpen.{Item-F, One, Repeat}
 use Rattle.sg_program.specs.declared.program.Script.{Script}
@@ -116,6 +118,19 @@ made_fields p s = 0
 
 abbrev pub made_words : Program → Statement → ℕ
 made_words p s = words_for (made_fields p s)
+
+-- the statement asks for this whenever it is begun: a collection, or what stands in each section
+abbrev pub IsCollecting : Statement → Request → Type 0
+IsCollecting (Collect false) Minor = Unit {0}
+IsCollecting (Collect true) Major = Unit {0}
+IsCollecting Sections AllSections = Unit {0}
+IsCollecting s request = ⊥
+
+-- which request a statement makes: room for the object that it makes, where there is none, or what it asks for in any case
+abbrev pub IsRequestOf : Program → Statement → Request → Type 0
+IsRequestOf p (New r class) (Need words) = words ≡ made_words p (New r class)
+IsRequestOf p (NewV r class count) (Need words) = words ≡ made_words p (NewV r class count)
+IsRequestOf p s request = IsCollecting s request
 
 -- the class of a statement that makes an object is one of the program's
 abbrev pub NamesClass : Program → Statement → Type 0

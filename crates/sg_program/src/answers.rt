@@ -28,8 +28,14 @@ pub enum Answer {
 pub enum Request {
     /// Room for a new object of this many words.
     Need { words: u32 },
+    /// A slot of this many words in the major heap.
+    Slot { size: u32 },
     /// A minor pause.
     Minor,
+    /// A minor pause, and a major one behind it.
+    Major,
+    /// What stands in each section.
+    Sections,
 }
 
 /// How a mutator leaves an epoch.
