@@ -4,17 +4,17 @@ use Rattle.std.specs.List.{Contains}
 use Rattle.sg_words.specs.Address.{byte_at}
 use Rattle.sg_words.specs.Lists.{Pairwise}
 use Rattle.sg_program.specs.declared.program.Statement.{Statement}
-use Rattle.sg_program.specs.declared.program.Statement.TheVariants.{New, NewV, Collect}
+use Rattle.sg_program.specs.declared.program.Statement.TheVariants.{New, NewV}
 use Rattle.sg_program.specs.declared.program.Program.{Program}
 use Rattle.sg_program.specs.declared.answers.Answer.{Answer}
 use Rattle.sg_program.specs.declared.answers.Answer.TheVariants.{At, Nil, Null, Number, Fine, Yes, No, Field, Full}
 use Rattle.sg_program.specs.declared.answers.Leave.{Leave}
 use Rattle.sg_program.specs.declared.answers.Leave.TheVariants.{Ended, Yield, Wants}
 use Rattle.sg_program.specs.declared.answers.Request.{Request}
-use Rattle.sg_program.specs.declared.answers.Request.TheVariants.{Need, Minor}
+use Rattle.sg_program.specs.declared.answers.Request.TheVariants.{Need}
 use Rattle.sg_graph.specs.declared.reports.Part.{Part}
 use Rattle.sg_graph.specs.declared.reports.EpochReport.{EpochReport}
-use Rattle.sg_program.specs.Scripts.{script_of, words_for, IsSmall}
+use Rattle.sg_program.specs.Scripts.{script_of, words_for, IsSmall, IsCollecting}
 use Rattle.sg_graph.specs.Graph.{Graph, Mutator, Ref}
 use Rattle.sg_graph.specs.Statements.{Does}
 use Rattle.sg_graph.specs.Book.{Book, Books, HasNoPlace, words_of_class, IsSoundBook}
@@ -55,12 +55,11 @@ by_address b Field = Field
 by_address b Full = Full
 
 -- Which statement asks for what: a small new object asks for its words, where neither the buffer nor, as the epoch ends, any
--- fragment has them. A large one asks for nothing yet.
+-- fragment has them, and a large one for nothing yet; a collection, and the question what stands in each section, in any case.
 abbrev pub Asks : Program → Book → ℕ → Statement → Request → Type 0
 Asks p b k (New r class) (Need words) = (words ≡ words_of_class p class) × IsSmall words × HasNoPlace b k words
 Asks p b k (NewV r class count) (Need words) = (words ≡ words_for count) × IsSmall words × HasNoPlace b k words
-Asks p b k (Collect false) Minor = Unit {0}
-Asks p b k s request = ⊥
+Asks p b k s request = IsCollecting s request
 
 -- how mutator k leaves: it has ended exactly where no statement is left; else it yields, or its next statement asks for something
 abbrev pub Leaves : Program → Book → ℕ → Leave → List Statement → Type 0

@@ -1,15 +1,16 @@
 -- Runs by turns: one thread gives the turns of each epoch in the order of a list of numbers, and one worker copies in each pause.
-use Rattle.std.specs.Prelude.{◌≡◌, ℕ, suc, true, List, [], ◌∷◌, ◌++◌}
+use Rattle.std.specs.Prelude.{◌≡◌, ℕ, suc, Some, List, [], ◌∷◌, ◌++◌}
 use Rattle.sg_words.specs.Schedule.{Schedule}
 use Rattle.sg_program.specs.declared.program.Program.{Program}
 use Rattle.sg_graph.specs.declared.reports.EpochReport.{EpochReport}
+use Rattle.sg_graph.specs.declared.reports.MinorReport.{MinorReport}
 use Rattle.sg_graph.specs.declared.reports.StopReport.{StopReport}
 use Rattle.sg_graph.specs.Graph.{Graph, no_objects}
-use Rattle.sg_graph.specs.Book.{Book, empty_book}
+use Rattle.sg_graph.specs.Book.{Book, empty_book, swept_out}
 use Rattle.sg_graph.specs.Epoch.{Said, IsEpoch, AllEnded}
 use Rattle.sg_graph.specs.Pause.{ambiguous_words}
 use Rattle.sg_graph.specs.Copies.{CopiesInOrder}
-use Rattle.sg_graph.specs.Stop.{IsStop, requests_in, want_pause}
+use Rattle.sg_graph.specs.Stop.{IsStop, requests_in}
 use Rattle.sg_graph.specs.Turns.{FollowsEpoch}
 use Rattle.sg_graph.specs.Run.{Phase, Epoch, Stop}
 
@@ -18,10 +19,10 @@ pub record IsEpochBy (p : Program) (e : ℕ) (g : Graph) (b : Book) (s : Schedul
   pub is : IsEpoch p e g b order swept report h c
   pub follows : FollowsEpoch p g b s order report.parts t
 
--- a stop whose pause, where one is made, copies in order
+-- a stop whose minor pause, where one is made, copies in order
 pub record IsStopInOrder (p : Program) (e : ℕ) (g : Graph) (b : Book) (epoch : EpochReport) (report : StopReport) (h : Graph) (c : Book) : Type 0 where
   pub is : IsStop p e g b (requests_in epoch.parts) report h c
-  pub copies : want_pause (requests_in epoch.parts) ≡ true → CopiesInOrder p g b (ambiguous_words p g b) is.book
+  pub copies : (minor : MinorReport) → report.minor ≡ Some minor → CopiesInOrder p g (swept_out b) (ambiguous_words p g b) is.minor_book
 
 -- before the first number of the list
 abbrev pub whole_schedule : List ℕ → Schedule

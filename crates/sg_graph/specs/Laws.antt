@@ -1,20 +1,26 @@
 -- Laws of the definitions: that they mean what their names say.
-use Rattle.std.specs.Prelude.{◌≡◌, ◌≢◌, ℕ, ◌+◌, ◌^◌, ◌<◌, ◌≤◌, ◌⊎◌, ◌↔◌, Bool, true, false, List, [], ◌∷◌, ◌++◌, map}
-use Rattle.std.specs.List.{Contains}
+use Rattle.std.specs.Prelude.{◌≡◌, ◌≢◌, ℕ, ◌+◌, ◌^◌, ◌<◌, ◌≤◌, ◌⊎◌, ◌↔◌, Bool, true, false, Some, List, [], ◌∷◌, ◌++◌, map}
+use Rattle.std.specs.List.{Contains, AllByRecursion}
 use Rattle.std.specs.Int.{bit_at}
 use Rattle.std.specs.Int.Bits.{bit_or}
 use Rattle.sg_words.specs.Blocks.{slots, IsSizeClass}
 use Rattle.sg_words.specs.Words.{put}
 use Rattle.sg_words.specs.declared.steps.BlockWord.{BlockWord}
 use Rattle.sg_words.specs.declared.steps.BlockWord.TheVariants.{Free, Swept}
-use Rattle.sg_words.specs.Reach.{Reached}
+use Rattle.sg_words.specs.Reach.{Reached, AreDistinct}
 use Rattle.sg_desc.specs.Shapes.{holds_reference, is_strong}
 use Rattle.sg_program.specs.declared.program.Program.{Program}
-use Rattle.sg_program.specs.Scripts.{kind_of}
+use Rattle.sg_program.specs.declared.program.Statement.{Statement}
+use Rattle.sg_program.specs.Scripts.{kind_of, made_words, IsSmall, IsRequestOf}
+use Rattle.sg_program.specs.declared.answers.Answer.TheVariants.{Full}
+use Rattle.sg_program.specs.declared.answers.Request.{Request}
+use Rattle.sg_program.specs.declared.answers.Request.TheVariants.{Need}
 use Rattle.sg_program.specs.declared.answers.Leave.{Leave}
 use Rattle.sg_graph.specs.declared.reports.Part.{Part}
 use Rattle.sg_graph.specs.declared.reports.EpochReport.{EpochReport}
 use Rattle.sg_graph.specs.declared.reports.MinorReport.{MinorReport}
+use Rattle.sg_graph.specs.declared.reports.Service.{Service}
+use Rattle.sg_graph.specs.declared.reports.StopReport.{StopReport}
 use Rattle.sg_graph.specs.Graph.{Graph}
 use Rattle.sg_graph.specs.Blocks.{IsOldAt, AreBlocks}
 use Rattle.sg_graph.specs.Swept.{AreSwept, AreAtRest, AreInhabited}
@@ -26,6 +32,7 @@ use Rattle.sg_graph.specs.Minor.{IsMinorPause}
 use Rattle.sg_graph.specs.declared.reports.MajorReport.{MajorReport}
 use Rattle.sg_graph.specs.Major.{IsMajorRoot, IsMajorPause}
 use Rattle.sg_graph.specs.Invariants.{IsPlain}
+use Rattle.sg_graph.specs.Stop.{Asked, InFragments, LacksOne, IsStop}
 use Rattle.sg_graph.specs.Run.{Phase, Epoch, Goes, IsRun, IsWholeRun}
 use Rattle.sg_graph.specs.Follows.{FollowsTo, IsRunBy, IsWholeRunBy}
 use Rattle.sg_words.specs.Schedule.{Schedule}
@@ -64,11 +71,46 @@ KeepsInMajor =
     (p : Program) (g : Graph) (b : Book) (ambiguous : List ℕ) (report : MajorReport) (h : Graph) (c : Book) → IsMajorPause p g b ambiguous report h c →
     (n : ℕ) → n ≢ 0 → b.stands n ≡ true → IsPointedInto g b ambiguous n → c.stands n ≡ true
 
+-- `full` is told only behind a major pause
+abbrev pub FullIsLast : Type 0
+FullIsLast =
+    (p : Program) (e : ℕ) (g : Graph) (b : Book) (requests : List Asked) (report : StopReport) (h : Graph) (c : Book) → IsStop p e g b requests report h c →
+    (service : Service) → Contains report.served service → service.answer ≡ Full → (major : MajorReport) × (report.major ≡ Some major)
+
 -- giving each of these numbers of words in turn at the front of the lowest fragment that has them, one finds no room
 pub data LacksWords (fragments : ℕ) (limit : ℕ → ℕ) : (ℕ → ℕ) → List ℕ → Type 0 where
   NoRoom : (next : ℕ → ℕ) (n : ℕ) (more : List ℕ) → ((f : ℕ) → f < fragments → limit f < next f + n) → LacksWords fragments limit next (n ∷ more)
   RoomBefore : (next : ℕ → ℕ) (n : ℕ) (more : List ℕ) (f : ℕ) → f < fragments → next f + n ≤ limit f → ((j : ℕ) → j < f → limit j < next j + n) →
       LacksWords fragments limit (put next f (next f + n)) more → LacksWords fragments limit next (n ∷ more)
+
+-- the words for which a request asks, before these
+abbrev pub needed_by : Request → List ℕ → List ℕ
+needed_by (Need words) more = words ∷ more
+needed_by request more = more
+
+-- the words for which requests ask, in order
+abbrev pub needs_of : List Asked → List ℕ
+needs_of [] = []
+needs_of (asked ∷ more) = needed_by asked.request (needs_of more)
+
+-- the mutator asks for this at its next statement, which makes a small object where it makes one
+pub record IsAsking (p : Program) (g : Graph) (asked : Asked) : Type 0 where
+  pub statement : Statement
+  pub rest : List Statement
+  pub next : (g.mutator asked.by).script ≡ statement ∷ rest
+  pub asks : IsRequestOf p statement asked.request
+  pub small : IsSmall (made_words p statement)
+
+-- each of these mutators asks, and each once
+pub record AreAsking (p : Program) (g : Graph) (requests : List Asked) : Type 0 where
+  pub each : AllByRecursion (IsAsking p g) requests
+  pub once : AreDistinct (map (λ (asked : Asked). asked.by) requests)
+
+-- Placing the requests by fragments alone leaves one without a place exactly where giving the words for which they ask finds no room.
+abbrev pub PlacesByWords : Type 0
+PlacesByWords =
+    (p : Program) (g : Graph) (b : Book) (requests : List Asked) → AreAsking p g requests →
+    LacksOne p InFragments g b requests ↔ LacksWords b.fragments b.limit b.next (needs_of requests)
 
 -- the roots of a minor pause reach only objects of the graph
 abbrev pub ReachesObjects : Program → Graph → Book → List ℕ → Type 0

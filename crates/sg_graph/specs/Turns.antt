@@ -5,13 +5,12 @@ use Rattle.sg_words.specs.Words.{put}
 use Rattle.sg_words.specs.Lists.{Pairwise}
 use Rattle.sg_words.specs.Schedule.{Schedule, begun, Gives}
 use Rattle.sg_program.specs.declared.program.Statement.{Statement}
-use Rattle.sg_program.specs.declared.program.Statement.TheVariants.{Collect}
 use Rattle.sg_program.specs.declared.program.Program.{Program}
 use Rattle.sg_program.specs.declared.answers.Request.{Request}
-use Rattle.sg_program.specs.declared.answers.Request.TheVariants.{Need, Minor}
+use Rattle.sg_program.specs.declared.answers.Request.TheVariants.{Need}
 use Rattle.sg_program.specs.declared.answers.Leave.{Leave}
 use Rattle.sg_program.specs.declared.answers.Leave.TheVariants.{Ended, Yield, Wants}
-use Rattle.sg_program.specs.Scripts.{IsMaking, made_words}
+use Rattle.sg_program.specs.Scripts.{IsMaking, IsCollecting, made_words}
 use Rattle.sg_graph.specs.declared.reports.Part.{Part}
 use Rattle.sg_graph.specs.Graph.{Graph}
 use Rattle.sg_graph.specs.Book.{Book, IsShort, HasRoom, LacksRoom}
@@ -62,11 +61,6 @@ HasNoneFrom b n f = (i : ℕ) → f ≤ i → i < b.fragments → LacksRoom b n 
 pub record Searches (p : Program) (b : Book) (k : ℕ) (s : Statement) : Type 0 where
   pub makes : IsMaking s
   pub short : IsShort b k (made_words p s)
-
--- the request of a collection
-abbrev pub IsCollecting : Statement → Request → Type 0
-IsCollecting (Collect false) Minor = Unit {0}
-IsCollecting s request = ⊥
 
 -- A turn of mutator k: which whole statement is done in it, if one is, and where all stand then. A turn that begins a statement ends
 -- with it, or right before its claim of a fragment; a turn with a prepared claim makes it, and one that is lost looks again at the

@@ -1,4 +1,4 @@
-ghost use Rattle.sg_graph.specs.Laws.{BlocksAreSwept, BlocksGo, EndsBehindLast, HasOneReport, HasOneTurn, KeepsInMajor, KeepsPointedInto, QuietPause, RunsByTurns};
+ghost use Rattle.sg_graph.specs.Laws.{BlocksAreSwept, BlocksGo, EndsBehindLast, FullIsLast, HasOneReport, HasOneTurn, KeepsInMajor, KeepsPointedInto, PlacesByWords, QuietPause, RunsByTurns};
 
 /// The law of the end: a run ends behind the epoch that is told to be the last one. It does nothing; its contract is the
 /// law.
@@ -10,6 +10,17 @@ pub fn ends_behind_last()
 /// one graph and one book. It does nothing; its contract is the law.
 pub fn one_report()
     ensures { HasOneReport }
+{}
+
+/// The law of `full`: it is told only behind a major pause. It does nothing; its contract is the law.
+pub fn full_is_last()
+    ensures { FullIsLast }
+{}
+
+/// The law of placing by words: whether the fragments have room for all requests is told by the words for which they ask. It does
+/// nothing; its contract is the law.
+pub fn places_by_words()
+    ensures { PlacesByWords }
 {}
 
 /// The law of what is pointed into: it stands after a minor pause, where it stood. It does nothing; its contract is the

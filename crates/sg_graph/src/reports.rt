@@ -73,13 +73,15 @@ pub struct Sections {
 }
 
 /// The answer to one request.
-#[derive(Clone, Copy, Debug, PartialEq, Eq)]
+#[derive(Debug, Drop)]
 pub struct Service {
     /// The mutator's number.
     pub mutator: u32,
     /// The number of the statement that asked, counted from 0 over the whole script.
     pub statement: u32,
     pub answer: Answer,
+    /// What stands in each section, where the statement asked for that.
+    pub sections: Option<Sections>,
 }
 
 /// What happened at one stop.
@@ -89,6 +91,8 @@ pub struct StopReport {
     pub number: u32,
     /// The minor pause, if there was one.
     pub minor: Option<MinorReport>,
+    /// The major pause behind it, if there was one.
+    pub major: Option<MajorReport>,
     /// The answers to the requests, in order of mutators.
     pub served: List<Service>,
 }
