@@ -1,5 +1,5 @@
 -- What statements, settings and addresses say by themselves.
-use Rattle.std.proofs.Common.{◌≡◌, ◌≢◌, ℕ, ◌-◌, ◌<◌, ◌≤◌, ◌⊎◌, ◌==◌, if◌then◌else◌, nat_lt, Option, Some, None, List, [], ◌∷◌, ◌++◌, length, set, get_or, map, reverse, sym, ap, ◌∙◌, subst, inl, inr, arith, rules, get_or-set_same, get_or-set_other}
+use Rattle.std.proofs.Common.{◌≡◌, ◌≢◌, ℕ, ◌-◌, ◌<◌, ◌≤◌, ◌⊎◌, ◌==◌, true, false, if◌then◌else◌, nat_lt, Option, Some, None, List, [], ◌∷◌, ◌++◌, length, set, get_or, map, reverse, refl, sym, ap, ◌∙◌, subst, inl, inr, arith, rules, get_or-set_same, get_or-set_other}
 use Rattle.std.proofs.Math.Path.{fun_ext}
 use Rattle.std.proofs.lemmas.List.{map-append, reverse-append}
 use Rattle.std.proofs.lemmas.Bool.{cases_eq, cond-true, cond-false, lt-ltb, le-ltb}
@@ -8,17 +8,18 @@ use Rattle.sg_words.specs.Tags.{plain_word, ReadsClass}
 use Rattle.sg_words.specs.Words.{put}
 use Rattle.sg_words.proofs.Puts.{put-at, put-other}
 use Rattle.sg_program.specs.declared.program.Statement.{Statement}
-use Rattle.sg_program.specs.declared.program.Statement.TheVariants.{New, NewV, Put, Get, PutD, GetD}
+use Rattle.sg_program.specs.declared.program.Statement.TheVariants.{New, NewV, Mature, Put, Get, PutD, GetD, Num, Move, Hide, Unhide, Drop, Push, Pop, GPut, GGet, WSet, WGet, Final, NextFin, Same, Collect, Sections}
 use Rattle.sg_program.specs.declared.program.Program.{Program}
 use Rattle.sg_program.specs.declared.answers.Answer.TheVariants.{Yes, No}
-use Rattle.sg_program.specs.declared.answers.Request.TheVariants.{Need}
-use Rattle.sg_program.specs.Scripts.{IsMaking, made_in, made_class, made_words}
-use Rattle.sg_program.specs.Invariants.{AreWithinLimits, IsGood}
+use Rattle.sg_program.specs.declared.answers.Request.{Request}
+use Rattle.sg_program.specs.declared.answers.Request.TheVariants.{Need, Minor, Major, Sections as AllSections}
+use Rattle.sg_program.specs.Scripts.{IsMaking, IsCollecting, made_in, made_class, made_words, IsRequestOf}
+use Rattle.sg_program.specs.Invariants.{AreWithinLimits, IsGood, IsBuilt}
 use Rattle.sg_program.specs.Tests.{Test, test_of}
 use Rattle.sg_rules.specs.Rules.{Constants, Look, Ask, Actor, IsInHeap, IsReference, looking, unhidden}
-use Rattle.sg_rules.specs.Resting.{IsRequestOf}
 use Rattle.sg_actor.specs.declared.mutator.Held.{Held}
 use Rattle.sg_actor.specs.State.{slot_of}
+use Rattle.sg_actor.specs.Testing.{IsDirect}
 
 -- a write of a list is a change of the function that reads it
 pub put_set : (xs : List ℕ) (k v : ℕ) → k < length xs → (λ j. get_or (set xs k v) j 0) ≡ put (λ j. get_or xs j 0) k v
@@ -55,6 +56,42 @@ pub needs : (p : Program) (s : Statement) (words : ℕ) → IsMaking s → words
 needs p (New r class) words making e = e
 needs p (NewV r class count) words making e = e
 needs p s words making e = absurd making
+
+-- what a statement asks for in any case is its request, and no register is set
+pub collects : (p : Program) (s : Statement) (request : Request) → IsCollecting s request → IsRequestOf p s request × (made_in s < 16)
+collects p (Collect false) Minor is = (tt, omega arith)
+collects p (Collect true) Major is = (tt, omega arith)
+collects p Sections AllSections is = (tt, omega arith)
+collects p s request is = absurd is
+
+-- a statement that is run now, tests no object, asks for nothing in any case and is none of these touches no shared word but the stop word
+pub is_direct : (p : Program) (s : Statement) → IsBuilt p s → test_of s ≡ None → ((request : Request) → ¬ IsCollecting s request) →
+    ((r class : ℕ) → s ≢ New r class) → ((r class count : ℕ) → s ≢ NewV r class count) → ((d r offset : ℕ) → s ≢ Hide d r offset) →
+    ((x r : ℕ) → s ≢ GPut x r) → ((r x : ℕ) → s ≢ GGet r x) → IsDirect s
+is_direct p (New r class) built none quiet new newv hide gput gget = absurd (new r class refl)
+is_direct p (NewV r class count) built none quiet new newv hide gput gget = absurd (newv r class count refl)
+is_direct p (Mature r class) built none quiet new newv hide gput gget = absurd built
+is_direct p (Put r i s) built none quiet new newv hide gput gget = cc
+is_direct p (Get d r i) built none quiet new newv hide gput gget = cc
+is_direct p (PutD r i s) built none quiet new newv hide gput gget = cc
+is_direct p (GetD d r i) built none quiet new newv hide gput gget = cc
+is_direct p (Num d n) built none quiet new newv hide gput gget = tt
+is_direct p (Move d s) built none quiet new newv hide gput gget = tt
+is_direct p (Hide d s offset) built none quiet new newv hide gput gget = absurd (hide d s offset refl)
+is_direct p (Unhide d s) built none quiet new newv hide gput gget = tt
+is_direct p (Drop r) built none quiet new newv hide gput gget = tt
+is_direct p (Push r) built none quiet new newv hide gput gget = tt
+is_direct p (Pop r) built none quiet new newv hide gput gget = tt
+is_direct p (GPut x r) built none quiet new newv hide gput gget = absurd (gput x r refl)
+is_direct p (GGet r x) built none quiet new newv hide gput gget = absurd (gget r x refl)
+is_direct p (WSet w r long) built none quiet new newv hide gput gget = absurd built
+is_direct p (WGet r w) built none quiet new newv hide gput gget = absurd built
+is_direct p (Final r) built none quiet new newv hide gput gget = absurd built
+is_direct p (NextFin r) built none quiet new newv hide gput gget = absurd built
+is_direct p (Same r s) built none quiet new newv hide gput gget = tt
+is_direct p (Collect true) built none quiet new newv hide gput gget = absurd (quiet Major tt)
+is_direct p (Collect false) built none quiet new newv hide gput gget = absurd (quiet Minor tt)
+is_direct p Sections built none quiet new newv hide gput gget = absurd (quiet AllSections tt)
 
 -- the operands of a statement that makes an object
 pub made_register : (p : Program) (s : Statement) → IsMaking s → IsGood p s → made_in s < 16

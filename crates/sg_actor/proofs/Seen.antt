@@ -7,7 +7,7 @@ use Rattle.sg_words.specs.declared.steps.Step.TheVariants.{Load, Lost}
 use Rattle.sg_program.specs.declared.program.Program.{Program}
 use Rattle.sg_program.specs.declared.program.Statement.TheVariants.{Get, GGet}
 use Rattle.sg_rules.specs.Rules.{Constants, Mid, TestTag, TestLength, Access, AccessGlobal, Look, Claim, HideLength, Actor, IsReference, IsLength, Comes}
-use Rattle.sg_rules.specs.Rules.Comes.{test_null, test_begins, loads_tag, loads_length, test_fails, put_stores, put_stores_old, marks_card, putd_stores, get_loads, getd_loads, global_begins, gput_stores, gget_loads, num_sets, drop_clears, move_sets, push_sets, pop_sets, hide_null, hide_begins, hide_fits, hide_misses, unhide_sets, same_tells, new_bumps, new_looks, look_finds, look_goes_on, minor_asks, asks, yields, claim_wins, claim_moves, claim_goes_on, stores_length, stores_tag}
+use Rattle.sg_rules.specs.Rules.Comes.{test_null, test_begins, loads_tag, loads_length, test_fails, put_stores, put_stores_old, marks_card, putd_stores, get_loads, getd_loads, global_begins, gput_stores, gget_loads, num_sets, drop_clears, move_sets, push_sets, pop_sets, hide_null, hide_begins, hide_fits, hide_misses, unhide_sets, same_tells, new_bumps, new_looks, look_finds, look_goes_on, stop_asks, asks, yields, claim_wins, claim_moves, claim_goes_on, stores_length, stores_tag}
 
 abbrev pub SawAt : Program → Constants → Mid → Step → Type 0
 SawAt p lay (TestTag s test) (Load place v) = (class : ℕ) × (class < length p.classes) × (v ≡ plain_word class)
@@ -49,7 +49,7 @@ saw_at p lay _ _ _ _ (new_bumps a s rest making room) = tt
 saw_at p lay _ _ _ _ (new_looks a s rest making full) = tt
 saw_at p lay _ _ _ _ (look_finds a s rest f next room) = (next, refl)
 saw_at p lay _ _ _ _ (look_goes_on a s rest f next full) = (next, refl)
-saw_at p lay _ _ _ _ (minor_asks a rest) = tt
+saw_at p lay _ _ _ _ (stop_asks a s rest request is) = tt
 saw_at p lay _ _ _ _ (asks a rest s) = tt
 saw_at p lay _ _ _ _ (yields a s rest saw set) = tt
 saw_at p lay _ _ _ _ (claim_wins a s rest f next) = tt

@@ -5,10 +5,10 @@ use Rattle.sg_program.specs.declared.program.Statement.{Statement}
 use Rattle.sg_program.specs.declared.answers.Answer.{Answer}
 use Rattle.sg_program.specs.declared.answers.Leave.{Leave}
 use Rattle.sg_program.specs.declared.answers.Leave.TheVariants.{Ended as HasEnded, Yield, Wants}
-use Rattle.sg_program.specs.Scripts.{script_of, made_in}
+use Rattle.sg_program.specs.Scripts.{script_of, made_in, IsRequestOf}
 use Rattle.sg_program.specs.Invariants.{IsWithinLimits}
 use Rattle.sg_rules.specs.Rules.{Mid, Idle, Claim, Left, Yielded as HasYielded, StackWord, Actor}
-use Rattle.sg_rules.specs.Resting.{IsRequestOf, IsServiceOf, served}
+use Rattle.sg_rules.specs.Resting.{IsServiceOf, served}
 use Rattle.sg_actor.specs.declared.mutator.Held.{Held}
 use Rattle.sg_actor.specs.declared.mutator.Stage.{Stage}
 use Rattle.sg_actor.specs.declared.mutator.Stage.TheVariants.{Between, Within, Claiming, Ended, Asking, Yielded}

@@ -7,11 +7,11 @@ use Rattle.sg_words.specs.declared.steps.Call.{Call}
 use Rattle.sg_program.specs.declared.program.Program.{Program}
 use Rattle.sg_program.specs.declared.program.Statement.{Statement}
 use Rattle.sg_program.specs.declared.answers.Answer.TheVariants.{Field}
-use Rattle.sg_program.specs.Scripts.{IsMaking, made_in, made_class, made_fields}
+use Rattle.sg_program.specs.Scripts.{IsMaking, made_in, made_class, made_fields, IsRequestOf}
 use Rattle.sg_program.specs.Tests.{Test, test_of}
 use Rattle.sg_rules.specs.Rules.{Constants, Actor, Access, before, within, over, cleared}
 use Rattle.sg_rules.specs.Acting.{Acts, IsGuided, HasGoneOn, HasTurned}
-use Rattle.sg_rules.specs.Resting.{IsRequestOf, IsRunnable}
+use Rattle.sg_rules.specs.Resting.{IsRunnable}
 use Rattle.sg_actor.specs.declared.mutator.Stage.{Stage}
 use Rattle.sg_actor.specs.declared.mutator.Stage.TheVariants.{Between, Within, Claiming, Ended, Asking, Yielded}
 use Rattle.sg_actor.specs.State.{Mutating, actor_of, IsSameMutator}

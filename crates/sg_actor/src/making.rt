@@ -1,12 +1,10 @@
 // The statements that make an object: from the buffer, or from a fragment by an exchange that may be lost.
-ghost use Rattle.std.specs.Prelude.{◌≡◌, ◌+◌, ◌≤◌, ℕ, false};
-ghost use Rattle.sg_program.specs.declared.answers.Request.TheVariants.{Minor};
-ghost use Rattle.sg_program.specs.declared.program.Statement.TheVariants.{Collect};
+ghost use Rattle.std.specs.Prelude.{◌≡◌, ◌+◌, ◌≤◌, ℕ};
 ghost use Rattle.sg_rules.specs.Rules.{Constants, Ask, StoreLength, looking, within};
 ghost use Rattle.sg_rules.specs.Acting.{HasGoneOn, HasTurned};
 ghost use Rattle.sg_rules.specs.Resting.{IsRunnable};
 ghost use Rattle.sg_rules.specs.Sane.{MayBegin};
-ghost use Rattle.sg_program.specs.Scripts.{IsMaking};
+ghost use Rattle.sg_program.specs.Scripts.{IsMaking, IsCollecting};
 ghost use Rattle.sg_actor.specs.declared.mutator.Stage.TheVariants.{Between, Within, Claiming};
 ghost use Rattle.sg_actor.specs.State.{actor_of, IsSameMutator};
 ghost use Rattle.sg_actor.specs.Turning.{IsOnPort, HasBegun, HasRun, before_this, IsBehindTurn, IsMadeOf};
@@ -165,15 +163,21 @@ impl<'a> Mutator<'a> {
         }
     }
 
-    /// `collect minor`: it asks for a collection.
-    pub(crate) fn collect<P: WordPort + FragPort>(&mut self, port: &mut P)
+    /// A statement that asks for this in any case: a collection, or the question what stands in each section.
+    pub(crate) fn request<P: WordPort + FragPort>(
+        &mut self,
+        port: &mut P,
+        statement: Statement,
+        request: Request,
+    )
         requires within { self.old.stage ≡ Within }
-        requires begun { (lay : Constants) × HasBegun self.old.program lay P.leads P.may P.sees P.fragments P.limit port.old (before_this self.old (Collect false)) }
-        ensures run { (lay : Constants) → HasBegun self.old.program lay P.leads P.may P.sees P.fragments P.limit port.old (before_this self.old (Collect false)) →
-            HasRun self.old.program lay P.leads (before_this self.old (Collect false)) port.old (actor_of self.new) port.new }
+        requires asks { IsCollecting statement request }
+        requires begun { (lay : Constants) × HasBegun self.old.program lay P.leads P.may P.sees P.fragments P.limit port.old (before_this self.old statement) }
+        ensures run { (lay : Constants) → HasBegun self.old.program lay P.leads P.may P.sees P.fragments P.limit port.old (before_this self.old statement) →
+            HasRun self.old.program lay P.leads (before_this self.old statement) port.old (actor_of self.new) port.new }
         ensures behind { IsBehindTurn self.old self.new }
     {
         port.set_stop();
-        self.ask(Statement::Collect { major: false }, Request::Minor);
+        self.ask(statement, request);
     }
 }

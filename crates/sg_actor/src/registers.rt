@@ -2,9 +2,8 @@
 ghost use Rattle.std.specs.Prelude.{◌≡◌, ◌≢◌, ◌↔◌, ◌<◌, ℕ, true, [], MatchOption};
 ghost use Rattle.sg_words.specs.Words.{put};
 ghost use Rattle.sg_program.specs.declared.program.Statement.{Statement as AnyStatement};
-ghost use Rattle.sg_program.specs.Scripts.{made_in};
+ghost use Rattle.sg_program.specs.Scripts.{made_in, IsRequestOf};
 ghost use Rattle.sg_rules.specs.Rules.{Idle, Claim, Left, Yielded as HasYielded, within, over, over_with, owning};
-ghost use Rattle.sg_rules.specs.Resting.{IsRequestOf};
 ghost use Rattle.sg_rules.specs.Sane.{MayBegin};
 ghost use Rattle.sg_actor.specs.declared.mutator.Stage.TheVariants.{Between, Within, Claiming, Ended, Asking, Yielded};
 ghost use Rattle.sg_actor.specs.State.{actor_of, Becomes};

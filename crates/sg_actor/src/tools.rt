@@ -1,6 +1,7 @@
 // What a mutator works out without a port.
 ghost use Rattle.std.specs.Prelude.{◌≡◌, ◌+◌, ◌<◌, ◌^◌, ◌⊎◌, length, IfSome, MatchOption};
-ghost use Rattle.sg_program.specs.Scripts.{made_in, shape_of};
+ghost use Rattle.sg_program.specs.declared.answers.Request.{Request as AnyRequest};
+ghost use Rattle.sg_program.specs.Scripts.{made_in, shape_of, IsCollecting};
 ghost use Rattle.sg_program.specs.Tests.{test_of};
 ghost use Rattle.sg_desc.specs.Shapes.{has_field as field_of_sort};
 ghost use Rattle.sg_words.specs.Address.{IsAddress, byte_at, word_at};
@@ -12,7 +13,7 @@ ghost use Rattle.sg_rules.specs.Resting.{answered_register as register_of, word_
 ghost use Rattle.sg_actor.specs.Testing.{sort_of, as_test_option, layout_of};
 
 use sg_desc::{Descriptor, Shape};
-use sg_program::{Answer, Config, Program, Statement};
+use sg_program::{Answer, Config, Program, Request, Statement};
 use sg_words::{Addr, Layout};
 
 /// The object test of a statement: which register's object is tested, for which field, and whether that has to hold a reference.
@@ -39,6 +40,18 @@ pub(crate) fn object_test(statement: Statement) -> Option<ObjectTest>
         field,
         is_reference,
     })
+}
+
+/// What a statement asks for in any case, where it does.
+pub(crate) fn stop_request(statement: Statement) -> Option<Request>
+    ensures { MatchOption result ((request : AnyRequest) → ¬ IsCollecting statement request) (IsCollecting statement) }
+{
+    match statement {
+        Statement::Collect { major: false } => Some(Request::Minor),
+        Statement::Collect { major: true } => Some(Request::Major),
+        Statement::Sections => Some(Request::Sections),
+        _ => None,
+    }
 }
 
 /// The register that the answer to a statement which asked sets, where it sets one.

@@ -7,7 +7,7 @@ ghost use Rattle.sg_actor.specs.State.{actor_of, leave_of};
 ghost use Rattle.sg_actor.specs.Turning.{IsOnPort, HasBegun, HasRun, before_this, HasClassFor, HasClassForNext, IsBehindTurn, TakesTurn};
 
 use crate::mutator::{Mutator, Stage};
-use crate::tools::object_test;
+use crate::tools::{object_test, stop_request};
 use sg_cells::{FragPort, WordPort};
 use sg_program::Statement;
 
@@ -69,6 +69,9 @@ impl<'a> Mutator<'a> {
         if let Some(test) = object_test(statement) {
             return self.access(port, statement, test);
         }
+        if let Some(request) = stop_request(statement) {
+            return self.request(port, statement, request);
+        }
         match statement {
             Statement::New { .. } | Statement::NewV { .. } => {
                 let making = self.making(statement);
@@ -76,7 +79,6 @@ impl<'a> Mutator<'a> {
             }
             Statement::GPut { .. } | Statement::GGet { .. } => self.global(port, statement),
             Statement::Hide { d, s, offset } => self.hide(port, d, s, offset),
-            Statement::Collect { major: false } => self.collect(port),
             _ => self.direct(statement),
         }
     }

@@ -12,7 +12,7 @@ use Rattle.sg_program.specs.Tests.{Test, test_of}
 use Rattle.sg_space.specs.Space.{Contents, cards_in}
 use Rattle.sg_frag.specs.Plain.{IsWordOf, MayCall}
 use Rattle.sg_rules.specs.Rules.{Constants, Actor, Access, within, object_in, global_word, sections_of, IsInHeap, Comes}
-use Rattle.sg_rules.specs.Rules.Comes.{test_null, test_begins, loads_tag, loads_length, test_fails, put_stores, put_stores_old, marks_card, putd_stores, get_loads, getd_loads, global_begins, gput_stores, gget_loads, num_sets, drop_clears, move_sets, push_sets, pop_sets, hide_null, hide_begins, hide_fits, hide_misses, unhide_sets, same_tells, new_bumps, new_looks, look_finds, look_goes_on, minor_asks, asks, yields, claim_wins, claim_moves, claim_goes_on, stores_length, stores_tag}
+use Rattle.sg_rules.specs.Rules.Comes.{test_null, test_begins, loads_tag, loads_length, test_fails, put_stores, put_stores_old, marks_card, putd_stores, get_loads, getd_loads, global_begins, gput_stores, gget_loads, num_sets, drop_clears, move_sets, push_sets, pop_sets, hide_null, hide_begins, hide_fits, hide_misses, unhide_sets, same_tells, new_bumps, new_looks, look_finds, look_goes_on, stop_asks, asks, yields, claim_wins, claim_moves, claim_goes_on, stores_length, stores_tag}
 use Rattle.sg_rules.specs.Sane.{IsAccessing, IsHeading, IsCard, IsSane}
 
 -- The space has the program's sections, all their words and cards, and as many fragments as the constants say.
@@ -93,7 +93,7 @@ module _ (p : Program) (lay : Constants) (s : Contents) (is : IsSpaceBy p lay s)
   may_call _ _ _ _ (new_looks a st rest making l) sane = tt
   may_call _ _ _ _ (look_finds a st rest f next l) sane = fragment_there f sane.1
   may_call _ _ _ _ (look_goes_on a st rest f next l) sane = fragment_there f sane.1
-  may_call _ _ _ _ (minor_asks a rest) sane = tt
+  may_call _ _ _ _ (stop_asks a st rest request is) sane = tt
   may_call _ _ _ _ (asks a rest st) sane = refl
   may_call _ _ _ _ (yields a st rest word set) sane = tt
   may_call _ _ _ _ (claim_wins a st rest f next) sane = fragment_there f sane.there

@@ -1,5 +1,5 @@
 -- How a turn ends, by where it begins.
-use Rattle.std.proofs.Common.{◌≡◌, ◌≢◌, ℕ, ◌+◌, ◌<◌, ◌≤◌, ◌⊎◌, nat_lt, cond, Bool, false, Some, None, List, [], ◌∷◌, inl, inr, refl, ap, sym, ◌∙◌, subst, arith}
+use Rattle.std.proofs.Common.{◌≡◌, ◌≢◌, ℕ, ◌+◌, ◌<◌, ◌≤◌, ◌⊎◌, nat_lt, cond, Bool, Some, None, List, [], ◌∷◌, inl, inr, refl, ap, sym, ◌∙◌, subst, arith}
 use Rattle.std.proofs.lemmas.Bool.{cases_eq, cases_lt, cond-true, cond-false, lt-ltb, le-ltb}
 use Rattle.sg_words.specs.Address.{byte_at}
 use Rattle.sg_words.specs.declared.steps.Step.{Step}
@@ -8,12 +8,13 @@ use Rattle.sg_words.specs.Words.{Words, Saw, after_step, replayed, IsLegal, step
 use Rattle.sg_words.specs.Events.{by_one, order_of}
 use Rattle.sg_words.specs.Programs.{FollowsBy}
 use Rattle.sg_program.specs.declared.program.Statement.{Statement}
-use Rattle.sg_program.specs.declared.program.Statement.TheVariants.{New, NewV, Hide, Collect}
+use Rattle.sg_program.specs.declared.program.Statement.TheVariants.{New, NewV, Hide}
 use Rattle.sg_program.specs.declared.program.Program.{Program}
-use Rattle.sg_program.specs.Scripts.{IsMaking, made_words}
+use Rattle.sg_program.specs.declared.answers.Request.{Request}
+use Rattle.sg_program.specs.Scripts.{IsMaking, IsCollecting, made_words}
 use Rattle.sg_program.specs.Tests.{Test, test_of}
 use Rattle.sg_rules.specs.Rules.{Constants, Mid, Idle, TestTag, TestLength, Access, MarkCard, AccessGlobal, Look, Claim, StoreLength, StoreTag, HideLength, Ask, Left, Yielded, Actor, IsGlobal, looking, Comes, Follows}
-use Rattle.sg_rules.specs.Rules.Comes.{test_null, test_begins, loads_tag, loads_length, test_fails, put_stores, put_stores_old, marks_card, putd_stores, get_loads, getd_loads, global_begins, gput_stores, gget_loads, num_sets, drop_clears, move_sets, push_sets, pop_sets, hide_null, hide_begins, hide_fits, hide_misses, unhide_sets, same_tells, new_bumps, new_looks, look_finds, look_goes_on, minor_asks, asks, yields, claim_wins, claim_moves, claim_goes_on, stores_length, stores_tag}
+use Rattle.sg_rules.specs.Rules.Comes.{test_null, test_begins, loads_tag, loads_length, test_fails, put_stores, put_stores_old, marks_card, putd_stores, get_loads, getd_loads, global_begins, gput_stores, gget_loads, num_sets, drop_clears, move_sets, push_sets, pop_sets, hide_null, hide_begins, hide_fits, hide_misses, unhide_sets, same_tells, new_bumps, new_looks, look_finds, look_goes_on, stop_asks, asks, yields, claim_wins, claim_moves, claim_goes_on, stores_length, stores_tag}
 use Rattle.sg_rules.specs.Acting.{ActsOn, RestsAt, IsTurn}
 
 -- fragment i of these words has fewer than n words left
@@ -65,8 +66,8 @@ pub data Turned (p : Program) (lay : Constants) (k : ℕ) (w : Words) (a : Actor
       Turned p lay k w a ks m v
   IsDone : (s : Statement) (rest : List Statement) → a.mid ≡ Idle → a.script ≡ s ∷ rest → w.stop ≡ 0 → (IsMaking s → a.from + made_words p s ≤ a.to) →
       Decides k w ks m v → Turned p lay k w a ks m v
-  Gathers : (rest : List Statement) → a.mid ≡ Idle → a.script ≡ Collect false ∷ rest → w.stop ≡ 0 → ks ≡ [] → m ≡ Left (Collect false) → v.stop ≢ 0 →
-      Turned p lay k w a ks m v
+  Gathers : (s : Statement) (rest : List Statement) (request : Request) → IsCollecting s request → a.mid ≡ Idle → a.script ≡ s ∷ rest → w.stop ≡ 0 → ks ≡ [] →
+      m ≡ Left s → v.stop ≢ 0 → Turned p lay k w a ks m v
   Looks : (s : Statement) (rest : List Statement) → a.mid ≡ Idle → a.script ≡ s ∷ rest → w.stop ≡ 0 → IsMaking s → a.to < a.from + made_words p s → ks ≡ [] →
       Searched p lay w s 0 m v → Turned p lay k w a ks m v
   Wins : (s : Statement) (f seen : ℕ) → a.mid ≡ Claim s f seen → w.next f ≡ byte_at seen → Decides k w ks m v → Turned p lay k w a ks m v
@@ -184,7 +185,7 @@ module _ (p : Program) (lay : Constants) (k : ℕ) where
   on w ks m v _ _ _ _ (look_goes_on a s rest f next l) r saw h = λ there.
       let on = searching w ks m v s (f + 1) h in
       (on.0, behind w ks m v s f (next, saw, l) on.1)
-  on w ks m v _ _ _ _ (minor_asks a rest) r saw h = absurd (r tt)
+  on w ks m v _ _ _ _ (stop_asks a s rest request is) r saw h = absurd (r tt)
   on w ks m v _ _ _ _ (asks a rest s) r saw h = (h.0, h.1, λ z. let e : 1 ≡ 0 = sym h.2 ∙ z in absurd (omega arith))
   on w ks m v _ _ _ _ (yields a s rest word set) r saw h = absurd (r tt)
   on w ks m v _ _ _ _ (claim_wins a s rest f next) r saw h = absurd (r tt)
@@ -227,7 +228,7 @@ module _ (p : Program) (lay : Constants) (k : ℕ) where
       Looks s rest refl refl saw making l on.0 on.1
   begins w ks m v _ _ _ _ (look_finds a s rest f next l) r saw h = absurd r
   begins w ks m v _ _ _ _ (look_goes_on a s rest f next l) r saw h = absurd r
-  begins w ks m v _ _ _ _ (minor_asks a rest) r saw h = Gathers rest refl refl saw h.0 h.1 h.2
+  begins w ks m v _ _ _ _ (stop_asks a s rest request is) r saw h = Gathers s rest request is refl refl saw h.0 h.1 h.2
   begins w ks m v _ _ _ _ (asks a rest s) r saw h = absurd r
   begins w ks m v _ _ _ _ (yields a s rest word set) r saw h = GivesWay s rest refl refl (λ z. set (sym saw ∙ z)) h.0 h.1 h.2
   begins w ks m v _ _ _ _ (claim_wins a s rest f next) r saw h = Wins s f next refl saw (decided w ks m v h)

@@ -8,7 +8,7 @@ use Rattle.sg_space.specs.Space.{Contents, words_of}
 use Rattle.sg_frag.specs.Plain.{Led}
 use Rattle.sg_rules.specs.Acting.{ActsOn, IsTurn}
 use Rattle.sg_rules.specs.Rules.{Constants, Actor, Comes}
-use Rattle.sg_rules.specs.Rules.Comes.{test_null, test_begins, loads_tag, loads_length, test_fails, put_stores, put_stores_old, marks_card, putd_stores, get_loads, getd_loads, global_begins, gput_stores, gget_loads, num_sets, drop_clears, move_sets, push_sets, pop_sets, hide_null, hide_begins, hide_fits, hide_misses, unhide_sets, same_tells, new_bumps, new_looks, look_finds, look_goes_on, minor_asks, asks, yields, claim_wins, claim_moves, claim_goes_on, stores_length, stores_tag}
+use Rattle.sg_rules.specs.Rules.Comes.{test_null, test_begins, loads_tag, loads_length, test_fails, put_stores, put_stores_old, marks_card, putd_stores, get_loads, getd_loads, global_begins, gput_stores, gget_loads, num_sets, drop_clears, move_sets, push_sets, pop_sets, hide_null, hide_begins, hide_fits, hide_misses, unhide_sets, same_tells, new_bumps, new_looks, look_finds, look_goes_on, stop_asks, asks, yields, claim_wins, claim_moves, claim_goes_on, stores_length, stores_tag}
 use Rattle.sg_actor.specs.State.{Mutating, actor_of}
 use Rattle.sg_actor.specs.Turning.{TakesTurn}
 use Rattle.sg_mutate.specs.Epochs.{LeavesBlocks}
@@ -53,7 +53,7 @@ leaves_step p lay _ _ _ _ (new_bumps x0 x1 x2 x3 x4) w = record { block = refl; 
 leaves_step p lay _ _ _ _ (new_looks x0 x1 x2 x3 x4) w = record { block = refl; used = refl; head = refl }
 leaves_step p lay _ _ _ _ (look_finds x0 x1 x2 x3 x4 x5) w = record { block = refl; used = refl; head = refl }
 leaves_step p lay _ _ _ _ (look_goes_on x0 x1 x2 x3 x4 x5) w = record { block = refl; used = refl; head = refl }
-leaves_step p lay _ _ _ _ (minor_asks x0 x1) w = record { block = refl; used = refl; head = refl }
+leaves_step p lay _ _ _ _ (stop_asks x0 x1 x2 x3 x4) w = record { block = refl; used = refl; head = refl }
 leaves_step p lay _ _ _ _ (asks x0 x1 x2) w = record { block = refl; used = refl; head = refl }
 leaves_step p lay _ _ _ _ (yields x0 x1 x2 x3 x4) w = record { block = refl; used = refl; head = refl }
 leaves_step p lay _ _ _ _ (claim_wins x0 x1 x2 x3 x4) w = record { block = refl; used = refl; head = refl }

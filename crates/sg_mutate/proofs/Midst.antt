@@ -15,7 +15,7 @@ use Rattle.sg_graph.specs.Turns.{Position, Between as IsBetween, HasLeft, Board,
 use Rattle.sg_space.specs.Space.{Contents, words_of}
 use Rattle.sg_frag.specs.Plain.{KeepsSections}
 use Rattle.sg_rules.specs.Rules.{Actor, fresh}
-use Rattle.sg_rules.specs.Resting.{IsRequestOf}
+use Rattle.sg_program.specs.Scripts.{IsRequestOf}
 use Rattle.sg_actor.specs.declared.mutator.Stage.{Stage}
 use Rattle.sg_actor.specs.declared.mutator.Stage.TheVariants.{Between, Within, Claiming, Ended, Asking, Yielded}
 use Rattle.sg_actor.specs.State.{Mutating, actor_of, IsSameMutator}

@@ -1,14 +1,14 @@
 -- What one turn of a mutator makes of the board.
-use Rattle.std.proofs.Common.{◌≡◌, ◌≢◌, ℕ, false, None, List, [], ◌++◌, inl, inr, refl, ap, sym, ◌∙◌, subst}
+use Rattle.std.proofs.Common.{◌≡◌, ◌≢◌, ℕ, true, false, None, List, [], ◌++◌, inl, inr, refl, ap, sym, ◌∙◌, subst}
 use Rattle.std.proofs.lemmas.List.{append-nil}
 use Rattle.sg_words.specs.Words.{put, Words, replayed}
 use Rattle.sg_words.proofs.Puts.{put-same, put-other}
 use Rattle.sg_program.specs.declared.program.Statement.{Statement}
-use Rattle.sg_program.specs.declared.program.Statement.TheVariants.{New, NewV, Collect}
+use Rattle.sg_program.specs.declared.program.Statement.TheVariants.{New, NewV, Collect, Sections}
 use Rattle.sg_program.specs.declared.program.Program.{Program}
-use Rattle.sg_program.specs.Scripts.{made_words}
+use Rattle.sg_program.specs.Scripts.{made_words, IsRequestOf}
 use Rattle.sg_program.specs.declared.answers.Request.{Request}
-use Rattle.sg_program.specs.declared.answers.Request.TheVariants.{Need, Minor}
+use Rattle.sg_program.specs.declared.answers.Request.TheVariants.{Need, Minor, Major, Sections as AllSections}
 use Rattle.sg_program.specs.declared.answers.Leave.TheVariants.{Ended as HasNone, Yield, Wants}
 use Rattle.sg_graph.specs.Graph.{Graph}
 use Rattle.sg_graph.specs.Book.{Book}
@@ -18,7 +18,6 @@ use Rattle.sg_graph.specs.Turns.TakesTurn.{Ends, Yields, Collects, Does, Prepare
 use Rattle.sg_space.specs.Space.{Contents, words_of}
 use Rattle.sg_frag.specs.Plain.{KeepsSections, Led}
 use Rattle.sg_rules.specs.Rules.{Constants, Mid, Idle, Claim, Left, Yielded as HasYielded, Actor}
-use Rattle.sg_rules.specs.Resting.{IsRequestOf}
 use Rattle.sg_rules.specs.Acting.{IsTurn}
 use Rattle.sg_actor.specs.declared.mutator.Stage.{Stage}
 use Rattle.sg_actor.specs.declared.mutator.Stage.TheVariants.{Between, Within, Claiming, Ended, Asking, Yielded}
@@ -42,7 +41,9 @@ takes_others p x k _ _ (FindsNone s rest f seen at other script none) j n = put-
 
 -- which request a statement makes
 request_for : Program → Statement → Request
-request_for p (Collect major) = Minor
+request_for p (Collect false) = Minor
+request_for p (Collect true) = Major
+request_for p Sections = AllSections
 request_for p s = Need (made_words p s)
 
 made_request : (p : Program) (s : Statement) (request : Request) → IsRequestOf p s request → request ≡ request_for p s
@@ -50,6 +51,8 @@ unfolding request_for
 made_request p (New r class) (Need words) h = ap Need h
 made_request p (NewV r class count) (Need words) h = ap Need h
 made_request p (Collect false) Minor h = refl
+made_request p (Collect true) Major h = refl
+made_request p Sections AllSections h = refl
 made_request p s request h = absurd h
 
 -- who hasn't left stands where nobody has gone, and who has left is gone

@@ -7,7 +7,7 @@ use Rattle.sg_program.specs.declared.program.Statement.{Statement}
 use Rattle.sg_program.specs.declared.program.Program.{Program}
 use Rattle.sg_program.specs.Scripts.{made_words}
 use Rattle.sg_rules.specs.Rules.{Constants, Mid, Idle, TestTag, TestLength, Access, MarkCard, AccessGlobal, Look, Claim, StoreLength, StoreTag, HideLength, Ask, Left, Yielded, Actor, looking, Comes}
-use Rattle.sg_rules.specs.Rules.Comes.{test_null, test_begins, loads_tag, loads_length, test_fails, put_stores, put_stores_old, marks_card, putd_stores, get_loads, getd_loads, global_begins, gput_stores, gget_loads, num_sets, drop_clears, move_sets, push_sets, pop_sets, hide_null, hide_begins, hide_fits, hide_misses, unhide_sets, same_tells, new_bumps, new_looks, look_finds, look_goes_on, minor_asks, asks, yields, claim_wins, claim_moves, claim_goes_on, stores_length, stores_tag}
+use Rattle.sg_rules.specs.Rules.Comes.{test_null, test_begins, loads_tag, loads_length, test_fails, put_stores, put_stores_old, marks_card, putd_stores, get_loads, getd_loads, global_begins, gput_stores, gget_loads, num_sets, drop_clears, move_sets, push_sets, pop_sets, hide_null, hide_begins, hide_fits, hide_misses, unhide_sets, same_tells, new_bumps, new_looks, look_finds, look_goes_on, stop_asks, asks, yields, claim_wins, claim_moves, claim_goes_on, stores_length, stores_tag}
 use Rattle.sg_rules.specs.Sane.{IsSaneAt}
 use Rattle.sg_rules.specs.Acting.{ActsOn, RestsAt}
 use Rattle.sg_mutate.specs.Boards.{owed_at, owed, TurnsOweLess}
@@ -149,7 +149,7 @@ module _ (p : Program) (lay : Constants) (few : lay.fragments ≤ 2048) where
   step_owes _ _ _ _ (new_looks a s rest making l) fits = looks_less s (length rest)
   step_owes _ _ _ _ (look_finds a s rest f next l) fits = finds_there f next (length rest) fits
   step_owes _ _ _ _ (look_goes_on a s rest f next l) fits = next_there s f (length rest) (2 ^ 37)
-  step_owes _ _ _ _ (minor_asks a rest) fits = on_less (length rest)
+  step_owes _ _ _ _ (stop_asks a s rest request is) fits = on_less (length rest)
   step_owes _ _ _ _ (asks a rest s) fits = let n = length rest in omega arith
   step_owes _ _ _ _ (yields a s rest word set) fits = let n = length rest in omega arith
   step_owes _ _ _ _ (claim_wins a s rest f next) fits = wins_there ((lay.fragments - f) * 2 ^ 37 + (lay.limit f - next)) (length rest)

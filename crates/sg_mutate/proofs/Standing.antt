@@ -1,18 +1,18 @@
 -- Who stands where on a board, and what the words say of the book's fragments.
-use Rattle.std.proofs.Common.{◌≡◌, ℕ, ◌<◌, ◌≤◌, List, [], ◌∷◌, map, refl, subst, arith}
+use Rattle.std.proofs.Common.{◌≡◌, ℕ, ◌<◌, ◌≤◌, true, false, List, [], ◌∷◌, map, refl, subst, arith}
 use Rattle.sg_words.specs.Address.{byte_at}
 use Rattle.sg_words.specs.Words.{Words}
 use Rattle.sg_program.specs.declared.program.Statement.{Statement}
-use Rattle.sg_program.specs.declared.program.Statement.TheVariants.{New, NewV}
+use Rattle.sg_program.specs.declared.program.Statement.TheVariants.{New, NewV, Collect, Sections}
 use Rattle.sg_program.specs.declared.program.Program.{Program}
-use Rattle.sg_program.specs.declared.answers.Request.TheVariants.{Need}
-use Rattle.sg_program.specs.Scripts.{IsMaking, made_words}
+use Rattle.sg_program.specs.declared.answers.Request.{Request}
+use Rattle.sg_program.specs.declared.answers.Request.TheVariants.{Need, Minor, Major, Sections as AllSections}
+use Rattle.sg_program.specs.Scripts.{IsMaking, IsCollecting, made_words, IsRequestOf}
 use Rattle.sg_graph.specs.Graph.{Graph}
 use Rattle.sg_graph.specs.Book.{Book, LacksRoom}
 use Rattle.sg_graph.specs.Epoch.{Said, Turn, Explains}
 use Rattle.sg_graph.specs.Turns.{Position, Between, Claiming, HasLeft, HasGone, IsLowestFrom, HasNoneFrom}
 use Rattle.sg_rules.specs.Rules.{Constants, Mid, Idle, TestTag, TestLength, Access, MarkCard, AccessGlobal, Look, Claim, StoreLength, StoreTag, HideLength, Ask, Left, Yielded, Actor}
-use Rattle.sg_rules.specs.Resting.{IsRequestOf}
 use Rattle.sg_rules.specs.Acting.{RestsAt}
 use Rattle.sg_mutate.specs.Boards.{IsAt}
 use Rattle.sg_mutate.proofs.Ends.{Lacks, Finds}
@@ -58,6 +58,13 @@ pub request_of : (p : Program) (s : Statement) → IsMaking s → IsRequestOf p 
 request_of p (New r class) m = refl
 request_of p (NewV r class count) m = refl
 request_of p s m = absurd m
+
+-- and what a statement asks for in any case is its request
+pub collects : (p : Program) (s : Statement) (request : Request) → IsCollecting s request → IsRequestOf p s request
+collects p (Collect false) Minor is = tt
+collects p (Collect true) Major is = tt
+collects p Sections AllSections is = tt
+collects p s request is = absurd is
 
 pub none_by : (rest : List Said) → map (λ (s : Said). s.by) rest ≡ [] → rest ≡ []
 none_by [] e = refl

@@ -7,10 +7,9 @@ use Rattle.sg_words.specs.Words.{put, Words, replayed, after, Legal, IsLegal}
 use Rattle.sg_words.specs.Events.{by_one, order_of}
 use Rattle.sg_words.proofs.Puts.{put-same, put-other, put-all}
 use Rattle.sg_program.specs.declared.program.Statement.{Statement}
-use Rattle.sg_program.specs.declared.program.Statement.TheVariants.{Collect}
 use Rattle.sg_program.specs.declared.program.Program.{Program}
 use Rattle.sg_program.specs.declared.answers.Request.{Request}
-use Rattle.sg_program.specs.declared.answers.Request.TheVariants.{Need, Minor}
+use Rattle.sg_program.specs.declared.answers.Request.TheVariants.{Need}
 use Rattle.sg_program.specs.declared.answers.Leave.TheVariants.{Ended, Yield, Wants}
 use Rattle.sg_program.specs.Scripts.{IsMaking, made_words}
 use Rattle.sg_graph.specs.Graph.{Graph}
@@ -26,7 +25,7 @@ use Rattle.sg_mutate.specs.Boards.{IsAt, IsBoarded, HasTaken, OpensBoarded, Turn
 use Rattle.sg_mutate.proofs.Events.{order_more, so_more}
 use Rattle.sg_mutate.proofs.Ends.{Searched, Turned, GivesWay, IsDone, Gathers, Looks, Wins, Loses, HasRun, runs}
 use Rattle.sg_mutate.proofs.Explained.{GoesBehind, goes_behind}
-use Rattle.sg_mutate.proofs.Standing.{at_rest, at_idle, at_claim, request_of, none_by, OneMore, one_by, Reads, AreFragments, found, none}
+use Rattle.sg_mutate.proofs.Standing.{at_rest, at_idle, at_claim, request_of, collects, none_by, OneMore, one_by, Reads, AreFragments, found, none}
 
 -- as an epoch opens
 pub opens_boarded : OrdersSoFar → OpensBoarded
@@ -259,9 +258,9 @@ module _ (orders : OrdersSoFar) (answers : HasOneTurn) (p : Program) (lay : Cons
         moves (HasLeft Yield) e same (goes_to Yielded (HasLeft Yield) tt m) (yields_none m) (Yields s rest (between idle)
         ((reads idle).script_is ∙ script) (loud_board set))
     by_turn (IsDone s rest idle script stop room h) = done s rest idle script stop room h.0 h.1 h.2
-    by_turn (Gathers rest idle script stop e m set) =
-        asks_for Minor e set (goes_to (Left (Collect false)) (HasLeft (Wants Minor)) tt m) (leaves_none (Collect false) m)
-        (Collects (Collect false) rest Minor (between idle) ((reads idle).script_is ∙ script) (quiet_board stop) tt)
+    by_turn (Gathers s rest request is idle script stop e m set) =
+        asks_for request e set (goes_to (Left s) (HasLeft (Wants request)) (collects p s request is) m) (leaves_none s m)
+        (Collects s rest request (between idle) ((reads idle).script_is ∙ script) (quiet_board stop) is)
     by_turn (Looks s rest idle script stop makes short e searched) = looks s rest idle script stop makes short e searched
     by_turn (Wins s f seen mid saw h) = won s f seen mid saw h.0 h.1 h.2
     by_turn (Loses s f seen mid differs e searched) =

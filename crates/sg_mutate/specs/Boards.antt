@@ -10,7 +10,7 @@ use Rattle.sg_graph.specs.Book.{Book}
 use Rattle.sg_graph.specs.Epoch.{Said}
 use Rattle.sg_graph.specs.Turns.{Position, Between, Claiming, HasLeft, Board, opening, HasGone, moved_on, TakesTurn}
 use Rattle.sg_rules.specs.Rules.{Constants, Actor, Mid, Idle, Look, Claim, Left, Yielded}
-use Rattle.sg_rules.specs.Resting.{IsRequestOf}
+use Rattle.sg_program.specs.Scripts.{IsRequestOf}
 use Rattle.sg_rules.specs.Sane.{IsSane}
 use Rattle.sg_rules.specs.Acting.{IsTurn}
 use Rattle.sg_order.specs.Rest.{IsEpochOpening}

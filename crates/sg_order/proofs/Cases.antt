@@ -1,8 +1,9 @@
--- The statements with an object test, and those that make an object.
-use Rattle.std.proofs.Common.{◌≡◌, ℕ, None, Some}
+-- The statements with an object test, those that make an object, and those that ask in any case.
+use Rattle.std.proofs.Common.{◌≡◌, ℕ, Bool, None, Some}
 use Rattle.sg_program.specs.declared.program.Statement.{Statement}
 use Rattle.sg_program.specs.declared.program.Statement.TheVariants.{New, NewV, Mature, Put, Get, PutD, GetD, Num, Move, Hide, Unhide, Drop, Push, Pop, GPut, GGet, WSet, WGet, Final, NextFin, Same, Collect, Sections}
-use Rattle.sg_program.specs.Scripts.{IsMaking}
+use Rattle.sg_program.specs.declared.answers.Request.{Request}
+use Rattle.sg_program.specs.Scripts.{IsMaking, IsCollecting}
 use Rattle.sg_program.specs.Tests.{Test, test_of}
 
 none_is_some : (test : Test) → None ≡ Some test → ⊥
@@ -62,3 +63,30 @@ by_making P one vector (NextFin r) e = absurd e
 by_making P one vector (Same r s) e = absurd e
 by_making P one vector (Collect major) e = absurd e
 by_making P one vector Sections e = absurd e
+
+-- what holds of a collection and of the question what stands in each section holds of each statement that asks in any case
+pub by_collecting : (P : Statement → Type 0) → ((major : Bool) → P (Collect major)) → P Sections → (s : Statement) (request : Request) →
+    IsCollecting s request → P s
+by_collecting P collects sections (New r class) request e = absurd e
+by_collecting P collects sections (NewV r class count) request e = absurd e
+by_collecting P collects sections (Mature r class) request e = absurd e
+by_collecting P collects sections (Put r i s) request e = absurd e
+by_collecting P collects sections (Get d r i) request e = absurd e
+by_collecting P collects sections (PutD r i s) request e = absurd e
+by_collecting P collects sections (GetD d r i) request e = absurd e
+by_collecting P collects sections (Num d n) request e = absurd e
+by_collecting P collects sections (Move d s) request e = absurd e
+by_collecting P collects sections (Hide d s offset) request e = absurd e
+by_collecting P collects sections (Unhide d s) request e = absurd e
+by_collecting P collects sections (Drop r) request e = absurd e
+by_collecting P collects sections (Push r) request e = absurd e
+by_collecting P collects sections (Pop r) request e = absurd e
+by_collecting P collects sections (GPut x r) request e = absurd e
+by_collecting P collects sections (GGet r x) request e = absurd e
+by_collecting P collects sections (WSet x r long) request e = absurd e
+by_collecting P collects sections (WGet r x) request e = absurd e
+by_collecting P collects sections (Final r) request e = absurd e
+by_collecting P collects sections (NextFin r) request e = absurd e
+by_collecting P collects sections (Same r s) request e = absurd e
+by_collecting P collects sections (Collect major) request e = collects major
+by_collecting P collects sections Sections request e = sections

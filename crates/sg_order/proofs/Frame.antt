@@ -1,5 +1,5 @@
 -- A step of one mutator keeps what the others rest on.
-use Rattle.std.proofs.Common.{◌≡◌, ◌≢◌, ℕ, ◌+◌, subst, Bool, true, false, List, [], ◌∷◌, ◌++◌, map, sym, refl, ap, ◌∙◌, ap₂, arith, inl, inr}
+use Rattle.std.proofs.Common.{◌≡◌, ◌≢◌, ℕ, ◌+◌, subst, Bool, true, List, [], ◌∷◌, ◌++◌, map, sym, refl, ap, ◌∙◌, ap₂, arith, inl, inr}
 use Rattle.std.specs.List.{AllByRecursion}
 use Rattle.sg_words.specs.Address.{byte_at}
 use Rattle.sg_words.specs.Words.{Words}
@@ -191,9 +191,8 @@ module _ (p : Program) (lay : Constants) (w : Words) (g : Graph) (b : Book) (sai
   asked (Final r) t = absurd t
   asked (NextFin r) t = absurd t
   asked (Same r x) t = absurd t
-  asked (Collect true) t = absurd t
-  asked (Collect false) t = tt
-  asked Sections t = absurd t
+  asked (Collect major) t = tt
+  asked Sections t = tt
 
   pub mid_later : (entry : ℕ → Entry) (answers : List Answer) (rest : List Statement) (mid : Mid) → ((r : ℕ) → IsKnownEntry w.word g b (entry r)) →
       AtMid p lay w g b said j entry answers rest mid → AtMid p lay v h c said' j entry answers rest mid

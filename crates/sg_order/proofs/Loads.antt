@@ -6,12 +6,13 @@ use Rattle.sg_words.specs.Sections.{nursery_base}
 use Rattle.sg_words.specs.Tags.{plain_word}
 use Rattle.sg_words.specs.Words.{put, Words, write}
 use Rattle.sg_program.specs.declared.program.Statement.{Statement}
-use Rattle.sg_program.specs.declared.program.Statement.TheVariants.{Get, GetD, Num, Drop, Collect}
+use Rattle.sg_program.specs.declared.program.Statement.TheVariants.{Get, GetD, Num, Drop}
 use Rattle.sg_program.specs.declared.program.Program.{Program}
 use Rattle.sg_program.specs.declared.answers.Answer.{Answer}
 use Rattle.sg_program.specs.declared.answers.Answer.TheVariants.{Null, Fine, Field}
 use Rattle.sg_desc.specs.Shapes.{has_field}
-use Rattle.sg_program.specs.Scripts.{kind_of, IsMaking, made_words}
+use Rattle.sg_program.specs.declared.answers.Request.{Request}
+use Rattle.sg_program.specs.Scripts.{kind_of, IsMaking, IsCollecting, made_words}
 use Rattle.sg_program.specs.Kinds.{Kinds, IsRef, IsInt, IsInner, Needs, kinds_after}
 use Rattle.sg_graph.specs.Graph.{Entry, Ref, Int, Inner, Mutator, Graph, advanced}
 use Rattle.sg_graph.specs.Statements.{FindsNone, Misses, Does}
@@ -24,7 +25,7 @@ use Rattle.sg_order.specs.Rest.{kind_of_entry}
 use Rattle.sg_order.specs.Rest.{StandsAt}
 use Rattle.sg_words.proofs.Puts.{put-all, put-along}
 use Rattle.sg_order.proofs.Relation.{Ground, IsMutator, Tight, AsksForRoom, AtMid, Stands, Kept}
-use Rattle.sg_order.proofs.Cases.{by_test, by_making}
+use Rattle.sg_order.proofs.Cases.{by_test, by_making, by_collecting}
 use Rattle.sg_order.proofs.Moves.{kinds_of, offsets_put, unchanged, silent, still, no_heads, ground_aside, later_aside, again, fits_as, decided}
 
 -- the word at the byte address of a word
@@ -103,6 +104,10 @@ books_field p g b k s test e = by_test (λ s. Books p g b k s Field b) (λ r i s
 -- who finds no room asks
 to_ask : (p : Program) (lay : Constants) (b : Book) (k : ℕ) (s : Statement) → IsMaking s → Tight b k (made_words p s) lay.fragments → AsksForRoom p lay b k s
 to_ask p lay b k s e = by_making (λ s. Tight b k (made_words p s) lay.fragments → AsksForRoom p lay b k s) (λ r class t. t) (λ r class count t. t) s e
+
+-- and who asks in any case
+asks_anyhow : (p : Program) (lay : Constants) (b : Book) (k : ℕ) (s : Statement) (request : Request) → IsCollecting s request → AsksForRoom p lay b k s
+asks_anyhow p lay b k s request e = by_collecting (AsksForRoom p lay b k) (λ major. tt) tt s request e
 
 module _ (p : Program) (lay : Constants) (w : Words) (g : Graph) (b : Book) (said : ℕ → List Answer) (k : ℕ) (owner : ℕ → Owner)
     (t : Ground p lay w g b owner) where
@@ -329,9 +334,10 @@ module _ (p : Program) (lay : Constants) (w : Words) (g : Graph) (b : Book) (sai
     claims_on s f seen next l e st = still p lay w g b said k _ tt owner t _ (again p lay w g b said k _ st rest (looking lay s (f + 1))
         (looks_on s (f + 1) st.at.0 (let u = st.at.1 in omega arith) (tighter (made_words p s) f next st.at.1 e l st.at.2) st.entry st.answers st.at.4))
 
-    -- a collection
-    pub wants : Stands p lay w g b said k (before a (Collect false) rest) → Kept p lay w g b said k Idle false w (within a rest (Ask (Collect false)))
-    wants st = still p lay w g b said k _ tt owner t _ (again p lay w g b said k _ st rest (Ask (Collect false)) (tt, st.at))
+    -- a collection, or what stands in each section
+    pub wants : (s : Statement) (request : Request) → IsCollecting s request → Stands p lay w g b said k (before a s rest) →
+        Kept p lay w g b said k Idle false w (within a rest (Ask s))
+    wants s request e st = still p lay w g b said k _ tt owner t _ (again p lay w g b said k _ st rest (Ask s) (asks_anyhow p lay b k s request e, st.at))
 
     -- another one asks for a stop
     pub gives_way : (s : Statement) → Stands p lay w g b said k (before a s rest) → Kept p lay w g b said k Idle false w (within a (s ∷ rest) Yielded)

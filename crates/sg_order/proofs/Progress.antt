@@ -13,6 +13,7 @@ use Rattle.sg_words.specs.Words.{Words, read, Saw}
 use Rattle.sg_desc.specs.Shapes.{has_field}
 use Rattle.sg_program.specs.declared.program.Statement.{Statement}
 use Rattle.sg_program.specs.declared.program.Statement.TheVariants.{New, NewV, Mature, Put, Get, PutD, GetD, Num, Move, Hide, Unhide, Drop, Push, Pop, GPut, GGet, WSet, WGet, Final, NextFin, Same, Collect, Sections}
+use Rattle.sg_program.specs.declared.answers.Request.TheVariants.{Minor, Major, Sections as AllSections}
 use Rattle.sg_program.specs.declared.program.Program.{Program}
 use Rattle.sg_program.specs.declared.answers.Answer.{Answer}
 use Rattle.sg_program.specs.Scripts.{kind_of, words_for, IsMaking, made_words}
@@ -21,7 +22,7 @@ use Rattle.sg_graph.specs.Graph.{Graph}
 use Rattle.sg_graph.specs.Book.{Book}
 use Rattle.sg_graph.specs.Heap.{Owner}
 use Rattle.sg_rules.specs.Rules.{Constants, StackWord, TestTag, TestLength, Access, AccessGlobal, Look, Claim, HideLength, Actor, before, within, object_in, taken, global_word, IsLength, Comes}
-use Rattle.sg_rules.specs.Rules.Comes.{test_null, test_begins, loads_tag, loads_length, test_fails, put_stores, put_stores_old, marks_card, putd_stores, get_loads, getd_loads, global_begins, gput_stores, gget_loads, num_sets, drop_clears, move_sets, push_sets, pop_sets, hide_null, hide_begins, hide_fits, hide_misses, unhide_sets, same_tells, new_bumps, new_looks, look_finds, look_goes_on, minor_asks, asks, yields, claim_wins, claim_moves, claim_goes_on, stores_length, stores_tag}
+use Rattle.sg_rules.specs.Rules.Comes.{test_null, test_begins, loads_tag, loads_length, test_fails, put_stores, put_stores_old, marks_card, putd_stores, get_loads, getd_loads, global_begins, gput_stores, gget_loads, num_sets, drop_clears, move_sets, push_sets, pop_sets, hide_null, hide_begins, hide_fits, hide_misses, unhide_sets, same_tells, new_bumps, new_looks, look_finds, look_goes_on, stop_asks, asks, yields, claim_wins, claim_moves, claim_goes_on, stores_length, stores_tag}
 use Rattle.sg_rules.specs.Acting.{Acts}
 use Rattle.sg_order.proofs.Relation.{Ground, Stands}
 use Rattle.sg_order.proofs.Loads.{headed, known_at, object_at, needs_now}
@@ -120,9 +121,9 @@ module _ (p : Program) (lay : Constants) (w : Words) (g : Graph) (b : Book) (sai
     begins_any (Final r) st = absurd (runs p lay w g b said owner t k _ st (Final r) rest st.at).run
     begins_any (NextFin r) st = absurd (runs p lay w g b said owner t k _ st (NextFin r) rest st.at).run
     begins_any (Same r s) st = by_rule _ _ _ _ (same_tells a rest r s) _ refl
-    begins_any (Collect true) st = absurd (runs p lay w g b said owner t k _ st (Collect true) rest st.at).run
-    begins_any (Collect false) st = by_rule _ _ _ _ (minor_asks a rest) _ refl
-    begins_any Sections st = absurd (runs p lay w g b said owner t k _ st Sections rest st.at).run
+    begins_any (Collect true) st = by_rule _ _ _ _ (stop_asks a (Collect true) rest Major tt) _ refl
+    begins_any (Collect false) st = by_rule _ _ _ _ (stop_asks a (Collect false) rest Minor tt) _ refl
+    begins_any Sections st = by_rule _ _ _ _ (stop_asks a Sections rest AllSections tt) _ refl
 
     -- the load of the stop word: the statement begins, or the mutator yields
     begins : (s : Statement) → Stands p lay w g b said k (before a s rest) → (other : Step) → call_of other ≡ Loads Stop → Saw w other →
@@ -257,7 +258,7 @@ module _ (p : Program) (lay : Constants) (w : Words) (g : Graph) (b : Book) (sai
   goes_on _ _ _ _ (new_looks a s rest making l) st other e saw = begins a rest s st other e saw
   goes_on _ _ _ _ (look_finds a s rest f next l) st other e saw = look_comes a rest s f st other e saw
   goes_on _ _ _ _ (look_goes_on a s rest f next l) st other e saw = look_comes a rest s f st other e saw
-  goes_on _ _ _ _ (minor_asks a rest) st other e saw = begins a rest (Collect false) st other e saw
+  goes_on _ _ _ _ (stop_asks a s rest request i) st other e saw = begins a rest s st other e saw
   goes_on _ _ _ _ (asks a rest s) st other e saw = by_rule _ _ _ _ (asks a rest s) other (stores _ _ other e)
   goes_on _ _ _ _ (yields a s rest word set) st other e saw = begins a rest s st other e saw
   goes_on _ _ _ _ (claim_wins a s rest f next) st other e saw = claim_comes a rest s f next st other e saw

@@ -7,7 +7,7 @@ use Rattle.sg_words.specs.Sections.{nursery_base, globals_base}
 use Rattle.sg_words.specs.Blocks.{card_of}
 use Rattle.sg_words.specs.declared.steps.BlockWord.TheVariants.{Swept, Need, Sweeping}
 use Rattle.sg_program.specs.declared.program.Statement.{Statement}
-use Rattle.sg_program.specs.declared.program.Statement.TheVariants.{New, NewV, Hide, Collect}
+use Rattle.sg_program.specs.declared.program.Statement.TheVariants.{New, NewV, Hide, Collect, Sections}
 use Rattle.sg_program.specs.declared.program.Program.{Program}
 use Rattle.sg_program.specs.declared.answers.Answer.{Answer}
 use Rattle.sg_program.specs.declared.answers.Answer.TheVariants.{At, Nil, Null, Number, Fine, Yes, No, Field, Full}
@@ -66,11 +66,12 @@ pub record Tight (b : Book) (k n f : ℕ) : Type 0 where
   pub short : IsShort b k n
   pub below : (j : ℕ) → j < f → LacksRoom b n j
 
--- a statement that asks: a new object, for which neither the buffer nor any fragment has room, or a collection
+-- a statement that asks: a new object, for which neither the buffer nor any fragment has room, or one that asks in any case
 abbrev pub AsksForRoom : Program → Constants → Book → ℕ → Statement → Type 0
 AsksForRoom p lay b k (New r class) = Tight b k (made_words p (New r class)) lay.fragments
 AsksForRoom p lay b k (NewV r class count) = Tight b k (made_words p (NewV r class count)) lay.fragments
-AsksForRoom p lay b k (Collect false) = Unit {0}
+AsksForRoom p lay b k (Collect major) = Unit {0}
+AsksForRoom p lay b k Sections = Unit {0}
 AsksForRoom p lay b k s = ⊥
 
 -- the tested register holds the object with this name

@@ -1,12 +1,12 @@
 -- A mutator that is ready stays so where its objects stay put, and a stop's answer leaves it ready behind its statement.
-use Rattle.std.proofs.Common.{◌≡◌, ◌≢◌, ℕ, suc, ◌+◌, true, false, List, [], ◌∷◌, ap, sym, ◌∙◌, subst, inl, inr, refl, arith}
+use Rattle.std.proofs.Common.{◌≡◌, ◌≢◌, ℕ, suc, ◌+◌, Bool, true, List, [], ◌∷◌, ap, sym, ◌∙◌, subst, inl, inr, refl, arith}
 use Rattle.std.specs.List.{AllByRecursion}
 use Rattle.std.proofs.lemmas.Bool.{cases_eq}
 use Rattle.sg_words.specs.Address.{byte_at}
 use Rattle.sg_words.specs.Words.{put, Words}
 use Rattle.sg_words.specs.Lists.{Pairwise}
 use Rattle.sg_program.specs.declared.program.Statement.{Statement}
-use Rattle.sg_program.specs.declared.program.Statement.TheVariants.{New, NewV, Collect}
+use Rattle.sg_program.specs.declared.program.Statement.TheVariants.{New, NewV, Mature, Collect, Sections}
 use Rattle.sg_program.specs.declared.program.Program.{Program}
 use Rattle.sg_program.specs.declared.answers.Answer.{Answer}
 use Rattle.sg_program.specs.declared.answers.Answer.TheVariants.{At, Fine, Full}
@@ -15,9 +15,9 @@ use Rattle.sg_program.specs.Scripts.{fields_of, words_for, made_in, IsMaking}
 use Rattle.sg_program.specs.Invariants.{FindKinds}
 use Rattle.sg_graph.specs.Graph.{Entry, Ref, Int, Inner, Mutator, Graph, grown, advanced}
 use Rattle.sg_graph.specs.Statements.{Answers, hands_after, heap_after, setting, name_in}
-use Rattle.sg_graph.specs.Book.{Book, word_of, words_of_class}
+use Rattle.sg_graph.specs.Book.{Book, slot_at, slot_words, word_of}
 use Rattle.sg_graph.specs.Epoch.{by_address}
-use Rattle.sg_graph.specs.Stop.{Takes, Places}
+use Rattle.sg_graph.specs.Stop.{Takes, TakesSlot, Placing, InFragments, InSlotsToo, PlacesNew, Places}
 use Rattle.sg_rules.specs.Rules.{Constants, StackWord, Idle, Actor, owning}
 use Rattle.sg_rules.specs.Resting.{served}
 use Rattle.sg_order.specs.Rest.{kinds_in, StandsAt, Holds, IsReady, IsHeld}
@@ -66,6 +66,43 @@ stays_ready p g h b c k a script ready same stay = record {
       (subst (λ stack. FindKinds (kinds_of (g.mutator k).register stack) script) (sym same.stack) ready.kinds);
   runnable = ready.runnable;
 }
+
+-- a new object stands in the book c, what stood stands where it stood, and the buffers are as they were
+record StandsNew (b : Book) (name : ℕ) (c : Book) : Type 0 where
+  address : ℕ
+  stands_are : c.stands ≡ put b.stands name true
+  address_are : c.address ≡ put b.address name address
+  from_is : c.from ≡ b.from
+  to_is : c.to ≡ b.to
+
+-- in a fragment or in a slot
+stands_placed : (p : Program) (how : Placing) (g : Graph) (b : Book) (fields name : ℕ) (c : Book) → PlacesNew p how g b fields name c → StandsNew b name c
+stands_placed p how g b fields name c = go how
+  where
+    in_fragment : (f : ℕ) → Takes b (words_for fields) name f c → StandsNew b name c
+    in_fragment f takes = record {
+      address = b.next f;
+      stands_are = ap (λ (d : Book). d.stands) takes.after;
+      address_are = ap (λ (d : Book). d.address) takes.after;
+      from_is = ap (λ (d : Book). d.from) takes.after;
+      to_is = ap (λ (d : Book). d.to) takes.after;
+    }
+
+    in_slot : (j i : ℕ) → TakesSlot p g b fields name j i c → StandsNew b name c
+    in_slot j i takes = record {
+      address = slot_at p j (slot_words fields) i;
+      stands_are = ap (λ (d : Book). d.stands) takes.after;
+      address_are = ap (λ (d : Book). d.address) takes.after;
+      from_is = ap (λ (d : Book). d.from) takes.after;
+      to_is = ap (λ (d : Book). d.to) takes.after;
+    }
+
+    go : (how : Placing) → PlacesNew p how g b fields name c → StandsNew b name c
+    go InFragments places = in_fragment places.0 places.1
+    go InSlotsToo places = elim places [
+      | inl young ↦ in_fragment young.0 young.1
+      | inr old ↦ in_slot old.1.0 old.1.1 old.1.2
+    ]
 
 module _ (p : Program) (lay : Constants) (w : Words) (g : Graph) (b : Book) (k : ℕ) (a : Actor) (held : IsHeld p lay w g b) where
   abbrev m : Mutator
@@ -161,56 +198,66 @@ module _ (p : Program) (lay : Constants) (w : Words) (g : Graph) (b : Book) (k :
   same_stays : (n : ℕ) → StaysPut g b g b n
   same_stays n = record { stands = λ q. q; address = λ q. refl; size = λ q. refl }
 
-  -- a new object has its place in a fragment
-  grown_stays : (class fields n f : ℕ) (c : Book) → Takes b n (suc g.count) f c → (name : ℕ) → StaysPut g b (grown p g k class fields) c name
-  grown_stays class fields n f c takes name = record {
-    stands = λ q. ap (λ (d : Book). d.stands name) takes.after ∙ put-other b.stands (suc g.count) true name (old q) ∙ q;
-    address = λ q. ap (λ (d : Book). d.address name) takes.after ∙ put-other b.address (suc g.count) (b.next f) name (old q);
+  -- a new object has its place
+  grown_stays : (class fields : ℕ) (c : Book) → StandsNew b (suc g.count) c → (name : ℕ) → StaysPut g b (grown p g k class fields) c name
+  grown_stays class fields c new name = record {
+    stands = λ q. ap (λ (f : ℕ → Bool). f name) new.stands_are ∙ put-other b.stands (suc g.count) true name (old q) ∙ q;
+    address = λ q. ap (λ (f : ℕ → ℕ). f name) new.address_are ∙ put-other b.address (suc g.count) new.address name (old q);
     size = λ q. put-other g.size (suc g.count) fields name (old q);
   }
     where
       old : b.stands name ≡ true → name ≢ suc g.count
       old q e = let l = held.heap.laid.objects.given name q in omega arith
 
-  -- the answers of the statements that ask
-  answers : (s : Statement) (rest : List Statement) (answer : Answer) (h : Graph) (c : Book) → IsReady p g b k a (s ∷ rest) → Answers p g m s answer →
-      h ≡ advanced (heap_after p g k m s answer) k (hands_after m s answer) rest →
-      Places p b s answer c → AreReadyBehind p g b k h c (served a s rest (by_address c answer)) rest
-  answers (New r class) rest (At name) h c ready is after places =
-      subst (λ q. AreReadyBehind p g b k q c (served a (New r class) rest (At (byte_at (c.address name)))) rest) (sym after)
-      (making (New r class) rest ready (grown p g k class (fields_of p class)) c (stays places.1.1) refl (ap (λ (d : Book). d.from) places.1.1.after)
-      (ap (λ (d : Book). d.to) places.1.1.after) tt name
-      (byte_at (c.address name)) (ap (λ (d : Book). d.stands name) places.1.1.after ∙ put-same b.stands name true) refl)
+  -- a new object of the nursery is answered, wherever it stands
+  made : (s : Statement) (rest : List Statement) → IsMaking s → (how : Placing) (class fields name : ℕ) (h : Graph) (c : Book) → IsReady p g b k a (s ∷ rest) →
+      name ≡ suc g.count → h ≡ advanced (grown p g k class fields) k (setting m (made_in s) (Ref name)) rest → PlacesNew p how g b fields name c →
+      AreReadyBehind p g b k h c (record a { reg = put a.reg (made_in s) (byte_at (c.address name)); script = rest; mid = Idle }) rest
+  made s rest makes how class fields name h c ready is after places =
+      subst (λ q. AreReadyBehind p g b k q c (record a { reg = put a.reg (made_in s) (byte_at (c.address name)); script = rest; mid = Idle }) rest) (sym after)
+      (making s rest ready (grown p g k class fields) c
+      (grown_stays class fields c (subst (λ n. StandsNew b n c) is new)) refl new.from_is new.to_is makes name (byte_at (c.address name))
+      (ap (λ (f : ℕ → Bool). f name) new.stands_are ∙ put-same b.stands name true) refl)
     where
-      stays : Takes b (words_of_class p class) name places.1.0 c → (n : ℕ) → StaysPut g b (grown p g k class (fields_of p class)) c n
-      stays takes = grown_stays class (fields_of p class) (words_of_class p class) places.1.0 c
-          (subst (λ n. Takes b (words_of_class p class) n places.1.0 c) is takes)
-  answers (NewV r class count) rest (At name) h c ready is after places =
-      subst (λ q. AreReadyBehind p g b k q c (served a (NewV r class count) rest (At (byte_at (c.address name)))) rest) (sym after)
-      (making (NewV r class count) rest ready (grown p g k class count) c (stays places.1.1) refl (ap (λ (d : Book). d.from) places.1.1.after)
-      (ap (λ (d : Book). d.to) places.1.1.after) tt name
-      (byte_at (c.address name)) (ap (λ (d : Book). d.stands name) places.1.1.after ∙ put-same b.stands name true) refl)
-    where
-      stays : Takes b (words_for count) name places.1.0 c → (n : ℕ) → StaysPut g b (grown p g k class count) c n
-      stays takes = grown_stays class count (words_for count) places.1.0 c (subst (λ n. Takes b (words_for count) n places.1.0 c) is takes)
-  answers (New r class) rest Full h c ready is after places =
-      subst (λ q. AreReadyBehind p g b k q c (served a (New r class) rest Full) rest) (sym after)
-      (subst (λ d. AreReadyBehind p g b k (advanced g k (setting m r (Ref 0)) rest) d (served a (New r class) rest Full) rest) (sym places.2)
-      (making (New r class) rest ready g b same_stays refl refl refl tt 0 0 held.heap.laid.nothing.stands_nil (sym (ap byte_at held.heap.laid.nothing.at_nil))))
-  answers (NewV r class count) rest Full h c ready is after places =
-      subst (λ q. AreReadyBehind p g b k q c (served a (NewV r class count) rest Full) rest) (sym after)
-      (subst (λ d. AreReadyBehind p g b k (advanced g k (setting m r (Ref 0)) rest) d (served a (NewV r class count) rest Full) rest) (sym places.2)
-      (making (NewV r class count) rest ready g b same_stays refl refl refl tt 0 0 held.heap.laid.nothing.stands_nil
-      (sym (ap byte_at held.heap.laid.nothing.at_nil))))
-  answers (Collect false) rest Fine h c ready is after places =
-      subst (λ q. AreReadyBehind p g b k q c (served a (Collect false) rest Fine) rest) (sym after)
-      (subst (λ d. AreReadyBehind p g b k (advanced g k m rest) d (served a (Collect false) rest Fine) rest) (sym places)
-      (behind (Collect false) rest ready g b same_stays refl refl refl m.register a.reg
+      new : StandsNew b name c
+      new = stands_placed p how g b fields name c places
+
+  -- a new object has no place
+  missed : (s : Statement) (rest : List Statement) → IsMaking s → (h : Graph) (c : Book) → IsReady p g b k a (s ∷ rest) →
+      h ≡ advanced g k (setting m (made_in s) (Ref 0)) rest → c ≡ b →
+      AreReadyBehind p g b k h c (record a { reg = put a.reg (made_in s) 0; script = rest; mid = Idle }) rest
+  missed s rest makes h c ready after places =
+      subst (λ q. AreReadyBehind p g b k q c (record a { reg = put a.reg (made_in s) 0; script = rest; mid = Idle }) rest) (sym after)
+      (subst (λ d. AreReadyBehind p g b k (advanced g k (setting m (made_in s) (Ref 0)) rest) d
+      (record a { reg = put a.reg (made_in s) 0; script = rest; mid = Idle }) rest)
+      (sym places)
+      (making s rest ready g b same_stays refl refl refl makes 0 0 held.heap.laid.nothing.stands_nil (sym (ap byte_at held.heap.laid.nothing.at_nil))))
+
+  -- a statement that changes neither the mutator's hands nor the book
+  told : (s : Statement) (rest : List Statement) (h : Graph) (c : Book) → IsReady p g b k a (s ∷ rest) → FindKinds (kinds_of m.register m.stack) rest →
+      h ≡ advanced g k m rest → c ≡ b → AreReadyBehind p g b k h c (record a { reg = a.reg; script = rest; mid = Idle }) rest
+  told s rest h c ready kinds after places =
+      subst (λ q. AreReadyBehind p g b k q c (record a { reg = a.reg; script = rest; mid = Idle }) rest) (sym after)
+      (subst (λ d. AreReadyBehind p g b k (advanced g k m rest) d (record a { reg = a.reg; script = rest; mid = Idle }) rest) (sym places)
+      (behind s rest ready g b same_stays refl refl refl m.register a.reg
       (λ r. holds_on g b (advanced g k m rest) b (a.reg r) (a.offset r) (m.register r) (record { stands = λ q. q; address = λ q. refl; size = λ q. refl })
-      (ready.regs r)) ready.kinds.1))
-  answers s rest answer h c ready is after places = absurd places
+      (ready.regs r)) kinds))
+
+  -- the answers of the statements that ask; an object of the major heap isn't asked for yet
+  answers : (how : Placing) (s : Statement) (rest : List Statement) (answer : Answer) (h : Graph) (c : Book) → IsReady p g b k a (s ∷ rest) →
+      Answers p g m s answer → h ≡ advanced (heap_after p g k m s answer) k (hands_after m s answer) rest → Places p how g b s answer c →
+      AreReadyBehind p g b k h c (served a s rest (by_address c answer)) rest
+  answers how (New r class) rest (At name) h c ready is after places =
+      made (New r class) rest tt how class (fields_of p class) name h c ready is after places.1
+  answers how (NewV r class count) rest (At name) h c ready is after places = made (NewV r class count) rest tt how class count name h c ready is after places.1
+  answers how (New r class) rest Full h c ready is after places = missed (New r class) rest tt h c ready after places.2
+  answers how (NewV r class count) rest Full h c ready is after places = missed (NewV r class count) rest tt h c ready after places.2
+  answers how (Mature r class) rest answer h c ready is after places = absurd ready.runnable.0.run
+  answers how (Collect major) rest Fine h c ready is after places = told (Collect major) rest h c ready ready.kinds.1 after places
+  answers how Sections rest Fine h c ready is after places = told Sections rest h c ready ready.kinds.1 after places
+  answers how s rest answer h c ready is after places = absurd places
 
 pub serves_ready : ServesReady
-serves_ready p lay w g h b c asked service a held turn ready =
+serves_ready p lay w g h b c how asked service a held turn ready =
     subst (λ x. AreReadyBehind p g b asked.by h c (served a turn.statement turn.rest x) turn.rest) (sym turn.told)
-    (answers p lay w g b asked.by a held turn.statement turn.rest turn.answer h c ready turn.does.0 turn.does.1 turn.places)
+    (answers p lay w g b asked.by a held how turn.statement turn.rest turn.answer h c ready turn.does.0 turn.does.1 turn.places)

@@ -8,7 +8,7 @@ use Rattle.sg_words.proofs.Puts.{put-same, put-other, put-all, put-at}
 use Rattle.sg_program.specs.declared.program.Statement.{Statement}
 use Rattle.sg_program.specs.declared.program.Program.{Program}
 use Rattle.sg_rules.specs.Rules.{Constants, Mid, Idle, Look, Ask, Left, Yielded, Actor, looking, Comes, Follows}
-use Rattle.sg_rules.specs.Rules.Comes.{test_null, test_begins, loads_tag, loads_length, test_fails, put_stores, put_stores_old, marks_card, putd_stores, get_loads, getd_loads, global_begins, gput_stores, gget_loads, num_sets, drop_clears, move_sets, push_sets, pop_sets, hide_null, hide_begins, hide_fits, hide_misses, unhide_sets, same_tells, new_bumps, new_looks, look_finds, look_goes_on, minor_asks, asks, yields, claim_wins, claim_moves, claim_goes_on, stores_length, stores_tag}
+use Rattle.sg_rules.specs.Rules.Comes.{test_null, test_begins, loads_tag, loads_length, test_fails, put_stores, put_stores_old, marks_card, putd_stores, get_loads, getd_loads, global_begins, gput_stores, gget_loads, num_sets, drop_clears, move_sets, push_sets, pop_sets, hide_null, hide_begins, hide_fits, hide_misses, unhide_sets, same_tells, new_bumps, new_looks, look_finds, look_goes_on, stop_asks, asks, yields, claim_wins, claim_moves, claim_goes_on, stores_length, stores_tag}
 use Rattle.sg_order.specs.Rest.{IsWanted}
 use Rattle.sg_order.proofs.Events.{part-same, part-other}
 
@@ -73,7 +73,7 @@ module _ (p : Program) (lay : Constants) (w : Words) where
   stopping _ _ _ _ (new_looks a s rest making l) saw = quiet w _ _ _ refl refl (looks_quietly lay s 0)
   stopping _ _ _ _ (look_finds a s rest f next l) saw = quiet w _ _ _ refl refl refl
   stopping _ _ _ _ (look_goes_on a s rest f next l) saw = quiet w _ _ _ refl refl (looks_quietly lay s (f + 1))
-  stopping _ _ _ _ (minor_asks a rest) saw = quiet w _ _ _ refl refl refl
+  stopping _ _ _ _ (stop_asks a s rest request i) saw = quiet w _ _ _ refl refl refl
   stopping _ _ _ _ (asks a rest s) saw = record { stop = inr (s, refl); stays = λ r e. not_left _ r refl e; late = λ e. absurd (not_yielded _ refl e) }
   stopping _ _ _ _ (yields a s rest word set) saw = record { stop = inl refl; stays = λ r e. not_left _ r refl e; late = λ e z. set (sym saw ∙ z) }
   stopping _ _ _ _ (claim_wins a s rest f next) saw = quiet w _ _ _ refl refl refl

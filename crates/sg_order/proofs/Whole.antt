@@ -13,7 +13,7 @@ use Rattle.sg_graph.specs.Book.{Book, block_at}
 use Rattle.sg_graph.specs.Epoch.{Said, Explains, answers_of}
 use Rattle.sg_graph.specs.Heap.{Owner, IsHeaded}
 use Rattle.sg_rules.specs.Rules.{Constants, Actor, Comes, Follows}
-use Rattle.sg_rules.specs.Rules.Comes.{test_null, test_begins, loads_tag, loads_length, test_fails, put_stores, put_stores_old, marks_card, putd_stores, get_loads, getd_loads, global_begins, gput_stores, gget_loads, num_sets, drop_clears, move_sets, push_sets, pop_sets, hide_null, hide_begins, hide_fits, hide_misses, unhide_sets, same_tells, new_bumps, new_looks, look_finds, look_goes_on, minor_asks, asks, yields, claim_wins, claim_moves, claim_goes_on, stores_length, stores_tag}
+use Rattle.sg_rules.specs.Rules.Comes.{test_null, test_begins, loads_tag, loads_length, test_fails, put_stores, put_stores_old, marks_card, putd_stores, get_loads, getd_loads, global_begins, gput_stores, gget_loads, num_sets, drop_clears, move_sets, push_sets, pop_sets, hide_null, hide_begins, hide_fits, hide_misses, unhide_sets, same_tells, new_bumps, new_looks, look_finds, look_goes_on, stop_asks, asks, yields, claim_wins, claim_moves, claim_goes_on, stores_length, stores_tag}
 use Rattle.sg_words.proofs.Puts.{put-at, put-same, put-other, put-all}
 use Rattle.sg_order.proofs.Events.{part-same, part-other}
 use Rattle.sg_order.proofs.Relation.{Ground, Stands, Later, Moves, WritesHeader, IsNeeded, Marks, Kept, SameBlocks, AreResting, World}
@@ -60,7 +60,7 @@ module _ (p : Program) (lay : Constants) (w : Words) (g : Graph) (b : Book) (sai
   kept _ _ _ _ (new_looks a s rest making l) saw st = searches p lay w g b said k owner t a rest s making l st
   kept _ _ _ _ (look_finds a s rest f next l) saw st = finds_room p lay w g b said k owner t a rest s f next l saw st
   kept _ _ _ _ (look_goes_on a s rest f next l) saw st = finds_small p lay w g b said k owner t a rest s f next l saw st
-  kept _ _ _ _ (minor_asks a rest) saw st = wants p lay w g b said k owner t a rest st
+  kept _ _ _ _ (stop_asks a s rest request i) saw st = wants p lay w g b said k owner t a rest s request i st
   kept _ _ _ _ (asks a rest s) saw st = leaves p lay w g b said k owner t a rest s st
   kept _ _ _ _ (yields a s rest word set) saw st = gives_way p lay w g b said k owner t a rest s st
   kept _ _ _ _ (claim_wins a s rest f next) saw st = claims p lay w g b said k owner t a rest s f next saw st
@@ -100,7 +100,7 @@ same_blocks p lay w _ _ _ _ (new_bumps a s rest making l) = record { block = ref
 same_blocks p lay w _ _ _ _ (new_looks a s rest making l) = record { block = refl; used = refl; marks = refl }
 same_blocks p lay w _ _ _ _ (look_finds a s rest f next l) = record { block = refl; used = refl; marks = refl }
 same_blocks p lay w _ _ _ _ (look_goes_on a s rest f next l) = record { block = refl; used = refl; marks = refl }
-same_blocks p lay w _ _ _ _ (minor_asks a rest) = record { block = refl; used = refl; marks = refl }
+same_blocks p lay w _ _ _ _ (stop_asks a s rest request i) = record { block = refl; used = refl; marks = refl }
 same_blocks p lay w _ _ _ _ (asks a rest s) = record { block = refl; used = refl; marks = refl }
 same_blocks p lay w _ _ _ _ (yields a s rest word set) = record { block = refl; used = refl; marks = refl }
 same_blocks p lay w _ _ _ _ (claim_wins a s rest f next) = record { block = refl; used = refl; marks = refl }

@@ -8,7 +8,7 @@ use Rattle.sg_graph.specs.declared.reports.Service.{Service}
 use Rattle.sg_graph.specs.Graph.{Entry, Mutator, Graph}
 use Rattle.sg_graph.specs.Statements.{name_in}
 use Rattle.sg_graph.specs.Book.{Book}
-use Rattle.sg_graph.specs.Stop.{Asked, IsServed}
+use Rattle.sg_graph.specs.Stop.{Asked, Placing, IsServed}
 use Rattle.sg_rules.specs.Rules.{Constants, Actor, owning}
 use Rattle.sg_rules.specs.Resting.{served}
 use Rattle.sg_order.specs.Rest.{IsReady, IsHeld}
@@ -45,6 +45,6 @@ pub record AreReadyBehind (p : Program) (g : Graph) (b : Book) (k : ℕ) (h : Gr
 -- a stop's answer is a turn of the mutator that asked
 abbrev pub ServesReady : Type 0
 ServesReady =
-    (p : Program) (lay : Constants) (w : Words) (g h : Graph) (b c : Book) (asked : Asked) (service : Service) (a : Actor) → IsHeld p lay w g b →
-    (turn : IsServed p g b asked service h c) → IsReady p g b asked.by a (turn.statement ∷ turn.rest) →
+    (p : Program) (lay : Constants) (w : Words) (g h : Graph) (b c : Book) (how : Placing) (asked : Asked) (service : Service) (a : Actor) → IsHeld p lay w g b →
+    (turn : IsServed p how g b asked service h c) → IsReady p g b asked.by a (turn.statement ∷ turn.rest) →
     AreReadyBehind p g b asked.by h c (served a turn.statement turn.rest service.answer) turn.rest

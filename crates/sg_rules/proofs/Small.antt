@@ -53,7 +53,7 @@ small_made p (Final r) all run = absurd run
 small_made p (NextFin r) all run = absurd run
 small_made p (Same r s) all run = zero-le
 small_made p (Collect major) all run = zero-le
-small_made p Sections all run = absurd run
+small_made p Sections all run = zero-le
 
 pub runnable : (p : Program) (s : Statement) → AllByRecursion IsSmallClass p.classes → IsGood p s → IsBuilt p s → IsRunnable p s
 runnable p s all good run = record { good = good; run = run; small = small_made p s all run }

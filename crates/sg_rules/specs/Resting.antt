@@ -1,14 +1,12 @@
 -- Which statements are run, what they ask for, and what a stop's answer leaves of a mutator.
-use Rattle.std.specs.Prelude.{◌≡◌, ℕ, ◌≤◌, false, Option, Some, None, List}
+use Rattle.std.specs.Prelude.{ℕ, ◌≤◌, Option, Some, None, List}
 use Rattle.sg_words.specs.Words.{put}
 use Rattle.sg_program.specs.declared.program.Statement.{Statement}
-use Rattle.sg_program.specs.declared.program.Statement.TheVariants.{New, NewV, Collect}
+use Rattle.sg_program.specs.declared.program.Statement.TheVariants.{New, NewV, Collect, Sections}
 use Rattle.sg_program.specs.declared.program.Program.{Program}
 use Rattle.sg_program.specs.declared.answers.Answer.{Answer}
 use Rattle.sg_program.specs.declared.answers.Answer.TheVariants.{At, Fine, Full}
-use Rattle.sg_program.specs.declared.answers.Request.{Request}
-use Rattle.sg_program.specs.declared.answers.Request.TheVariants.{Need, Minor}
-use Rattle.sg_program.specs.Scripts.{made_fields, made_words}
+use Rattle.sg_program.specs.Scripts.{made_fields}
 use Rattle.sg_program.specs.Invariants.{IsGood, IsBuilt}
 use Rattle.sg_rules.specs.Rules.{Idle, Actor}
 
@@ -17,13 +15,6 @@ pub record IsRunnable (p : Program) (s : Statement) : Type 0 where
   pub good : IsGood p s
   pub run : IsBuilt p s
   pub small : made_fields p s ≤ 62
-
--- which request a statement makes
-abbrev pub IsRequestOf : Program → Statement → Request → Type 0
-IsRequestOf p (New r class) (Need words) = words ≡ made_words p (New r class)
-IsRequestOf p (NewV r class count) (Need words) = words ≡ made_words p (NewV r class count)
-IsRequestOf p (Collect false) Minor = Unit {0}
-IsRequestOf p s request = ⊥
 
 -- the register that the answer to a statement which asked sets, where it sets one
 abbrev pub answered_register : Statement → Option ℕ
@@ -51,5 +42,6 @@ IsServiceOf (New r class) (At a) = Unit {0}
 IsServiceOf (New r class) Full = Unit {0}
 IsServiceOf (NewV r class count) (At a) = Unit {0}
 IsServiceOf (NewV r class count) Full = Unit {0}
-IsServiceOf (Collect false) Fine = Unit {0}
+IsServiceOf (Collect major) Fine = Unit {0}
+IsServiceOf Sections Fine = Unit {0}
 IsServiceOf s answer = ⊥

@@ -12,12 +12,13 @@ use Rattle.sg_words.specs.Sections.{nursery_base, large_base, globals_base}
 use Rattle.sg_words.specs.Blocks.{card_of, HasCard}
 use Rattle.sg_words.specs.declared.layout.Layout.{Layout}
 use Rattle.sg_program.specs.declared.program.Statement.{Statement}
-use Rattle.sg_program.specs.declared.program.Statement.TheVariants.{Put, Get, PutD, GetD, Num, Move, Hide, Unhide, Drop, Push, Pop, GPut, GGet, Same, Collect}
+use Rattle.sg_program.specs.declared.program.Statement.TheVariants.{Put, Get, PutD, GetD, Num, Move, Hide, Unhide, Drop, Push, Pop, GPut, GGet, Same}
 use Rattle.sg_program.specs.declared.program.Program.{Program}
+use Rattle.sg_program.specs.declared.answers.Request.{Request}
 use Rattle.sg_program.specs.declared.answers.Answer.{Answer}
 use Rattle.sg_program.specs.declared.answers.Answer.TheVariants.{At, Nil, Null, Number, Fine, Yes, No, Field}
 use Rattle.sg_desc.specs.Shapes.{has_field}
-use Rattle.sg_program.specs.Scripts.{kind_of, words_for, IsMaking, made_in, made_class, made_fields, made_words}
+use Rattle.sg_program.specs.Scripts.{kind_of, words_for, IsMaking, IsCollecting, made_in, made_class, made_fields, made_words}
 use Rattle.sg_program.specs.Tests.{Test, test_of}
 
 -- What is constant in an epoch: how many fragments there are, and before which word each ends.
@@ -225,8 +226,9 @@ pub data Comes (p : Program) (lay : Constants) : Actor → Step → Bool → Act
       Comes p lay (within a rest (Look s f)) (Load (Next f) (byte_at next)) false (within a rest (Claim s f next))
   look_goes_on : (a : Actor) (s : Statement) (rest : List Statement) (f next : ℕ) → lay.limit f < next + made_words p s →
       Comes p lay (within a rest (Look s f)) (Load (Next f) (byte_at next)) false (within a rest (looking lay s (f + 1)))
-  -- a collection: the mutator asks for it
-  minor_asks : (a : Actor) (rest : List Statement) → Comes p lay (before a (Collect false) rest) (Load Stop 0) false (within a rest (Ask (Collect false)))
+  -- a collection, or what stands in each section: the mutator asks for it
+  stop_asks : (a : Actor) (s : Statement) (rest : List Statement) (request : Request) → IsCollecting s request →
+      Comes p lay (before a s rest) (Load Stop 0) false (within a rest (Ask s))
   -- who asks sets the stop word and leaves
   asks : (a : Actor) (rest : List Statement) (s : Statement) → Comes p lay (within a rest (Ask s)) (Store Stop 1) false (within a rest (Left s))
   -- who finds the stop word set as a statement begins leaves, and the statement stays before it

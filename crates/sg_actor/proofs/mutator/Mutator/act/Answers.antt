@@ -1,13 +1,14 @@
-use Rattle.std.proofs.Common.{◌≡◌, refl, sym, ap, ◌∙◌, subst}
+use Rattle.std.proofs.Common.{refl, sym, ap, ◌∙◌, subst}
 use Rattle.sg_program.specs.declared.program.Statement.{Statement}
-use Rattle.sg_program.specs.declared.program.Statement.TheVariants.{Collect}
 use Rattle.sg_rules.specs.Rules.{Constants}
 use Rattle.sg_actor.specs.State.{actor_of}
-use Rattle.sg_actor.specs.Turning.{before_this}
+use Rattle.sg_actor.specs.declared.mutator.Stage.{Stage}
+use Rattle.sg_actor.specs.Turning.{before_this, IsResting}
+use Rattle.sg_actor.specs.Testing.{as_test_option}
+use Rattle.sg_actor.proofs.Facts.{is_direct}
 use Rattle.sg_actor.proofs.Ports.{Ports}
 use Rattle.sg_actor.proofs.Turnings.{Ran, ran_at_once}
 use Rattle.sg_actor.proofs.Turnings.{Begun}
-use Rattle.sg_actor.proofs.mutator.Mutator.act.Goals.{in_default-statement-via-in-Collect+then-statement, in_default-statement-via-in_default}
 use Rattle.sg_actor.proofs.mutator.Mutator.act.Given.{Over}
 use Rattle.sg_actor.proofs.mutator.Mutator.act.Goals as goal
 
@@ -43,16 +44,6 @@ hide-requires-clause-begun g c =
     let is = c.in-Hide.is in
     subst (λ (u : Statement). (lay : Constants) × Begun o p lay x (before_this m u)) is c.requires.begun
 
-pub collect-requires-clause-begun : goal.collect-requires-clause-begun
-collect-requires-clause-begun g c =
-    let o = ports g in
-    let m = c.args.self.now in
-    let p = m.program in
-    let s = c.args.statement in
-    let x = c.args.port.now in
-    let is = c.in-Collect-false.is ∙ ap (λ b. Collect b) c.in-Collect-false.major-test in
-    subst (λ (u : Statement). (lay : Constants) × Begun o p lay x (before_this m u)) is c.requires.begun
-
 pub returns-in-New-clause-run : goal.returns-in-New-clause-run
 returns-in-New-clause-run g c lay begun =
     let o = ports g in
@@ -75,29 +66,26 @@ returns-in-Hide-clause-run g c lay begun =
     subst (λ (u : Statement). Ran o p lay (before_this m u) x (actor_of c.hide.new.self) c.hide.new.port) (sym is)
     (c.hide.ensures.run lay (subst (λ (u : Statement). Begun o p lay x (before_this m u)) is begun))
 
-pub returns-in-Collect-false-clause-run : goal.returns-in-Collect-false-clause-run
-returns-in-Collect-false-clause-run g c lay begun =
-    let o = ports g in
-    let m = c.args.self.now in
-    let p = m.program in
+pub direct-requires : goal.direct-requires
+direct-requires g c =
     let s = c.args.statement in
-    let x = c.args.port.now in
-    let is = c.in-Collect-false.is ∙ ap (λ b. Collect b) c.in-Collect-false.major-test in
-    subst (λ (u : Statement). Ran o p lay (before_this m u) x (actor_of c.collect.new.self) c.collect.new.port) (sym is)
-    (c.collect.ensures.run lay (subst (λ (u : Statement). Begun o p lay x (before_this m u)) is begun))
+    record {
+      within = c.requires.within;
+      direct = is_direct c.args.self.now.program s c.requires.may.runnable.run (sym c.object_test.ensures ∙ ap as_test_option c.in_default.is)
+          c.in_default-stop_request.ensures c.in_default-statement.not-New c.in_default-statement.not-NewV c.in_default-statement.not-Hide
+          c.in_default-statement.not-GPut c.in_default-statement.not-GGet;
+      may = c.requires.may;
+    }
 
-pub returns-in_default-statement-clause-run : goal.returns-in_default-statement-clause-run
-returns-in_default-statement-clause-run g c lay begun =
+pub returns-in_default-statement : goal.returns-in_default-statement
+returns-in_default-statement g c =
     let o = ports g in
     let m = c.args.self.now in
     let p = m.program in
     let s = c.args.statement in
     let x = c.args.port.now in
-    let acts = c.direct.ensures.comes lay in
     let k = actor_of c.direct.new.self in
-    let is : c.in_default-statement.statement ≡ s = elim c.in_default-statement.branch [
-      | in_default-statement-via-in-Collect+then-statement w ↦ cc (w.statement-is)
-      | in_default-statement-via-in_default w ↦ w.statement-is
-    ] in
-    subst (λ (u : Statement). Ran o p lay (before_this m u) x k x) is
-    (ran_at_once o p lay (before_this m c.in_default-statement.statement) k x (subst (λ (u : Statement). Begun o p lay x (before_this m u)) (sym is) begun) acts.0 acts.1 k refl)
+    record {
+      run = λ lay begun. let acts = c.direct.ensures.comes lay in ran_at_once o p lay (before_this m s) k x begun acts.0 acts.1 k refl;
+      behind = record { rests = subst (λ (at : Stage). IsResting p at) (sym c.direct.ensures.stage) tt; same = c.direct.ensures.same };
+    }

@@ -1,13 +1,12 @@
 use Rattle.std.proofs.Common.{◌≡◌, ◌+◌, ◌<◌, ◌≤◌, refl, sym, ap, ◌∙◌, subst, arith}
 use Rattle.sg_words.specs.Address.{word_at}
-use Rattle.sg_program.specs.Scripts.{made_words}
+use Rattle.sg_program.specs.Scripts.{made_words, IsRequestOf}
 use Rattle.sg_rules.specs.Rules.{Claim, Left, within, looking}
 use Rattle.sg_actor.specs.State.{Mutating, actor_of}
 use Rattle.sg_actor.proofs.Facts.{needs}
 use Rattle.sg_actor.proofs.Ports.{Ports, on_then, none_yet}
 use Rattle.sg_actor.proofs.Searches.{stop_may, stop_done, search_ends, look_may, search_finds, search_goes_on}
 use Rattle.sg_program.specs.declared.answers.Request.TheVariants.{Need}
-use Rattle.sg_rules.specs.Resting.{IsRequestOf}
 use Rattle.sg_actor.proofs.Setters.{behind_at}
 use Rattle.sg_actor.proofs.mutator.Mutator.seek.Given.{Over}
 use Rattle.sg_actor.proofs.mutator.Mutator.seek.Goals as goal
