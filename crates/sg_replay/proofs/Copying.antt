@@ -52,7 +52,7 @@ module _ (p : Program) (g : Graph) (d : Book) (z : ℕ) (some : 0 < z) where
       (omega (arith, there.at))
 
   -- a block with an open slot isn't shut
-  not_shut : (j i : ℕ) → IsOpenSlot p g d j z i → IsShut p g d j z → ⊥
+  pub not_shut : (j i : ℕ) → IsOpenSlot p g d j z i → IsShut p g d j z → ⊥
   not_shut j i at (inl other) = other.2 (at.size other.0 other.1)
   not_shut j i at (inr full) = let n = full i at.fits in not_empty n.0 j i n.1 at.empty
 
@@ -76,7 +76,7 @@ module _ (p : Program) (g : Graph) (d : Book) (z : ℕ) (some : 0 < z) where
       ap (λ m. slot_at p m z i) block ∙ ap (slot_at p k z) slot
 
 -- an object's slot has words
-slot_some : (fields : ℕ) → 0 < slot_words fields
+pub slot_some : (fields : ℕ) → 0 < slot_words fields
 slot_some fields = let l = (class_bounds (slot_words fields) (slot_size-class (words_for fields))).0 in omega arith
 
 module _ (p : Program) (g : Graph) (b : Book) where

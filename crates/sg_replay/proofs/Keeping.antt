@@ -6,7 +6,7 @@ use Rattle.sg_program.specs.declared.program.Program.{Program}
 use Rattle.sg_graph.specs.Graph.{Graph, Ref}
 use Rattle.sg_graph.specs.Pause.{IsReached, IsPause, is_widowed, link_after}
 
-one_test : (a b : Bool) (P : Type 0) → (a ≡ true) ↔ P → (b ≡ true) ↔ P → a ≡ b
+pub one_test : (a b : Bool) (P : Type 0) → (a ≡ true) ↔ P → (b ≡ true) ↔ P → a ≡ b
 one_test true true P h k = refl
 one_test false false P h k = refl
 one_test true false P h k = sym (k.1 (h.0 refl))

@@ -7,6 +7,10 @@ pub mod Copying
 pub mod Tiling
 pub mod Telling
 pub mod Pausing
+pub mod Counting
+pub mod Majoring
+pub mod Showing
+pub mod Placing
 pub mod Serving
 pub mod Stopping
 pub mod Running

@@ -3,18 +3,18 @@ use Rattle.std.proofs.Common.{◌≡◌, ◌≢◌, ℕ, ◌⊎◌, inl, inr, Bo
 use Rattle.std.proofs.lemmas.Bool.{cases_lt}
 use Rattle.sg_words.specs.Words.{put}
 use Rattle.sg_program.specs.declared.program.Statement.{Statement}
-use Rattle.sg_program.specs.declared.program.Statement.TheVariants.{New, NewV, Collect}
+use Rattle.sg_program.specs.declared.program.Statement.TheVariants.{New, NewV, Collect, Sections}
 use Rattle.sg_program.specs.declared.program.Program.{Program}
 use Rattle.sg_program.specs.declared.answers.Answer.{Answer}
 use Rattle.sg_program.specs.declared.answers.Request.{Request}
-use Rattle.sg_program.specs.declared.answers.Request.TheVariants.{Need, Minor}
+use Rattle.sg_program.specs.declared.answers.Request.TheVariants.{Need, Minor, Major, Sections as AllSections}
 use Rattle.sg_program.specs.declared.answers.Leave.TheVariants.{Ended, Yield}
-use Rattle.sg_program.specs.Scripts.{IsMaking, made_words}
+use Rattle.sg_program.specs.Scripts.{IsMaking, made_words, IsCollecting}
 use Rattle.sg_graph.specs.Graph.{Graph}
 use Rattle.sg_graph.specs.Book.{Book, Books}
 use Rattle.sg_graph.specs.Epoch.{Said, Turn}
 use Rattle.sg_graph.specs.Laws.{HasOneTurn}
-use Rattle.sg_graph.specs.Turns.{Position, Between, Claiming, HasLeft, Board, moved_on, asking, IsLowestFrom, HasNoneFrom, Searches, IsCollecting, TakesTurn, Ends, Yields, Collects, Does, Prepares, Needs, Claims, LooksAgain, FindsNone}
+use Rattle.sg_graph.specs.Turns.{Position, Between, Claiming, HasLeft, Board, moved_on, asking, IsLowestFrom, HasNoneFrom, Searches, TakesTurn, Ends, Yields, Collects, Does, Prepares, Needs, Claims, LooksAgain, FindsNone}
 
 -- the lowest fragment with room is one, and there is none where all lack room
 one_lowest : (b : Book) (n f i j : ℕ) → IsLowestFrom b n f i → IsLowestFrom b n f j → i ≡ j
@@ -29,10 +29,14 @@ one_lowest b n f i j x y = elim (cases_lt i j) [
 not_both : (b : Book) (n f i : ℕ) → IsLowestFrom b n f i → HasNoneFrom b n f → ⊥
 not_both b n f i x none = let r = none i x.from x.there in let q = x.room in omega arith
 
--- only the collection of a minor pause asks by itself
+-- a statement that asks by itself asks for one thing
 one_request : (s : Statement) (q r : Request) → IsCollecting s q → IsCollecting s r → q ≡ r
 one_request (Collect false) Minor Minor h k = refl
 one_request (Collect false) Minor r h k = absurd k
+one_request (Collect true) Major Major h k = refl
+one_request (Collect true) Major r h k = absurd k
+one_request Sections AllSections AllSections h k = refl
+one_request Sections AllSections r h k = absurd k
 one_request s q r h k = absurd h
 
 makes_nothing : (s : Statement) (q : Request) → IsCollecting s q → IsMaking s → ⊥
@@ -43,6 +47,7 @@ makes_nothing s q h k = k
 never_done : (p : Program) (g : Graph) (b : Book) (k : ℕ) (s : Statement) (q : Request) (answer : Answer) (c : Book) → IsCollecting s q →
     Books p g b k s answer c → ⊥
 never_done p g b k (Collect major) q answer c h x = x
+never_done p g b k Sections q answer c h x = x
 never_done p g b k s q answer c h x = h
 
 -- a statement asks for a collection

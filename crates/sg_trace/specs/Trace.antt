@@ -7,10 +7,13 @@ use Rattle.sg_program.specs.declared.answers.Answer.TheVariants.{At, Nil, Null, 
 use Rattle.sg_program.specs.declared.answers.Leave.{Leave}
 use Rattle.sg_program.specs.declared.answers.Leave.TheVariants.{Ended, Yield, Wants}
 use Rattle.sg_program.specs.declared.answers.Request.{Request}
-use Rattle.sg_program.specs.declared.answers.Request.TheVariants.{Need, Minor}
+use Rattle.sg_program.specs.declared.answers.Request.TheVariants.{Need, Slot, Minor, Major, Sections as AllSections}
 use Rattle.sg_graph.specs.declared.reports.Part.{Part}
 use Rattle.sg_graph.specs.declared.reports.EpochReport.{EpochReport}
 use Rattle.sg_graph.specs.declared.reports.MinorReport.{MinorReport}
+use Rattle.sg_graph.specs.declared.reports.MajorReport.{MajorReport}
+use Rattle.sg_graph.specs.declared.reports.BlockLine.{BlockLine}
+use Rattle.sg_graph.specs.declared.reports.Sections.{Sections}
 use Rattle.sg_graph.specs.declared.reports.Service.{Service}
 use Rattle.sg_graph.specs.declared.reports.StopReport.{StopReport}
 use Rattle.sg_words.specs.declared.pieces.Move.{Move}
@@ -44,10 +47,13 @@ abbrev pub answer_lines : ℕ → ℕ → List Answer → List ℕ
 answer_lines i k [] = []
 answer_lines i k (answer ∷ answers) = answer_line i k answer ++ answer_lines i (suc k) answers
 
--- what a mutator asks for: `need WORDS` or `collect minor`
+-- what a mutator asks for: `need WORDS`, `slot WORDS`, `collect minor`, `collect major` or `sections`
 abbrev pub request_text : Request → List ℕ
 request_text (Need words) = codes "need " ++ decimal words
+request_text (Slot size) = codes "slot " ++ decimal size
 request_text Minor = codes "collect minor"
+request_text Major = codes "collect major"
+request_text AllSections = codes "sections"
 
 -- how mutator i left: `I done`, `I yield`, or `I` and what it asks for
 abbrev pub leave_line : ℕ → Leave → List ℕ
@@ -90,17 +96,36 @@ minor_text report =
     codes "minor" ++ line_feed ++ flat_map pin_line report.pins ++ flat_map move_line report.moves ++ flat_map fail_line report.fails
     ++ codes "spares " ++ decimal report.spares ++ line_feed ++ flat_map piece_line report.pieces
 
+-- the minor pause, if there is one
 abbrev pub pause_text : Option MinorReport → List ℕ
 pause_text (Some report) = minor_text report
 pause_text None = []
+
+-- `major KEPT FREED`, and then the gaps of the nursery behind it, if there is a major pause
+abbrev pub major_text : Option MajorReport → List ℕ
+major_text (Some report) = codes "major " ++ decimal report.kept ++ space ++ decimal report.freed ++ line_feed ++ flat_map piece_line report.pieces
+major_text None = []
+
+-- `block B SIZE USED`: a block, the words of its slots, and in how many of them an object stands
+abbrev pub block_line : BlockLine → List ℕ
+block_line line = codes "block " ++ decimal line.block ++ space ++ decimal line.size ++ space ++ decimal line.used ++ line_feed
+
+-- `nursery N WORDS`: the objects of the nursery and their words; and then the blocks; where the sections are told
+abbrev pub sections_text : Option Sections → List ℕ
+sections_text (Some told) = codes "nursery " ++ decimal told.young ++ space ++ decimal told.young_words ++ line_feed ++ flat_map block_line told.blocks
+sections_text None = []
 
 -- `serve I K ANSWER`: what mutator i's statement k, which asked for something, is answered
 abbrev pub service_line : Service → List ℕ
 service_line service = codes "serve " ++ decimal service.mutator ++ space ++ decimal service.statement ++ space ++ answer_text service.answer ++ line_feed
 
--- `stop E`, the pause if there is one, and the answers to the requests
+-- the sections, where the statement asked for them, and the answer
+abbrev pub service_text : Service → List ℕ
+service_text service = sections_text service.sections ++ service_line service
+
+-- `stop E`, the pauses if there are any, and the answers to the requests
 abbrev pub stop_text : StopReport → List ℕ
-stop_text report = codes "stop " ++ decimal report.number ++ line_feed ++ pause_text report.minor ++ flat_map service_line report.served
+stop_text report = codes "stop " ++ decimal report.number ++ line_feed ++ pause_text report.minor ++ major_text report.major ++ flat_map service_text report.served
 
 abbrev pub phase_text : Phase → List ℕ
 phase_text (Epoch report order swept) = epoch_text report

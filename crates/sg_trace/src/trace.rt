@@ -2,10 +2,13 @@
 ghost use Rattle.std.specs.Prelude.{◌≡◌, ◌+◌, ◌≤◌, ◌∷◌, ◌++◌, codes, drop, IfOk, IfErr};
 ghost use Rattle.std.specs.Fmt.{decimal};
 ghost use Rattle.std.specs.List.{flat_map};
-ghost use Rattle.sg_trace.specs.Trace.{space, line_feed, StartsWith, answer_text, answer_line, answer_lines, request_text, leave_line, part_text, end_line, epoch_text, pin_line, move_line, fail_line, piece_line, minor_text, pause_text, service_line, stop_text};
+ghost use Rattle.sg_trace.specs.Trace.{space, line_feed, StartsWith, answer_text, answer_line, answer_lines, request_text, leave_line, part_text, end_line, epoch_text, pin_line, move_line, fail_line, piece_line, minor_text, pause_text, major_text, block_line, sections_text, service_line, service_text, stop_text};
 
 use itoa::{Buffer, write_digits};
-use sg_graph::{Answer, EpochReport, Leave, MinorReport, Part, Request, Service, StopReport};
+use sg_graph::{
+    Answer, BlockLine, EpochReport, Leave, MajorReport, MinorReport, Part, Request, Sections,
+    Service, StopReport,
+};
 use sg_words::{Addr, Move, Piece};
 use std::alloc::{AllocError, Global};
 
@@ -197,7 +200,13 @@ fn append_request(out: &mut Vec<u8>, request: Request) -> Result<(), AllocError>
             out.extend_from_slice(b"need ")?;
             append_number(out, u64::from(words))
         }
+        Request::Slot { size } => {
+            out.extend_from_slice(b"slot ")?;
+            append_number(out, u64::from(size))
+        }
         Request::Minor => out.extend_from_slice(b"collect minor"),
+        Request::Major => out.extend_from_slice(b"collect major"),
+        Request::Sections => out.extend_from_slice(b"sections"),
     }
 }
 
@@ -211,7 +220,8 @@ fn append_end(out: &mut Vec<u8>, is_last: bool) -> Result<(), AllocError>
     Ok(())
 }
 
-/// Appends the text of a stop: the line `stop E`, the lines of its pause, and a line for each answer to a request.
+/// Appends the text of a stop: the line `stop E`, the lines of its pauses, and for each request a line for its answer, behind the
+/// lines of the sections where it asked for them.
 ///
 /// The only error is want of memory, and then `out` has the bytes that it had before. Linear in the text.
 pub fn append_stop(_alloc: Global, out: &mut Vec<u8>, report: &StopReport) -> Result<(), AllocError>
@@ -234,6 +244,7 @@ fn write_stop(out: &mut Vec<u8>, report: &StopReport) -> Result<(), AllocError>
     append_number(out, u64::from(report.number))?;
     out.push(b'\n')?;
     append_pause(out, &report.minor)?;
+    append_major(out, &report.major)?;
     append_services(out, report.served.as_slice())
 }
 
@@ -376,19 +387,90 @@ fn append_place(out: &mut Vec<u8>, at: Addr, words: u32) -> Result<(), AllocErro
     Ok(())
 }
 
-fn append_services(out: &mut Vec<u8>, served: &[Service]) -> Result<(), AllocError>
+fn append_major(out: &mut Vec<u8>, pause: &Option<MajorReport>) -> Result<(), AllocError>
     ensures front { IfErr result (λ _. StartsWith out.new.items out.old.items) }
-    ensures appended { IfOk result (λ _. out.new.items ≡ out.old.items ++ flat_map service_line served.now) }
+    ensures appended { IfOk result (λ _. out.new.items ≡ out.old.items ++ major_text pause.now) }
 {
-    for service in served {
-        append_service(out, *service)?;
+    match pause {
+        Some(report) => {
+            append_counts(out, b"major ", report.kept, report.freed)?;
+            append_pieces(out, report.pieces.as_slice())
+        }
+        None => Ok(()),
+    }
+}
+
+// A line of a word and two counts behind it.
+fn append_counts(out: &mut Vec<u8>, word: &[u8], first: u32, second: u32) -> Result<(), AllocError>
+    ensures front { IfErr result (λ _. StartsWith out.new.items out.old.items) }
+    ensures appended { IfOk result (λ _. out.new.items ≡ out.old.items ++ word.now ++ decimal first ++ space ++ decimal second ++ line_feed) }
+{
+    out.extend_from_slice(word)?;
+    append_number(out, u64::from(first))?;
+    out.push(b' ')?;
+    append_number(out, u64::from(second))?;
+    out.push(b'\n')?;
+    Ok(())
+}
+
+fn append_sections(out: &mut Vec<u8>, told: &Option<Sections>) -> Result<(), AllocError>
+    ensures front { IfErr result (λ _. StartsWith out.new.items out.old.items) }
+    ensures appended { IfOk result (λ _. out.new.items ≡ out.old.items ++ sections_text told.now) }
+{
+    match told {
+        Some(sections) => {
+            append_counts(out, b"nursery ", sections.young, sections.young_words)?;
+            append_blocks(out, sections.blocks.as_slice())
+        }
+        None => Ok(()),
+    }
+}
+
+fn append_blocks(out: &mut Vec<u8>, blocks: &[BlockLine]) -> Result<(), AllocError>
+    ensures front { IfErr result (λ _. StartsWith out.new.items out.old.items) }
+    ensures appended { IfOk result (λ _. out.new.items ≡ out.old.items ++ flat_map block_line blocks.now) }
+{
+    for block in blocks {
+        append_block(out, *block)?;
     }
     Ok(())
 }
 
-fn append_service(out: &mut Vec<u8>, service: Service) -> Result<(), AllocError>
+fn append_block(out: &mut Vec<u8>, line: BlockLine) -> Result<(), AllocError>
     ensures front { IfErr result (λ _. StartsWith out.new.items out.old.items) }
-    ensures appended { IfOk result (λ _. out.new.items ≡ out.old.items ++ service_line service) }
+    ensures appended { IfOk result (λ _. out.new.items ≡ out.old.items ++ block_line line) }
+{
+    out.extend_from_slice(b"block ")?;
+    append_number(out, u64::from(line.block))?;
+    out.push(b' ')?;
+    append_number(out, u64::from(line.size))?;
+    out.push(b' ')?;
+    append_number(out, u64::from(line.used))?;
+    out.push(b'\n')?;
+    Ok(())
+}
+
+fn append_services(out: &mut Vec<u8>, served: &[Service]) -> Result<(), AllocError>
+    ensures front { IfErr result (λ _. StartsWith out.new.items out.old.items) }
+    ensures appended { IfOk result (λ _. out.new.items ≡ out.old.items ++ flat_map service_text served.now) }
+{
+    for service in served {
+        append_service(out, service)?;
+    }
+    Ok(())
+}
+
+fn append_service(out: &mut Vec<u8>, service: &Service) -> Result<(), AllocError>
+    ensures front { IfErr result (λ _. StartsWith out.new.items out.old.items) }
+    ensures appended { IfOk result (λ _. out.new.items ≡ out.old.items ++ service_text service.now) }
+{
+    append_sections(out, &service.sections)?;
+    append_served(out, service)
+}
+
+fn append_served(out: &mut Vec<u8>, service: &Service) -> Result<(), AllocError>
+    ensures front { IfErr result (λ _. StartsWith out.new.items out.old.items) }
+    ensures appended { IfOk result (λ _. out.new.items ≡ out.old.items ++ service_line service.now) }
 {
     out.extend_from_slice(b"serve ")?;
     append_number(out, u64::from(service.mutator))?;
