@@ -1,0 +1,6 @@
+pub mod Answered
+pub mod Fresh
+pub mod Heaps
+pub mod Placed
+pub mod Seats
+pub mod Spots
