@@ -7,7 +7,9 @@ ghost use Rattle.sg_world.specs.Worlds.{CanRun};
 use crate::top::accept;
 use sg_cells::ScheduleDriver;
 use sg_copy::{Round, copy_one};
+use sg_finish::finish;
 use sg_graph::Program;
+use sg_heap::sweep_law;
 use sg_minor::{first_slots, found_in, heap_law};
 use sg_nursery::tag::tag;
 use sg_pins::pin_queue;
@@ -31,7 +33,7 @@ const FILL: &str =
 const SECOND: &str =
     "collect minor\nnew r3 Node\nnew r4 Box\nnewv r5 Row 3\nnew r6 Tail\nnew r7 Box\nnewv r8 Row 11\ngget r0 0\nput r0 0 r3\nput r3 0 r5\nnum r9 5\nputd r3 1 r9\nnum r9 4200\nputd r4 0 r9\nnum r9 9\nputd r4 1 r9\nput r5 0 r4\nput r5 1 r3\nput r5 2 r6\nnum r9 3\nputd r6 0 r9\nnum r9 8\nputd r7 1 r9\nput r2 0 r7\nput r2 1 r0\nput r8 10 r3\ngput 5 r4\ngput 63 r5\ncollect minor\nend\n";
 
-/// The space of this program at its second stop, before the pause; `None` where the program comes to no second stop.
+/// The space of this program at its second stop, swept and before the pause; `None` where the program comes to no second stop.
 fn at_second_stop(alloc: Global, program: &Program) -> Result<Option<Space>, AllocError>
     requires { CanRun program.now }
     ensures { IfOk result (λ found. IfSome found HoldsSome) }
@@ -47,7 +49,12 @@ fn at_second_stop(alloc: Global, program: &Program) -> Result<Option<Space>, All
     if second.last {
         return Ok(None);
     }
-    Ok(Some(world.into_space()))
+    // The law that it rests on: this call does nothing.
+    sweep_law();
+    let mut space = world.into_space();
+    let _ = space.layout();
+    finish(&mut space);
+    Ok(Some(space))
 }
 
 /// The same of the program that is made of these parts; `None` also where that is refused.

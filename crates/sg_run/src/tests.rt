@@ -269,10 +269,10 @@ fn worked_programs(rt: HostRuntime) -> Result<(), Fail> {
             "new r0 Even\nnew r1 Box\ndrop r0\ncollect minor\nend\n",
             "epoch 0\n0 0 4096\n0 1 4352\n0 2 ok\n0 collect minor\nstop 0\nminor\npin 4352\nspares 0\nfrag 4096 32\nfrag 4384 220\nserve 0 3 ok\nepoch 1\n0 done\nend\n",
         ),
-        // The nursery is full of objects that stay, so the one that asks gets none.
+        // The nursery is full of objects that stay, so the one that asks gets a slot behind a major pause.
         (
             "new r0 Big\nnew r1 Big\nnew r2 Big\nnew r3 Big\nnew r3 Big\nget r4 r3 0\nend\n",
-            "epoch 0\n0 0 4096\n0 1 4608\n0 2 5120\n0 3 5632\n0 need 64\nstop 0\nminor\npin 4096\npin 4608\npin 5120\npin 5632\nspares 0\nserve 0 4 full\nepoch 1\n0 5 null\n0 done\nend\n",
+            "epoch 0\n0 0 4096\n0 1 4608\n0 2 5120\n0 3 5632\n0 need 64\nstop 0\nminor\npin 4096\npin 4608\npin 5120\npin 5632\nspares 0\nmajor 4 0\nserve 0 4 6144\nepoch 1\n0 5 field\n0 done\nend\n",
         ),
         // The room of what died serves the one that asks.
         (
@@ -282,7 +282,7 @@ fn worked_programs(rt: HostRuntime) -> Result<(), Fail> {
         // A chain moves to slots of 64 words; at the next pause the block has one left, so the one to which that leads stays.
         (
             "new r0 Wide\nnew r1 Wide\nput r0 0 r1\nnew r2 Wide\nput r1 0 r2\nnew r3 Wide\nput r2 0 r3\ndrop r1\ndrop r2\ndrop r3\ncollect minor\nget r1 r0 0\nnew r2 Wide\nput r0 1 r2\nnew r3 Wide\nput r2 0 r3\ndrop r2\ndrop r3\ncollect minor\nget r2 r0 1\nget r3 r2 0\nnew r4 Wide\nend\n",
-            "epoch 0\n0 0 4096\n0 1 4608\n0 2 ok\n0 3 5120\n0 4 ok\n0 5 5632\n0 6 ok\n0 7 ok\n0 8 ok\n0 9 ok\n0 collect minor\nstop 0\nminor\npin 4096\nmove 4608 6144\nmove 5120 6656\nmove 5632 7168\nspares 0\nfrag 4592 194\nserve 0 10 ok\nepoch 1\n0 11 6144\n0 12 4592\n0 13 ok\n0 14 5104\n0 15 ok\n0 16 ok\n0 17 ok\n0 collect minor\nstop 1\nminor\npin 4096\nmove 4592 7680\nfail 5104\nspares 0\nfrag 4592 64\nfrag 5600 68\nserve 0 18 ok\nepoch 2\n0 19 7680\n0 20 5104\n0 21 4592\n0 done\nend\n",
+            "epoch 0\n0 0 4096\n0 1 4608\n0 2 ok\n0 3 5120\n0 4 ok\n0 5 5632\n0 6 ok\n0 7 ok\n0 8 ok\n0 9 ok\n0 collect minor\nstop 0\nminor\npin 4096\nmove 4608 6144\nmove 5120 6656\nmove 5632 7168\nspares 0\nfrag 4592 194\nserve 0 10 ok\nepoch 1\n0 11 6144\n0 12 4592\n0 13 ok\n0 14 5104\n0 15 ok\n0 16 ok\n0 17 ok\n0 collect minor\nstop 1\nminor\npin 4096\nmove 4592 7680\nfail 5104\nspares 0\nfrag 4592 64\nfrag 5600 68\nmajor 6 0\nfrag 4592 64\nfrag 5600 68\nserve 0 18 ok\nepoch 2\n0 19 7680\n0 20 5104\n0 21 4592\n0 done\nend\n",
         ),
     ];
     let words = words_of(rt.alloc(), &["run"])?;

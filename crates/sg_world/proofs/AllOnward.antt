@@ -1,53 +1,31 @@
--- All mutators go on behind a pause.
-use Rattle.std.proofs.Common.{◌≡◌, ◌≢◌, ℕ, zero, suc, ◌+◌, ◌<◌, Some, List, [], ◌∷◌, ◌++◌, length, slice_get, get_or, take, drop, set, sym, refl, ap, ◌∙◌, subst, arith, append-nil, append_assoc}
-use Rattle.std.proofs.lemmas.Option.{same_Some}
+-- All mutators go on behind the pauses of a stop, one after another.
+use Rattle.std.proofs.Common.{◌≡◌, ◌≢◌, ℕ, zero, suc, ◌+◌, ◌<◌, Bool, Some, List, [], ◌∷◌, ◌++◌, length, slice_get, get_or, take, drop, set, inl, inr, sym, refl, ap, ◌∙◌, subst, arith, append-nil}
+use Rattle.std.proofs.lemmas.List.{length-take}
+use Rattle.std.proofs.lemmas.Option.{same_Some, slice_get_within, slice_get-get_or}
+use Rattle.std.proofs.lemmas.List.Concat.{flat_map-append}
 use Rattle.sg_words.specs.Lists.{Pairwise}
 use Rattle.sg_program.specs.declared.program.Statement.{Statement}
 use Rattle.sg_program.specs.declared.program.Program.{Program}
+use Rattle.sg_program.specs.declared.answers.Request.{Request}
+use Rattle.sg_program.specs.declared.answers.Request.TheVariants.{Need, Slot, Minor, Major, Sections as AllSections}
 use Rattle.sg_graph.specs.declared.reports.Service.{Service}
 use Rattle.sg_graph.specs.Graph.{Graph}
 use Rattle.sg_graph.specs.Book.{Book}
-use Rattle.sg_graph.specs.Stop.{Asked, Serves}
+use Rattle.sg_graph.specs.Stop.{Asked, Placing, Serves}
 use Rattle.sg_space.specs.Space.{Contents}
+use Rattle.sg_placing.specs.declared.placing.Room.{Room}
+use Rattle.sg_placing.specs.declared.placing.Room.TheVariants.{Fragments, SlotsToo}
+use Rattle.sg_placing.specs.Answering.{FitsRoom}
 use Rattle.sg_rules.specs.Rules.{Actor}
 use Rattle.sg_order.specs.Rest.{IsReady}
-use Rattle.sg_order.specs.Held.{RunnableMakes}
-use Rattle.sg_order.specs.Serving.{ServesReady}
 use Rattle.sg_actor.specs.declared.mutator.Stage.{Stage}
 use Rattle.sg_actor.specs.declared.mutator.Stage.TheVariants.{Between, Ended, Asking, Yielded}
 use Rattle.sg_actor.specs.State.{Mutating}
 use Rattle.sg_mutate.specs.Epochs.{found_at, IsReadyStage}
-use Rattle.sg_world.specs.Stopping.{GoesOn, GoOn}
-use Rattle.sg_world.specs.Stopping.GoOn.{Nobody, OneMore}
-use Rattle.sg_world.specs.Worlds.{HasLeftReady, asked_of, requests_of}
-use Rattle.sg_world.proofs.Lists.{old_more, front_more}
-use Rattle.sg_world.proofs.Onward.{IsHolding, IsReadyNow, IsFurther, HasGoneOn, one_goes}
-
--- one more at the end
-go_on_more : (p : Program) (s t u : Contents) (ms ns : List Mutating) (services more : List Service) (m n : Mutating) → GoOn p s ms services t ns →
-    GoesOn p t m m.stage more u n →
-    GoOn p s (ms ++ m ∷ []) (services ++ more) u (ns ++ n ∷ [])
-go_on_more p _ _ u _ _ _ more m n (Nobody s) goes =
-    subst (λ (ss : List Service). GoOn p s (m ∷ []) ss u (n ∷ [])) (append-nil more) (OneMore s u u m n [] [] more [] goes (Nobody u))
-go_on_more p _ _ u _ _ _ more m n (OneMore s t v x y ms ns services others first rest) goes =
-    subst (λ (ss : List Service). GoOn p s (x ∷ ms ++ m ∷ []) ss u (y ∷ ns ++ n ∷ [])) (sym (append_assoc services others more))
-    (OneMore s t u x y (ms ++ m ∷ []) (ns ++ n ∷ []) services (others ++ more) first (go_on_more p t v u ms ns others more m n rest goes))
-
-pub go_on_length : (p : Program) (s t : Contents) (ms ns : List Mutating) (services : List Service) → GoOn p s ms services t ns → length ns ≡ length ms
-go_on_length p _ _ _ _ _ (Nobody s) = refl
-go_on_length p _ _ _ _ _ (OneMore s t u m n ms ns services more goes rest) = ap suc (go_on_length p t u ms ns more rest)
-
--- a loop that lets one after another go on
-module _ (p : Program) (s t u : Contents) (old cur : List Mutating) (k : ℕ) (n d : Mutating) (there : k < length cur) (same : length cur ≡ length old)
-    (rest : drop k cur ≡ drop k old)
-    (services : List Service) (so : GoOn p s (take k old) services t (take k cur)) where
-  pub go_step : (more after : List Service) → after ≡ services ++ more → GoesOn p t (get_or cur k d) (get_or cur k d).stage more u n →
-      GoOn p s (take (k + 1) old) after u (take (k + 1) (set cur k n))
-  go_step more after is goes =
-      subst (λ (xs : List Mutating). GoOn p s xs after u (take (k + 1) (set cur k n))) (sym (old_more old cur k n d there same rest))
-      (subst (λ (ys : List Mutating). GoOn p s (take k old ++ get_or cur k d ∷ []) after u ys) (sym (front_more old cur k n d there same rest))
-      (subst (λ (ss : List Service). GoOn p s (take k old ++ get_or cur k d ∷ []) ss u (take k cur ++ n ∷ [])) (sym is)
-      (go_on_more p s t u (take k old) (take k cur) services more (get_or cur k d) n so goes)))
+use Rattle.sg_world.specs.Stopping.{asked_of, requests_of}
+use Rattle.sg_world.specs.Serving.{CanTell, MayGoOn, MayAllGoOn, IsHolding, IsReadyNow, IsFurther, HasGoneOn, HaveGoneOn}
+use Rattle.sg_world.specs.Worlds.{HasLeftReady}
+use Rattle.sg_world.proofs.Lists.{pairwise_push, at_push, next_same, old_more, front_more}
 
 left_stays : (p : Program) (g h : Graph) (b c : Book) (j : ℕ) (m : Mutating) →
     ((x : Actor) (script : List Statement) → IsReady p g b j x script → IsReady p h c j x script) →
@@ -62,83 +40,116 @@ stage_stays g h k ended Between r = ended ∙ r
 stage_stays g h k ended Ended r = ended ∙ r
 stage_stays g h k ended stage r = absurd r
 
-serves_more : (p : Program) (g : Graph) (b : Book) (asked more : List Asked) (services others : List Service) (h : Graph) (c : Book) (h1 : Graph) (c1 : Book) →
-    Serves p g b asked services h c → Serves p h c more others h1 c1 → Serves p g b (asked ++ more) (services ++ others) h1 c1
-serves_more p g b [] more [] others h c h1 c1 one rest =
-    subst (λ (x : Graph). Serves p x b more others h1 c1) one.0 (subst (λ (x : Book). Serves p h x more others h1 c1) one.1 rest)
-serves_more p g b [] more (service ∷ services) others h c h1 c1 one rest = absurd one
-serves_more p g b (a ∷ asked) more [] others h c h1 c1 one rest = absurd one
-serves_more p g b (a ∷ asked) more (service ∷ services) others h c h1 c1 one rest =
-    (one.0, one.1, one.2, serves_more p one.0 one.1 asked more services others h c h1 c1 one.3 rest)
+-- what is owed decides what can be told, and what room there is
+tells_so : (p : Program) (b c : Book) → c.owed ≡ b.owed → (statement : Statement) (request : Request) → CanTell p b (Asking statement request) →
+    CanTell p c (Asking statement request)
+tells_so p b c same statement AllSections can = λ j l. ap (λ (owed : ℕ → Bool). owed j) same ∙ can j l
+tells_so p b c same statement request can = tt
 
--- what these mutators, from number i on, which went on, left of graph and book
-pub record HaveGoneOn (p : Program) (g : Graph) (b : Book) (i : ℕ) (ms : List Mutating) (services : List Service) (t : Contents) (ns : List Mutating) : Type 0
-  where
-    pub graph : Graph
-    pub book : Book
-    pub holding : IsHolding p t graph book
-    pub serves : Serves p g b (requests_of ms) services graph book
-    pub others : (j : ℕ) (x : Actor) (script : List Statement) → ((r : ℕ) → r < length ms → j ≢ i + r) → IsReady p g b j x script →
-        IsReady p graph book j x script
-    pub ended : (j : ℕ) → (graph.mutator j).ended ≡ (g.mutator j).ended
-    pub own : (r : ℕ) (n : Mutating) → slice_get ns r ≡ Some n → IsReadyNow p graph book (i + r) n
-    pub further : Pairwise IsFurther ms ns
+tells_stays : (p : Program) (b c : Book) → c.owed ≡ b.owed → (stage : Stage) → CanTell p b stage → CanTell p c stage
+tells_stays p b c same (Asking statement request) can = tells_so p b c same statement request can
+tells_stays p b c same stage can = tt
 
-module _ (serves : ServesReady) (makes : RunnableMakes) (p : Program) where
-  -- the first one goes on, and then the others
-  module _ (g : Graph) (b : Book) (i : ℕ) (s t u : Contents) (m n : Mutating) (ms ns : List Mutating) (services more : List Service)
-      (goes : GoesOn p s m m.stage services t n)
-      (holding : IsHolding p s g b) (ready : (r : ℕ) (x : Mutating) → slice_get (m ∷ ms) r ≡ Some x → HasLeftReady p g b (i + r) x x.stage
-      × (x.number ≡ i + r)) where
-    first : HasGoneOn p g b (i + 0) m m.stage services t n
-    first = one_goes serves makes p s g b holding (i + 0) m (ready zero m refl).1 services t n m.stage refl (ready zero m refl).0 goes
+pub fits_stays : (p : Program) (b c : Book) → c.owed ≡ b.owed → (room : Room) → FitsRoom p b room → FitsRoom p c room
+fits_stays p b c same Fragments fits = tt
+fits_stays p b c same SlotsToo fits = λ j l. ap (λ (owed : ℕ → Bool). owed j) same ∙ fits j l
 
-    stay : (r : ℕ) (x : Mutating) → slice_get ms r ≡ Some x → HasLeftReady p first.graph first.book (suc i + r) x x.stage × (x.number ≡ suc i + r)
-    stay r x e =
-        let before = ready (suc r) x e in
-        let same : i + suc r ≡ suc i + r = omega arith in (
-          left_stays p g first.graph b first.book (suc i + r) x (λ y script. first.others (suc i + r) y script (λ d. absurd (omega arith)))
-              (first.ended (suc i + r)) x.stage
-              (subst (λ j. HasLeftReady p g b j x x.stage) same before.0),
-          before.1 ∙ same,
-        )
+serves_more : (p : Program) (how : Placing) (g : Graph) (b : Book) (asked more : List Asked) (services others : List Service) (h : Graph) (c : Book) (h1 : Graph) (c1 : Book) →
+    Serves p how g b asked services h c → Serves p how h c more others h1 c1 → Serves p how g b (asked ++ more) (services ++ others) h1 c1
+serves_more p how g b [] more [] others h c h1 c1 one rest =
+    subst (λ (x : Graph). Serves p how x b more others h1 c1) one.0 (subst (λ (x : Book). Serves p how h x more others h1 c1) one.1 rest)
+serves_more p how g b [] more (service ∷ services) others h c h1 c1 one rest = absurd one
+serves_more p how g b (a ∷ asked) more [] others h c h1 c1 one rest = absurd one
+serves_more p how g b (a ∷ asked) more (service ∷ services) others h c h1 c1 one rest =
+    (one.0, one.1, one.2, serves_more p how one.0 one.1 asked more services others h c h1 c1 one.3 rest)
 
-    joined : HaveGoneOn p first.graph first.book (suc i) ms more u ns → HaveGoneOn p g b i (m ∷ ms) (services ++ more) u (n ∷ ns)
-    joined all = record {
-      graph = all.graph;
-      book = all.book;
-      holding = all.holding;
-      serves = serves_more p g b (asked_of m m.stage) (requests_of ms) services more first.graph first.book all.graph all.book first.serves all.serves;
-      others = λ j x script d r. all.others j x script (λ q l e. d (suc q) (omega arith) (let f : i + suc q ≡ suc i + q = omega arith in e ∙ sym f))
-          (first.others j x script (λ e. d zero (omega arith) e) r);
-      ended = λ j. all.ended j ∙ first.ended j;
-      own = each;
-      further = (first.further, all.further);
-    }
-      where
-        each : (r : ℕ) (y : Mutating) → slice_get (n ∷ ns) r ≡ Some y → IsReadyNow p all.graph all.book (i + r) y
-        each zero y e = subst (λ (x : Mutating). IsReadyNow p all.graph all.book (i + 0) x) (same_Some n y e) (record {
-          ready = all.others (i + 0) (found_at n.stage n) (found_at n.stage n).script (λ q l d. absurd (omega arith)) first.own.ready;
-          stage = stage_stays first.graph all.graph (i + 0) (all.ended (i + 0)) n.stage first.own.stage;
-          idle = first.own.idle;
-          untold = first.own.untold;
-        })
-        each (suc r) y e = subst (λ j. IsReadyNow p all.graph all.book j y) (let f : suc i + r ≡ i + suc r = omega arith in f) (all.own r y e)
+-- nobody has gone on
+pub none_gone : (p : Program) (how : Placing) (g : Graph) (b : Book) (s : Contents) → IsHolding p s g b → HaveGoneOn p how g b 0 [] [] s []
+none_gone p how g b s holding = record {
+  graph = g;
+  book = b;
+  holding = holding;
+  serves = (refl, refl);
+  others = λ j x script d r. r;
+  owed = refl;
+  ended = λ j. refl;
+  own = λ r n e. absurd (cc e);
+  further = tt;
+}
 
-  pub all_go : (g : Graph) (b : Book) (i : ℕ) (s t : Contents) (ms ns : List Mutating) (services : List Service) → GoOn p s ms services t ns →
-      IsHolding p s g b →
-      ((r : ℕ) (m : Mutating) → slice_get ms r ≡ Some m → HasLeftReady p g b (i + r) m m.stage × (m.number ≡ i + r)) → HaveGoneOn p g b i ms services t ns
-  all_go g b i _ _ _ _ _ (Nobody s) holding ready = record {
-    graph = g;
-    book = b;
-    holding = holding;
-    serves = (refl, refl);
-    others = λ j x script d r. r;
-    ended = λ j. refl;
-    own = λ r n e. absurd (cc e);
-    further = tt;
+module _ (p : Program) (how : Placing) (room : Room) (g : Graph) (b : Book) (s t : Contents) (old cur : List Mutating) (k : ℕ) (d : Mutating)
+    (there : k < length cur) (same : length cur ≡ length old) (rest : drop k cur ≡ drop k old) (services : List Service)
+    (so : HaveGoneOn p how g b 0 (take k old) services t (take k cur)) (may : MayAllGoOn p room g b 0 s old) where
+  abbrev m : Mutating
+  m = get_or cur k d
+
+  as_was : m ≡ get_or old k d
+  as_was = next_same old cur k d d there same rest
+
+  at_old : slice_get old k ≡ Some m
+  at_old = slice_get-get_or old k d (omega (arith, there, same)) ∙ ap (λ x. Some x) (sym as_was)
+
+  front : length (take k old) ≡ k
+  front = let a = length-take k old in omega (arith, there, same)
+
+  -- the next one may go on
+  pub next_may : MayGoOn p so.graph so.book k m
+  next_may = let before = subst (λ j. MayGoOn p g b j m) (let z : 0 + k ≡ k = omega arith in z) (may.each k m at_old) in record {
+    left = left_stays p g so.graph b so.book k m (λ x script r. so.others k x script (λ q l e. absurd (omega (arith, l, e, front))) r) (so.ended k) m.stage
+        before.left;
+    number = before.number;
+    tells = tells_stays p b so.book so.owed m.stage before.tells;
+    few = before.few;
   }
-  all_go g b i _ _ _ _ _ (OneMore s t u m n ms ns services more goes rest) holding ready =
-      let one = first g b i s t u m n ms ns services more goes holding ready in
-      joined g b i s t u m n ms ns services more goes holding ready
-      (all_go one.graph one.book (suc i) t u ms ns more rest one.holding (stay g b i s t u m n ms ns services more goes holding ready))
+
+  pub next_fits : FitsRoom p so.book room
+  next_fits = fits_stays p b so.book so.owed room may.fits
+
+  -- and then one more has
+  module _ (u : Contents) (n : Mutating) (more after : List Service) (is : after ≡ services ++ more) (one : HasGoneOn p how so.graph so.book k m more u n) where
+    cur_front : length (take k cur) ≡ k
+    cur_front = let a = length-take k cur in omega (arith, there)
+
+    asked_more : requests_of (take k old) ++ asked_of m m.stage ≡ requests_of (take (k + 1) old)
+    asked_more = ap (λ xs. requests_of (take k old) ++ xs) (sym (append-nil (asked_of m m.stage)))
+        ∙ sym (flat_map-append (λ (x : Mutating). asked_of x x.stage) (take k old) (m ∷ []))
+        ∙ ap requests_of (sym (old_more old cur k n d there same rest))
+
+    own_more : (r : ℕ) (y : Mutating) → slice_get (take k cur ++ n ∷ []) r ≡ Some y → IsReadyNow p one.graph one.book (0 + r) y
+    own_more r y e = elim (at_push (take k cur) n r y e) [
+      | inl before ↦
+          let own = so.own r y before in
+          let l = slice_get_within (take k cur) r y before in
+          record {
+            ready = one.others (0 + r) (found_at y.stage y) (found_at y.stage y).script (λ q. absurd (omega (arith, l, q, cur_front))) own.ready;
+            stage = stage_stays so.graph one.graph (0 + r) (one.ended (0 + r)) y.stage own.stage;
+            idle = own.idle;
+            untold = own.untold;
+          }
+      | inr last ↦
+          subst (λ (x : Mutating). IsReadyNow p one.graph one.book (0 + r) x) last.1
+          (subst (λ i. IsReadyNow p one.graph one.book i n) (let q : k ≡ 0 + r = omega (arith, last.0, cur_front) in q) one.own)
+    ]
+
+    further_more : Pairwise IsFurther (take k old ++ m ∷ []) (take k cur ++ n ∷ [])
+    further_more = pairwise_push IsFurther (take k old) (take k cur) m n so.further one.further
+
+    whole : length (take (k + 1) old) ≡ k + 1
+    whole = let a = length-take (k + 1) old in omega (arith, there, same)
+
+    pub goes_more : HaveGoneOn p how g b 0 (take (k + 1) old) after u (take (k + 1) (set cur k n))
+    goes_more = record {
+      graph = one.graph;
+      book = one.book;
+      holding = one.holding;
+      serves = subst (λ xs. Serves p how g b xs after one.graph one.book) asked_more
+          (subst (λ ss. Serves p how g b (requests_of (take k old) ++ asked_of m m.stage) ss one.graph one.book) (sym is)
+          (serves_more p how g b (requests_of (take k old)) (asked_of m m.stage) services more so.graph so.book one.graph one.book so.serves one.serves));
+      others = λ j x script e r. one.others j x script (λ is_k. e k (omega (arith, whole)) (let z : k ≡ 0 + k = omega arith in is_k ∙ z))
+          (so.others j x script (λ q l is_q. e q (omega (arith, l, front, whole)) is_q) r);
+      owed = one.owed ∙ so.owed;
+      ended = λ j. one.ended j ∙ so.ended j;
+      own = λ r y e. own_more r y (ap (λ xs. slice_get xs r) (sym (front_more old cur k n d there same rest)) ∙ e);
+      further = subst (λ (xs : List Mutating). Pairwise IsFurther xs (take (k + 1) (set cur k n))) (sym (old_more old cur k n d there same rest))
+          (subst (λ (ys : List Mutating). Pairwise IsFurther (take k old ++ m ∷ []) ys) (sym (front_more old cur k n d there same rest)) further_more);
+    }

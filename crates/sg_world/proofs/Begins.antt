@@ -137,22 +137,19 @@ module _ (law : FirstOpening) (p : Program) (can : CanRun p) (shapes : List Shap
     };
     holds = (
       record {
-        space = record {
-          layout = ap (λ (s : Contents). s.layout) space;
-          shapes = ap (λ (s : Contents). s.shapes) space ∙ named;
-          fragments = sym (ap (λ (s : Contents). length s.ends) space);
-          same = ap (λ (s : Contents). length s.next) space ∙ sym (ap (λ (s : Contents). length s.ends) space);
-          next = λ f l. let z : f ≡ 0 = omega arith in ap (λ (s : Contents). get_or s.next f 0) space ∙ ap (λ i. get_or (byte_at nursery_base ∷ []) i 0) z;
-          limit = λ f l. let z : f ≡ 0 = omega arith in ap (λ (s : Contents). get_or s.ends f 0) space
-              ∙ ap (λ i. get_or (byte_at (old_base (sections_in p)) ∷ []) i 0) z;
-          fits = λ j z i l e q. absurd (let f : Free ≡ Swept z = sym (ap (λ (s : Contents). block_in s j) space ∙ free_block p.config.blocks j) ∙ e in cc f);
-          pages = λ j. ap (λ (s : Contents). page_in s j) space ∙ clear_word p.config.pages j;
-          head = ap (λ (s : Contents). s.head) space;
-          made = ap (λ (s : Contents). s.made) space;
-          registered = ap (λ (s : Contents). s.registered) space;
-          pairs = ap (λ (s : Contents). s.pairs) space;
-        };
-        unowed = λ j l. refl;
+        layout = ap (λ (s : Contents). s.layout) space;
+        shapes = ap (λ (s : Contents). s.shapes) space ∙ named;
+        fragments = sym (ap (λ (s : Contents). length s.ends) space);
+        same = ap (λ (s : Contents). length s.next) space ∙ sym (ap (λ (s : Contents). length s.ends) space);
+        next = λ f l. let z : f ≡ 0 = omega arith in ap (λ (s : Contents). get_or s.next f 0) space ∙ ap (λ i. get_or (byte_at nursery_base ∷ []) i 0) z;
+        limit = λ f l. let z : f ≡ 0 = omega arith in ap (λ (s : Contents). get_or s.ends f 0) space
+            ∙ ap (λ i. get_or (byte_at (old_base (sections_in p)) ∷ []) i 0) z;
+        fits = λ j z i l e q. absurd (let f : Free ≡ Swept z = sym (ap (λ (s : Contents). block_in s j) space ∙ free_block p.config.blocks j) ∙ e in cc f);
+        pages = λ j. ap (λ (s : Contents). page_in s j) space ∙ clear_word p.config.pages j;
+        head = ap (λ (s : Contents). s.head) space;
+        made = ap (λ (s : Contents). s.made) space;
+        registered = ap (λ (s : Contents). s.registered) space;
+        pairs = ap (λ (s : Contents). s.pairs) space;
       },
       (begun.held.owner, begun.held.heap, begun.held.settled),
     );

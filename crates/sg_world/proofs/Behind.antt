@@ -10,18 +10,17 @@ use Rattle.sg_program.specs.declared.program.Program.{Program}
 use Rattle.sg_program.specs.declared.answers.Leave.{Leave}
 use Rattle.sg_program.specs.declared.answers.Leave.TheVariants.{Ended as HasEnded, Yield, Wants}
 use Rattle.sg_program.specs.declared.answers.Request.{Request}
-use Rattle.sg_program.specs.declared.answers.Request.TheVariants.{Need, Minor}
 use Rattle.sg_graph.specs.declared.reports.Part.{Part}
 use Rattle.sg_graph.specs.declared.reports.EpochReport.{EpochReport}
 use Rattle.sg_graph.specs.Graph.{Graph}
 use Rattle.sg_graph.specs.Epoch.{numbers_below, running, is_done, left, parted as parted_in}
-use Rattle.sg_graph.specs.Stop.{Asked, asked_by, requests_in, wants_pause, want_pause}
+use Rattle.sg_graph.specs.Stop.{Asked, asked_by, requests_in}
 use Rattle.sg_graph.specs.Run.{Phase, Epoch}
 use Rattle.sg_graph.specs.Follows.{IsEpochBy, IsWholeRunBy}
 use Rattle.sg_space.specs.Space.{Contents, words_of, IsContents}
-use Rattle.sg_world.specs.Holding.{HoldsHeap}
+use Rattle.sg_heap.specs.Holding.{HoldsHeap}
 use Rattle.sg_rules.specs.Rules.{Constants, Left, Actor, fresh}
-use Rattle.sg_rules.specs.Resting.{IsRequestOf}
+use Rattle.sg_program.specs.Scripts.{IsRequestOf}
 use Rattle.sg_order.specs.Rest.{IsReady, IsHeld, before_it}
 use Rattle.sg_order.specs.OneOrder.{IsOneOrder}
 use Rattle.sg_order.specs.Serving.{StaysReady}
@@ -32,7 +31,8 @@ use Rattle.sg_actor.specs.State.{Mutating, actor_of, mid_of, leave_of, IsCounted
 use Rattle.sg_actor.specs.Turning.{IsResting}
 use Rattle.sg_mutate.specs.Epochs.{constants_of, parted, HasLeftAs, IsOver}
 use Rattle.sg_world.specs.Telling.{going_in, HaveEnded, TellsOf, TellsAt}
-use Rattle.sg_world.specs.Worlds.{Worldly, IsWorldOf, IsBetween, HasLeftReady, asked_of, requests_of, IsAtStop, ComesTo}
+use Rattle.sg_world.specs.Stopping.{asked_of, requests_of}
+use Rattle.sg_world.specs.Worlds.{Worldly, IsWorldOf, IsBetween, HasLeftReady, IsAtStop, ComesTo}
 use Rattle.sg_world.proofs.Lists.{pairwise_left, joined_pairwise, joined_filter, joined_by_numbers, in_joined, sums_le, pairwise_by, some_at}
 use Rattle.sg_world.proofs.Heaps.{constants_stay, heap_of_held}
 use Rattle.sg_world.proofs.Parts.{IsLeaveOf, not_done, ready_left, ready_empty}
@@ -50,14 +50,6 @@ asked_same n part told (Asking statement request) leave e =
     ∙ (λ i. record { by = told.number i; statement = told.first i + length (told.answers i); request = request } ∷ [])
 asked_same n part told Yielded leave e = ap (asked_by part) (sym (same_Some Yield leave e))
 asked_same n part told stage leave e = absurd (cc e)
-
-wants_one : (request : Request) → wants_pause request ≡ true
-wants_one (Need words) = refl
-wants_one Minor = refl
-
-wants_some : (requests : List Asked) → requests ≢ [] → want_pause requests ≡ true
-wants_some [] some = absurd (some refl)
-wants_some (a ∷ requests) some = ap (λ b. b || want_pause requests) (wants_one a.request)
 
 asking_stage : (n : Mutating) (stage : Stage) (statement : Statement) → mid_of stage ≡ Left statement → (a : Asked) × (asked_of n stage ≡ a ∷ [])
 asking_stage n (Asking statement request) other e = (record { by = n.number; statement = n.first + length n.told; request = request }, refl)
@@ -287,8 +279,8 @@ module _ (stays : StaysReady) (is_sound : HeldIsSound) (whoever : HeldWhoever) (
           let l = left_so (λ d. (let q : Claiming statement fragment seen ≡ Ended = sym e ∙ d in cc q)) in absurd (let q : None ≡ Some l.0 =
           sym (ap leave_of e) ∙ l.1 in cc q)
 
-  wanted : report.last ≡ false → want_pause (requests_in report.parts) ≡ true
-  wanted e = wants_some (requests_in report.parts) (λ none. (let q : true ≡ false = sym (last.1 (none_left (sym asked ∙ none))) ∙ e in cc q))
+  wanted : report.last ≡ false → requests_in report.parts ≢ []
+  wanted e none = let q : true ≡ false = sym (last.1 (none_left (sym asked ∙ none))) ∙ e in cc q
 
   whole : report.last ≡ true → IsWholeRunBy p turns (phases ++ Epoch report over.order [] ∷ [])
   whole e = record {

@@ -1,5 +1,5 @@
 -- The program of the test, which can be run.
-use Rattle.std.proofs.Common.{◌≡◌, ℕ, zero, suc, ◌≤◌, false, List, [], ◌∷◌, ◌++◌, length, count_by, sym, refl, ap, ◌∙◌, subst, arith}
+use Rattle.std.proofs.Common.{◌≡◌, ℕ, zero, suc, ◌≤◌, List, [], ◌∷◌, ◌++◌, length, count_by, sym, refl, ap, ◌∙◌, subst, arith, true}
 use Rattle.std.specs.List.{flat_map, AllByRecursion}
 use Rattle.std.proofs.lemmas.List.Concat.{flat_map-append}
 use Rattle.sg_desc.specs.declared.shapes.Descriptor.TheVariants.{PtrFree}
@@ -30,7 +30,7 @@ pub all_more : {A : Type 0} (P : A → Type 0) (xs : List A) (x : A) → AllByRe
 all_more P [] x a h = (h, tt)
 all_more P (y ∷ xs) x a h = (a.0, all_more P xs x a.1 h)
 
-module _ (name : List ℕ) (one two : Script) (first : IsScript one (New 0 0 ∷ Collect false ∷ Drop 0 ∷ [])) (second : IsScript two (New 0 0 ∷ New 1 0 ∷ []))
+module _ (name : List ℕ) (one two : Script) (first : IsScript one (New 0 0 ∷ Collect true ∷ Drop 0 ∷ [])) (second : IsScript two (New 0 0 ∷ New 1 0 ∷ []))
   where
     abbrev p : Program
     p = record {
@@ -42,7 +42,7 @@ module _ (name : List ℕ) (one two : Script) (first : IsScript one (New 0 0 ∷
     good_new : (r : ℕ) → r ≤ 15 → IsGood p (New r 0)
     good_new r l = record { operands = l; names = omega arith; fits = refl }
 
-    good_collect : IsGood p (Collect false)
+    good_collect : IsGood p (Collect true)
     good_collect = record { operands = tt; names = tt; fits = tt }
 
     good_drop : IsGood p (Drop 0)
@@ -95,7 +95,7 @@ module _ (name : List ℕ) (one two : Script) (first : IsScript one (New 0 0 ∷
         classes = omega arith;
         fields = (omega arith, tt);
         scripts = (
-          good_script one (New 0 0 ∷ Collect false ∷ Drop 0 ∷ []) first (good_new 0 (omega arith), (good_collect, (good_drop, tt))),
+          good_script one (New 0 0 ∷ Collect true ∷ Drop 0 ∷ []) first (good_new 0 (omega arith), (good_collect, (good_drop, tt))),
           (good_script two (New 0 0 ∷ New 1 0 ∷ []) second (good_new 0 (omega arith), (good_new 1 (omega arith), tt)), tt),
         );
         statements =

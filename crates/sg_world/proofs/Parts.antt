@@ -10,8 +10,8 @@ use Rattle.sg_program.specs.declared.program.Program.{Program}
 use Rattle.sg_program.specs.declared.answers.Leave.{Leave}
 use Rattle.sg_program.specs.declared.answers.Leave.TheVariants.{Ended, Yield, Wants}
 use Rattle.sg_program.specs.declared.answers.Request.{Request}
-use Rattle.sg_program.specs.declared.answers.Request.TheVariants.{Need, Minor}
-use Rattle.sg_program.specs.Scripts.{script_of, IsSmall, IsMaking, made_words}
+use Rattle.sg_program.specs.declared.answers.Request.TheVariants.{Need}
+use Rattle.sg_program.specs.Scripts.{script_of, IsSmall, IsMaking, made_words, IsRequestOf}
 use Rattle.sg_graph.specs.declared.reports.Part.{Part}
 use Rattle.sg_graph.specs.Graph.{Graph, Entry, Mutator}
 use Rattle.sg_graph.specs.Statements.{name_in}
@@ -19,7 +19,7 @@ use Rattle.sg_graph.specs.Book.{Book, HasNoPlace}
 use Rattle.sg_graph.specs.Epoch.{Asks, Leaves, IsPart, is_done, left, parted}
 use Rattle.sg_graph.specs.Turns.{HasLeft}
 use Rattle.sg_rules.specs.Rules.{Constants, StackWord, Mid, Idle, Left, Yielded, Actor, owning, fresh}
-use Rattle.sg_rules.specs.Resting.{IsRunnable, IsRequestOf}
+use Rattle.sg_rules.specs.Resting.{IsRunnable}
 use Rattle.sg_order.specs.Rest.{Holds, IsReady, before_it, IsOver}
 use Rattle.sg_order.specs.OneOrder.{IsOneOrder}
 use Rattle.sg_order.specs.Serving.{StaysPut, HandsStay, HasSameHands, StaysReady}
@@ -30,13 +30,13 @@ asks_for : (p : Program) (b : Book) (k : ℕ) (s : Statement) (request : Request
     (IsMaking s → HasNoPlace b k (made_words p s)) → Asks p b k s request
 asks_for p b k (New r class) (Need n) fits run tight =
     (fits, subst IsSmall (sym fits) (let l = run.small in omega arith), subst (HasNoPlace b k) (sym fits) (tight tt))
-asks_for p b k (New r class) Minor fits run tight = absurd fits
+asks_for p b k (New r class) request fits run tight = absurd fits
 asks_for p b k (NewV r class count) (Need n) fits run tight =
     (fits, subst IsSmall (sym fits) (let l = run.small in omega arith), subst (HasNoPlace b k) (sym fits) (tight tt))
-asks_for p b k (NewV r class count) Minor fits run tight = absurd fits
-asks_for p b k (Collect false) Minor fits run tight = tt
-asks_for p b k (Collect false) (Need n) fits run tight = absurd fits
-asks_for p b k s request fits run tight = absurd fits
+asks_for p b k (NewV r class count) request fits run tight = absurd fits
+asks_for p b k (Collect false) request fits run tight = fits
+asks_for p b k (Collect true) request fits run tight = fits
+asks_for p b k s request fits run tight = fits
 
 -- how a mutator has left, which stands there before this script
 abbrev pub IsLeaveOf : Program → List Statement → Mid → Leave → Type 0

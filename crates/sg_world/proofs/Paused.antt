@@ -9,13 +9,15 @@ use Rattle.sg_words.specs.Sections.{nursery_base}
 use Rattle.sg_program.specs.declared.program.Statement.{Statement}
 use Rattle.sg_program.specs.declared.program.Program.{Program}
 use Rattle.sg_graph.specs.declared.reports.MinorReport.{MinorReport}
+use Rattle.sg_graph.specs.declared.reports.MajorReport.{MajorReport}
 use Rattle.sg_graph.specs.Graph.{Entry, Ref, Int, Inner, Graph}
 use Rattle.sg_graph.specs.Statements.{name_in}
 use Rattle.sg_graph.specs.Book.{Book, word_of, IsSoundBook}
 use Rattle.sg_graph.specs.Epoch.{numbers_below}
 use Rattle.sg_graph.specs.Pause.{ambiguous_words, words_in as words_of_graph, PointsInto, IsPointedInto}
 use Rattle.sg_graph.specs.Minor.{IsMinorPause}
-use Rattle.sg_graph.specs.Laws.{KeepsPointedInto}
+use Rattle.sg_graph.specs.Major.{IsMajorPause}
+use Rattle.sg_graph.specs.Laws.{KeepsPointedInto, KeepsInMajor}
 use Rattle.sg_rules.specs.Rules.{StackWord, Actor, fresh, owning}
 use Rattle.sg_order.specs.Rest.{Holds, IsReady}
 use Rattle.sg_order.specs.Serving.{StaysPut, HandsStay, StaysReady}
@@ -111,20 +113,46 @@ own_among ms k m at all = record {
     among : (w : ℕ) → Contains (words_in m) w → Contains (held_in ms) w
     among w c = in_joined (λ (x : Mutating). held_by x x.stage) ms k m w at (subst (λ (ws : List ℕ). Contains ws w) (sym all) c)
 
-module _ (p : Program) (h : Graph) (c : Book) (ambiguous : List ℕ) (report : MinorReport) (book : Book) (keeps : KeepsPointedInto) (sound : IsSoundBook p h c)
-    (pause : IsMinorPause p h c ambiguous report h book) (high : (n : ℕ) → 1 ≤ n → c.stands n ≡ true → nursery_base ≤ c.address n) where
+-- what a pause leaves of the objects that ambiguous words point into, and of buffers
+pub record LeavesStanding (h : Graph) (c : Book) (ambiguous : List ℕ) (book : Book) : Type 0 where
+  pub nothing : (book.stands 0 ≡ true) × (book.address 0 ≡ c.address 0)
+  pub stands : (n : ℕ) → n ≢ 0 → c.stands n ≡ true → IsPointedInto h c ambiguous n → book.stands n ≡ true
+  pub stays : (n : ℕ) → n ≢ 0 → c.stands n ≡ true → IsPointedInto h c ambiguous n → book.address n ≡ c.address n
+  pub emptied : (k : ℕ) → (book.from k ≡ 0) × (book.to k ≡ 0)
+
+-- both pauses do so
+pub minor_leaves : KeepsPointedInto → (p : Program) (h : Graph) (c : Book) (ambiguous : List ℕ) (report : MinorReport) (book : Book) → IsSoundBook p h c →
+    IsMinorPause p h c ambiguous report h book → LeavesStanding h c ambiguous book
+minor_leaves keeps p h c ambiguous report book sound pause = record {
+  nothing = (pause.keeps.nothing.0, pause.keeps.nothing.1);
+  stands = λ n d q into. keeps.stands p h c ambiguous report h book sound.apart pause n d q into;
+  stays = λ n d q into. keeps.stays p h c ambiguous report h book sound.apart pause n d q into;
+  emptied = pause.tidies.emptied;
+}
+
+pub major_leaves : KeepsInMajor → (p : Program) (h : Graph) (c : Book) (ambiguous : List ℕ) (report : MajorReport) (book : Book) →
+    IsMajorPause p h c ambiguous report h book → LeavesStanding h c ambiguous book
+major_leaves keeps p h c ambiguous report book pause = record {
+  nothing = (pause.keeps.nothing, pause.stays.address 0);
+  stands = λ n d q into. keeps p h c ambiguous report h book pause n d q into;
+  stays = λ n d q into. pause.stays.address n;
+  emptied = pause.emptied;
+}
+
+module _ (p : Program) (h : Graph) (c : Book) (ambiguous : List ℕ) (book : Book) (leaves : LeavesStanding h c ambiguous book)
+    (high : (n : ℕ) → 1 ≤ n → c.stands n ≡ true → nursery_base ≤ c.address n) where
   -- what an ambiguous word points into stands after the pause, where it stood
   kept : (n w : ℕ) → (n ≢ 0 → PointsInto h c w n) → (w ≢ 0 → Contains ambiguous w) → StaysPut h c h book n
   kept n w points there = record { stands = λ q. (both q).0; address = λ q. (both q).1; size = λ q. refl }
     where
       both : c.stands n ≡ true → (book.stands n ≡ true) × (book.address n ≡ c.address n)
       both q = elim (cases_eq n 0) [
-        | inl z ↦ (ap book.stands z ∙ pause.keeps.nothing.0, ap book.address z ∙ pause.keeps.nothing.1 ∙ ap c.address (sym z))
+        | inl z ↦ (ap book.stands z ∙ leaves.nothing.0, ap book.address z ∙ leaves.nothing.1 ∙ ap c.address (sym z))
         | inr d ↦
             let r = points d in
             let u = high n (omega (arith, d)) q in
             let into : IsPointedInto h c ambiguous n = (w, there (λ z. let l = r.0 in absurd (omega arith)), r) in
-            (keeps.stands p h c ambiguous report h book sound.apart pause n d q into, keeps.stays p h c ambiguous report h book sound.apart pause n d q into)
+            (leaves.stands n d q into, leaves.stays n d q into)
       ]
 
   points_of : (w o : ℕ) (e : Entry) → Holds h c w o e → name_in e ≢ 0 → PointsInto h c w (name_in e)
@@ -150,7 +178,7 @@ module _ (p : Program) (h : Graph) (c : Book) (ambiguous : List ℕ) (report : M
   pub ready_paused : StaysReady → (k : ℕ) (a : Actor) (script : List Statement) → AreAmong ambiguous a → IsReady p h c k a script →
       IsReady p h book k (owning a 0 0) script
   ready_paused stays k a script among r =
-      subst (λ x. IsReady p h book k x script) (λ i. owning a ((pause.tidies.emptied k).0 i) ((pause.tidies.emptied k).1 i))
+      subst (λ x. IsReady p h book k x script) (λ i. owning a ((leaves.emptied k).0 i) ((leaves.emptied k).1 i))
       (stays p h h c book k a script r (record { register = refl; stack = refl; script = refl; asleep = λ e. r.script_is ∙ r.asleep e }) hands)
     where
       hands : HandsStay h c h book (h.mutator k)

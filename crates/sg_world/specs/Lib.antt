@@ -1,6 +1,6 @@
-pub mod Holding
-pub mod Placing
+pub mod Serving
 pub mod Starting
+pub mod Steps
 pub mod Stopping
 pub mod Telling
 pub mod Worlds

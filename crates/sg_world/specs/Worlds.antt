@@ -1,6 +1,6 @@
 -- A world between its epochs and stops.
-use Rattle.std.specs.Prelude.{◌≡◌, ℕ, ◌+◌, ◌≤◌, ◌⊎◌, true, false, Some, List, [], ◌∷◌, ◌++◌, length, slice_get}
-use Rattle.std.specs.List.{flat_map, sum_by}
+use Rattle.std.specs.Prelude.{◌≡◌, ◌≢◌, ℕ, ◌+◌, ◌≤◌, ◌⊎◌, true, false, Some, List, [], ◌∷◌, ◌++◌, length, slice_get}
+use Rattle.std.specs.List.{sum_by}
 use Rattle.sg_words.specs.Schedule.{Schedule}
 use Rattle.sg_program.specs.declared.program.Program.{Program}
 use Rattle.sg_program.specs.Invariants.{IsWithinLimits}
@@ -9,19 +9,20 @@ use Rattle.sg_graph.specs.Graph.{Graph}
 use Rattle.sg_graph.specs.Book.{Book}
 use Rattle.sg_graph.specs.Epoch.{Said, AllEnded}
 use Rattle.sg_graph.specs.Invariants.{IsPlain}
-use Rattle.sg_graph.specs.Stop.{Asked, requests_in, want_pause}
+use Rattle.sg_graph.specs.Stop.{requests_in}
 use Rattle.sg_graph.specs.Run.{Phase, Epoch}
 use Rattle.sg_graph.specs.Follows.{FollowsTo, IsEpochBy, IsWholeRunBy}
 use Rattle.sg_space.specs.Space.{Contents, IsContents}
-use Rattle.sg_world.specs.Holding.{HoldsHeap}
+use Rattle.sg_heap.specs.Holding.{HoldsHeap}
 use Rattle.sg_rules.specs.Rules.{fresh}
-use Rattle.sg_rules.specs.Resting.{IsRequestOf}
+use Rattle.sg_program.specs.Scripts.{IsRequestOf}
 use Rattle.sg_order.specs.Rest.{IsReady}
 use Rattle.sg_order.specs.Opening.{AreFirstScripts}
 use Rattle.sg_actor.specs.declared.mutator.Stage.{Stage}
 use Rattle.sg_actor.specs.declared.mutator.Stage.TheVariants.{Ended, Asking, Yielded}
 use Rattle.sg_actor.specs.State.{Mutating, actor_of, IsCounted}
 use Rattle.sg_mutate.specs.Epochs.{AreMutatorsOf, IsOpened, parted}
+use Rattle.sg_world.specs.Stopping.{requests_of}
 
 -- its program, its space, its mutators by number, and the number of its next epoch, or of the one before the next stop
 pub record Worldly : Type 0 where
@@ -63,14 +64,6 @@ HasLeftReady p g b k m (Asking statement request) = ((g.mutator k).ended ≡ fal
 HasLeftReady p g b k m Yielded = ((g.mutator k).ended ≡ false) × IsReady p g b k (actor_of m) m.script
 HasLeftReady p g b k m stage = ⊥
 
--- what a mutator asks for
-abbrev pub asked_of : Mutating → Stage → List Asked
-asked_of m (Asking statement request) = record { by = m.number; statement = m.first + length m.told; request = request } ∷ []
-asked_of m stage = []
-
-abbrev pub requests_of : List Mutating → List Asked
-requests_of mutators = flat_map (λ (m : Mutating). asked_of m m.stage) mutators
-
 -- these phases and an epoch with this report, by the turns of this list, have led to the world, and a stop comes next, since some
 -- mutator is left
 pub record IsAtStop (p : Program) (turns : List ℕ) (phases : List Phase) (report : EpochReport) (order : List Said) (swept : List ℕ) (world : Worldly)
@@ -88,8 +81,8 @@ pub record IsAtStop (p : Program) (turns : List ℕ) (phases : List Phase) (repo
   pub plain : IsPlain p graph
   pub ready : (k : ℕ) (m : Mutating) → slice_get world.mutators k ≡ Some m → HasLeftReady p graph book k m m.stage
   pub asked : requests_in report.parts ≡ requests_of world.mutators
-  -- somebody asks for something, and so for a pause
-  pub wanted : want_pause (requests_in report.parts) ≡ true
+  -- somebody asks for something
+  pub wanted : requests_in report.parts ≢ []
   -- no mutator beyond the program's has anything
   pub beyond : (k : ℕ) → length world.mutators ≤ k → IsReady p graph book k (fresh []) []
 

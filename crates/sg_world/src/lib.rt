@@ -1,9 +1,10 @@
 //! A run of a program, epoch by epoch and stop by stop.
 #![tactic(auto)]
 
-mod placing;
 mod reports;
+mod serving;
 mod stop;
+mod wants;
 mod world;
 
 pub use world::World;

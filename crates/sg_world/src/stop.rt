@@ -1,50 +1,202 @@
-// What a stop does, in steps: the pause, and then the answers to the requests, in order of mutators.
-ghost use Rattle.std.specs.Prelude.{◌≡◌, ℕ, ◌≤◌, ◌++◌, true, Some, List as Sequence, [], ◌∷◌, length, slice_get, IfOk, MatchOption};
+// What a stop does before it answers: the owed sweep, a minor pause, a major one behind it, and the owed sweep again.
+ghost use Rattle.std.specs.Prelude.{◌≡◌, ◌≢◌, ℕ, ◌≤◌, ◌++◌, ◌⊎◌, ◌↔◌, true, false, Some, List as Sequence, [], length, IfOk, IsTrue};
 ghost use Rattle.sg_words.specs.Lists.{Pairwise};
 ghost use Rattle.sg_program.specs.declared.program.Program.{Program as AnyProgram};
+ghost use Rattle.sg_graph.specs.declared.reports.MinorReport.{MinorReport as AnyReport};
 ghost use Rattle.sg_graph.specs.Graph.{Graph};
-ghost use Rattle.sg_graph.specs.Book.{Book};
+ghost use Rattle.sg_graph.specs.Book.{Book, swept_out};
 ghost use Rattle.sg_graph.specs.Invariants.{IsPlain};
+ghost use Rattle.sg_graph.specs.Laws.{AreAsking, LacksWords};
+ghost use Rattle.sg_graph.specs.Stop.{Asked};
 ghost use Rattle.sg_space.specs.Space.{IsContents};
-ghost use Rattle.sg_frag.specs.Plain.{KeepsSections};
 ghost use Rattle.sg_heap.specs.Holding.{HoldsHeap, OwesNothing};
-ghost use Rattle.sg_minor.specs.Law.{HasPaused};
 ghost use Rattle.sg_minor.specs.Parts.{HoldsSome};
-ghost use Rattle.sg_actor.specs.State.{Mutating, DropsBuffer};
+ghost use Rattle.sg_major.specs.Parts.{HasNoBuffer};
+ghost use Rattle.sg_actor.specs.State.{DropsBuffer};
 ghost use Rattle.sg_world.specs.Telling.{goes};
-ghost use Rattle.sg_world.specs.Stopping.{held_by, held_in, HaveRegisters, IsOpen, MayGoOn, GoesOn, GoOn};
+ghost use Rattle.sg_world.specs.Stopping.{held_by, held_in, HaveRegisters, AreWanted, HaveBuffersBy};
+ghost use Rattle.sg_world.specs.Steps.{HoldsAny, HasMadeMinor, HasMadeMajor, HasMadeRoom, HasHalted};
 
-use crate::placing::answer_to;
+use crate::wants::Wants;
 use sg_actor::Mutator;
-use sg_graph::{MinorReport, Program, Service};
+use sg_finish::finish;
+use sg_graph::{MajorReport, MinorReport, places_by_words};
+use sg_heap::sweep_law;
+use sg_major::major;
 use sg_minor::{found_in, minor};
+use sg_placing::Room;
+use sg_room::lacks_room;
 use sg_space::Space;
-use sg_words::List;
 use std::alloc::{AllocError, Global};
 
-/// The pause of a stop: the stop word is cleared, what no mutator that hasn't ended reaches is dropped, and no mutator has a buffer any
-/// more. Takes the time and the memory of a minor pause, and 80 words for each mutator. Where memory runs out the space is lost.
-pub(crate) fn pause(
+/// What a stop has done before it answers.
+#[derive(Drop)]
+pub(crate) struct Halted {
+    pub(crate) space: Space,
+    pub(crate) minor: Option<MinorReport>,
+    pub(crate) major: Option<MajorReport>,
+    /// Where new objects may be placed.
+    pub(crate) room: Room,
+}
+
+/// All that a stop does before it answers: the stop word is cleared, and the owed blocks are swept; then, where the requests want that, a minor
+/// pause, a major one, and the sweep of the blocks that it owes. `words` are those in the mutators' hands.
+///
+/// Takes the time and the memory of the pauses that are made. Where memory runs out the space is lost.
+pub(crate) fn halt(
     alloc: Global,
     space: Space,
-    mutators: &mut [Mutator<'_>],
-) -> Result<(Space, MinorReport), AllocError>
-    requires some { HoldsSome space }
-    requires few { length mutators.old ≤ 16 }
-    ensures paused { IfOk result (λ r. (p : AnyProgram) (h : Graph) (b : Book) → HoldsHeap p space h b → OwesNothing p b → IsPlain p h →
-        HasPaused p h b (held_in mutators.old) r.0 r.1) }
-    ensures registers { IfOk result (λ _. HaveRegisters mutators.old) }
-    ensures going { IfOk result (λ r. r.0.stop ≡ 0) }
-    ensures contents { IfOk result (λ r. IsContents r.0) }
-    ensures dropped { IfOk result (λ _. Pairwise DropsBuffer mutators.old mutators.new) }
+    words: &[u64],
+    wants: &Wants,
+) -> Result<Halted, AllocError>
+    requires some { (p : AnyProgram) × (g : Graph) × (b : Book) × (requests : Sequence Asked) × HoldsHeap p space g b × IsPlain p g × AreAsking p g requests
+        × AreWanted requests wants.now }
+    ensures halted { IfOk result (λ halt. (p : AnyProgram) (g : Graph) (b : Book) (requests : Sequence Asked) → HoldsHeap p space g b → IsPlain p g →
+        AreAsking p g requests → AreWanted requests wants.now → HasHalted p g b words.now requests halt.minor halt.major halt.room halt.space) }
+    ensures contents { IfOk result (λ halt. IsContents halt.space) }
+    ensures going { IfOk result (λ halt. halt.space.stop ≡ 0) }
 {
-    let ambiguous = ambiguous(alloc, mutators)?;
+    // The law that it rests on: this call does nothing.
+    sweep_law();
     let mut space = space;
     space.set_stopping(false);
+    sweep_out(&mut space);
+    let (space, minor) = minor_pause(alloc, space, words, wants)?;
+    let (space, major) = major_pause(alloc, space, words, wants, &minor)?;
+    let mut space = space;
+    let room = make_room(alloc, &mut space, wants, major.is_some())?;
+    let _ = space.layout();
+    Ok(Halted {
+        space,
+        minor,
+        major,
+        room,
+    })
+}
+
+/// Sweeps all blocks that are owed. Linear in their words and in the blocks.
+fn sweep_out(space: &mut Space)
+    requires some { HoldsAny space.old }
+    ensures swept { (p : AnyProgram) (g : Graph) (b : Book) → HoldsHeap p space.old g b → HoldsHeap p space.new g (swept_out b) }
+    ensures stop { space.new.stop ≡ space.old.stop }
+{
+    // The law that it rests on: this call does nothing.
+    sweep_law();
+    let _ = space.layout();
+    finish(space);
+}
+
+/// Whether something is wanted: it is given that it is, or the fragments have no room for these words. Linear in the fragments for each number.
+fn is_wanted(alloc: Global, space: &Space, given: bool, wants: &Wants) -> Result<bool, AllocError>
+    ensures { IfOk result (λ wanted. (p : AnyProgram) (g : Graph) (b : Book) → HoldsHeap p space.now g b →
+        (wanted ≡ true) ↔ (IsTrue given ⊎ LacksWords b.fragments b.limit b.next wants.now.needs.items)) }
+{
+    if given {
+        return Ok(true);
+    }
+    let lacks = lacks_room(alloc, space, wants.needs.as_slice())?;
+    Ok(lacks)
+}
+
+/// A minor pause, where the requests want one. Takes the time and the memory of one.
+fn minor_pause(
+    alloc: Global,
+    space: Space,
+    words: &[u64],
+    wants: &Wants,
+) -> Result<(Space, Option<MinorReport>), AllocError>
+    requires some { HoldsSome space }
+    ensures made { IfOk result (λ r. (p : AnyProgram) (g : Graph) (b : Book) (requests : Sequence Asked) → HoldsHeap p space g b → OwesNothing p b → IsPlain p g →
+        AreAsking p g requests → AreWanted requests wants.now → HasMadeMinor p g b words.now requests r.1 r.0) }
+    ensures stop { IfOk result (λ r. r.0.stop ≡ space.stop) }
+{
+    // The law that it rests on: this call does nothing.
+    places_by_words();
+    if !is_wanted(alloc, &space, wants.minor, wants)? {
+        return Ok((space, None));
+    }
     let found = found_in(alloc, &space)?;
-    let (space, report) = minor(alloc, space, ambiguous.as_slice(), found)?;
-    drop_buffers(mutators);
-    Ok((space, report))
+    let (space, report) = minor(alloc, space, words, found)?;
+    Ok((space, Some(report)))
+}
+
+/// A major pause behind this minor one, where the requests want one or an object failed. Takes the time and the memory of one.
+fn major_pause(
+    alloc: Global,
+    space: Space,
+    words: &[u64],
+    wants: &Wants,
+    minor: &Option<MinorReport>,
+) -> Result<(Space, Option<MajorReport>), AllocError>
+    requires some { (p : AnyProgram) × (g : Graph) × (b : Book) × HoldsHeap p space g b × OwesNothing p b × IsPlain p g
+        × ((report : AnyReport) → minor.now ≡ Some report → HasNoBuffer b) }
+    ensures made { IfOk result (λ r. (p : AnyProgram) (g : Graph) (b : Book) (requests : Sequence Asked) → HoldsHeap p space g b → OwesNothing p b → IsPlain p g →
+        ((report : AnyReport) → minor.now ≡ Some report → HasNoBuffer b) → AreAsking p g requests → AreWanted requests wants.now →
+        HasMadeMajor p g b words.now requests minor.now r.1 r.0) }
+    ensures stop { IfOk result (λ r. r.0.stop ≡ space.stop) }
+{
+    // The law that it rests on: this call does nothing.
+    places_by_words();
+    let Some(minor) = minor else {
+        return Ok((space, None));
+    };
+    let given = has_cause(minor, wants);
+    if !is_wanted(alloc, &space, given, wants)? {
+        return Ok((space, None));
+    }
+    let (space, report) = major(alloc, space, words)?;
+    Ok((space, Some(report)))
+}
+
+/// Whether there is a cause for a major pause behind this minor one, whatever has room: a request, or an object that failed.
+fn has_cause(minor: &MinorReport, wants: &Wants) -> bool
+    ensures { result ≡ true ↔ (IsTrue wants.now.major ⊎ (minor.now.fails ≢ [])) }
+{
+    if wants.major {
+        return true;
+    }
+    has_failed(minor)
+}
+
+/// Whether an object failed in this minor pause.
+fn has_failed(minor: &MinorReport) -> bool
+    ensures { result ≡ true ↔ minor.now.fails ≢ [] }
+{
+    !minor.fails.as_slice().is_empty()
+}
+
+/// Sweeps the blocks that a major pause owes, where the requests want that, and tells where new objects may be placed. Linear in the blocks and in the
+/// words of those that are swept.
+fn make_room(
+    alloc: Global,
+    space: &mut Space,
+    wants: &Wants,
+    major: bool,
+) -> Result<Room, AllocError>
+    requires some { HoldsAny space.old }
+    ensures made { IfOk result (λ room. (p : AnyProgram) (g : Graph) (b : Book) (requests : Sequence Asked) → HoldsHeap p space.old g b →
+        (major ≡ false → OwesNothing p b) → AreAsking p g requests → AreWanted requests wants.now → HasMadeRoom p g b requests major room space.new) }
+    ensures stop { space.new.stop ≡ space.old.stop }
+{
+    // The law that it rests on: this call does nothing.
+    places_by_words();
+    if !major {
+        return Ok(Room::Fragments);
+    }
+    if !is_wanted(alloc, space, wants.blocks, wants)? {
+        return Ok(Room::Fragments);
+    }
+    sweep_out(space);
+    Ok(Room::SlotsToo)
+}
+
+/// No mutator has a buffer any more behind a minor pause; without one all stays as it is.
+pub(crate) fn settle_buffers(minor: &Option<MinorReport>, mutators: &mut [Mutator<'_>])
+    ensures { HaveBuffersBy minor.now mutators.old mutators.new }
+{
+    if minor.is_some() {
+        drop_buffers(mutators);
+    }
 }
 
 /// No mutator has a buffer any more.
@@ -56,8 +208,8 @@ fn drop_buffers(mutators: &mut [Mutator<'_>])
     }
 }
 
-/// The words in the registers and on the stacks of the mutators that haven't ended.
-fn ambiguous(alloc: Global, mutators: &[Mutator<'_>]) -> Result<Vec<u64>, AllocError>
+/// The words in the registers and on the stacks of the mutators that haven't ended: what a pause can't tell from addresses.
+pub(crate) fn ambiguous(alloc: Global, mutators: &[Mutator<'_>]) -> Result<Vec<u64>, AllocError>
     requires { length mutators.now ≤ 16 }
     ensures words { IfOk result (λ words. words.items ≡ held_in mutators.now) }
     ensures registers { IfOk result (λ _. HaveRegisters mutators.now) }
@@ -80,54 +232,4 @@ fn add_words(words: &mut Vec<u64>, mutator: &Mutator<'_>) -> Result<(), AllocErr
         words.extend_from_slice(&held[..count as usize])?;
     }
     Ok(())
-}
-
-/// Answers each request, in order of mutators, each before the next one's place is looked for; then each mutator that hasn't ended is before
-/// the next epoch. Linear in the fragments for each request.
-pub(crate) fn serve_all(
-    alloc: Global,
-    program: &Program,
-    space: &mut Space,
-    mutators: &mut [Mutator<'_>],
-) -> Result<List<Service>, AllocError>
-    requires open { IsOpen space.old }
-    requires few { length program.now.classes ≤ 256 }
-    requires may { (k : ℕ) (m : Mutating) → slice_get mutators.old k ≡ Some m → MayGoOn program.now m }
-    ensures served { IfOk result (λ services. GoOn program.now space.old mutators.old services space.new mutators.new) }
-    ensures contents { IfOk result (λ _. IsContents space.new) }
-    ensures keeps { KeepsSections space.old space.new }
-    ensures stop { space.new.stop ≡ space.old.stop }
-{
-    let mut served = Vec::with_capacity(alloc, mutators.len())?;
-    for k in 0..mutators.len() {
-        match go_on(program, space, &mut mutators[k]) {
-            Some(service) => served.push(service)?,
-            None => {}
-        }
-    }
-    Ok(List::from_vec(served))
-}
-
-/// Answers the statement with which the mutator has left, where it asks for something, and else it is before the next epoch.
-fn go_on(program: &Program, space: &mut Space, mutator: &mut Mutator<'_>) -> Option<Service>
-    requires open { IsOpen space.old }
-    requires few { length program.now.classes ≤ 256 }
-    requires may { MayGoOn program.now mutator.old }
-    ensures goes { MatchOption result (GoesOn program.now space.old mutator.old mutator.old.stage [] space.new mutator.new)
-        (λ service. GoesOn program.now space.old mutator.old mutator.old.stage (service ∷ []) space.new mutator.new) }
-    ensures open { IsOpen space.new }
-    ensures keeps { KeepsSections space.old space.new }
-    ensures stop { space.new.stop ≡ space.old.stop }
-{
-    let Some(asking) = mutator.asking() else {
-        mutator.begin_epoch();
-        return None;
-    };
-    let service = Service {
-        mutator: mutator.number(),
-        statement: mutator.first() + mutator.answers().len() as u32,
-        answer: answer_to(program, space, asking),
-    };
-    mutator.serve(service.answer);
-    Some(service)
 }

@@ -10,7 +10,7 @@ use crate::World;
 use sg_cells::ScheduleDriver;
 use sg_desc::{Descriptor, Shape};
 use sg_graph::{
-    Answer, Class, Config, EpochReport, Item, Leave, Name, Part, Program, Request, Script, Service,
+    Answer, Class, Config, EpochReport, Item, Leave, Name, Part, Program, Request, Script,
     Statement, StopReport,
 };
 use sg_program::items_unfold;
@@ -44,7 +44,7 @@ fn script(alloc: Global, statements: &[Statement]) -> Result<Script, AllocError>
     })
 }
 
-/// Two mutators: one makes an object of two fields, asks for a pause and drops the object; the other makes two such objects.
+/// Two mutators: one makes an object of two fields, asks for a major pause and drops the object; the other makes two such objects.
 fn program(alloc: Global) -> Result<Program, AllocError>
     ensures { IfOk result CanRun }
 {
@@ -62,7 +62,7 @@ fn program(alloc: Global) -> Result<Program, AllocError>
     })?;
     let first = [
         Statement::New { r: 0, class: 0 },
-        Statement::Collect { major: false },
+        Statement::Collect { major: true },
         Statement::Drop { r: 0 },
     ];
     let second = [
@@ -123,7 +123,8 @@ fn tells(part: &Part, mutator: u32, first: u32, answer: Answer, leave: Leave) ->
 }
 
 // By hand: the turns go round. Each mutator prepares the claim of the nursery's front; the first one's is made, at word 512, with a
-// buffer of 16 words, and the other's is lost and made at word 528. The pause pins both objects, and its gaps have 12 and 236 words.
+// buffer of 16 words, and the other's is lost and made at word 528. The minor pause pins both objects, and its gaps have 12 and 236 words; the
+// major one behind it keeps both.
 // No buffer is left, so that the next object is made at word 532.
 #[test]
 fn two_mutators(rt: HostRuntime) -> Result<(), Fail> {
@@ -149,7 +150,7 @@ fn two_mutators(rt: HostRuntime) -> Result<(), Fail> {
             0,
             0,
             Answer::At(front),
-            Leave::Wants(Request::Minor)
+            Leave::Wants(Request::Major)
         )
     );
     assert!(rt; tells(&parts[1], 1, 0, Answer::At(middle), Leave::Yield));
@@ -180,14 +181,14 @@ fn two_mutators(rt: HostRuntime) -> Result<(), Fail> {
     );
     let served = stop.served.into_vec();
     assert_eq!(rt; served.len(), 1);
-    assert_eq!(rt;
-        served[0],
-        Service {
-            mutator: 0,
-            statement: 1,
-            answer: Answer::Fine
-        }
-    );
+    assert_eq!(rt; served[0].mutator, 0);
+    assert_eq!(rt; served[0].statement, 1);
+    assert_eq!(rt; served[0].answer, Answer::Fine);
+    assert!(rt; served[0].sections.is_none());
+    let major = stop.major.ok_or("a major pause")?;
+    assert_eq!(rt; major.kept, 2);
+    assert_eq!(rt; major.freed, 0);
+    assert_eq!(rt; major.pieces.into_vec().len(), 2);
     assert_eq!(rt; second.number, 1);
     assert!(rt; second.last);
     let parts = second.parts.into_vec();

@@ -12,15 +12,17 @@ ghost use Rattle.sg_world.specs.Starting.{AreNew};
 ghost use Rattle.sg_world.specs.Telling.{HaveEnded};
 
 use crate::reports::{epoch_report, going, have_ended};
-use crate::stop::{pause, serve_all};
+use crate::serving::serve_all;
+use crate::stop::{Halted, ambiguous, halt, settle_buffers};
+use crate::wants::wants_of;
 use sg_actor::Mutator;
 use sg_cells::ScheduleDriver;
 use sg_desc::Shape;
-use sg_graph::{Class, Config, EpochReport, Program, StopReport, keeps_pointed_into};
-use sg_mutate::epoch;
-use sg_order::{
-    first_opening, held_is_sound, held_whoever, runnable_makes, serves_ready, stays_ready,
+use sg_graph::{
+    Class, Config, EpochReport, Program, StopReport, keeps_in_major, keeps_pointed_into,
 };
+use sg_mutate::epoch;
+use sg_order::{first_opening, held_is_sound, held_whoever, stays_ready};
 use sg_space::{Layout, Space};
 use sg_words::List;
 use std::alloc::{AllocError, Global};
@@ -94,8 +96,8 @@ impl<'a> World<'a> {
         Ok((world, report))
     }
 
-    /// The stop that comes next: a pause, and an answer to each request. Takes the time and the memory of a minor pause, and memory for
-    /// the report.
+    /// The stop that comes next: the owed sweep, the pauses that the requests want, and an answer to each request. Takes the time and the memory
+    /// of these pauses, and memory for the report.
     pub fn stop(self, alloc: Global) -> Result<(World<'a>, StopReport), AllocError>
         requires { (p : AnyProgram) × (turns : Sequence ℕ) × (phases : Sequence Phase) × (report : AnyEpoch) × (order : Sequence Said)
             × (swept : Sequence ℕ) × (schedule : Schedule) × IsAtStop p turns phases report order swept self schedule }
@@ -106,17 +108,32 @@ impl<'a> World<'a> {
     {
         // The laws that it rests on: these calls do nothing.
         keeps_pointed_into();
+        keeps_in_major();
         stays_ready();
-        serves_ready();
         held_is_sound();
-        runnable_makes();
         let mut mutators = self.mutators.into_vec();
-        let (space, minor) = pause(alloc, self.space, mutators.as_mut_slice())?;
+        let words = ambiguous(alloc, mutators.as_slice())?;
+        let wants = wants_of(alloc, mutators.as_slice())?;
+        let halted = halt(alloc, self.space, words.as_slice(), &wants)?;
+        let Halted {
+            space,
+            minor,
+            major,
+            room,
+        } = halted;
+        settle_buffers(&minor, mutators.as_mut_slice());
         let mut space = space;
-        let served = serve_all(alloc, self.program, &mut space, mutators.as_mut_slice())?;
+        let served = serve_all(
+            alloc,
+            self.program,
+            &mut space,
+            mutators.as_mut_slice(),
+            room,
+        )?;
         let report = StopReport {
             number: self.number,
-            minor: Some(minor),
+            minor,
+            major,
             served,
         };
         let world = World {

@@ -1,0 +1,161 @@
+-- The steps of a stop before its answers.
+use Rattle.std.proofs.Common.{◌≡◌, ◌≢◌, ℕ, Bool, true, false, Option, Some, None, List, [], inl, inr, sym, refl, ap, ◌∙◌, subst, ◌↔◌, ◌⊎◌}
+use Rattle.std.specs.Prelude.{is_some, IsTrue}
+use Rattle.sg_program.specs.declared.program.Program.{Program}
+use Rattle.sg_graph.specs.declared.reports.MinorReport.{MinorReport}
+use Rattle.sg_graph.specs.declared.reports.MajorReport.{MajorReport}
+use Rattle.sg_graph.specs.Graph.{Graph}
+use Rattle.sg_graph.specs.Book.{Book, swept_out}
+use Rattle.sg_graph.specs.Laws.{needs_of, AreAsking, LacksWords, PlacesByWords}
+use Rattle.sg_graph.specs.Stop.{Asked, InFragments, LacksOne, some_wants, wants_minor, wants_major, wants_blocks, WantsMinor, WantsMajor, WantsBlocks, MakesMinor, MakesMajor, MakesRoom}
+use Rattle.sg_space.specs.Space.{Contents}
+use Rattle.sg_heap.specs.Holding.{HoldsHeap, OwesNothing}
+use Rattle.sg_minor.specs.Law.{HasPaused}
+use Rattle.sg_major.specs.Law.{HasCollected}
+use Rattle.sg_major.specs.Parts.{HasNoBuffer}
+use Rattle.sg_placing.specs.declared.placing.Room.{Room}
+use Rattle.sg_placing.specs.declared.placing.Room.TheVariants.{Fragments, SlotsToo}
+use Rattle.sg_world.specs.declared.wants.Wants.{Wants}
+use Rattle.sg_world.specs.Stopping.{AreWanted}
+use Rattle.sg_world.specs.Steps.{HasMadeMinor, HasMadeMajor, HasMadeRoom, HasHalted}
+
+-- what the code tells of the fragments is what the definition says of the requests
+module _ (law : PlacesByWords) (p : Program) (g : Graph) (b : Book) (requests : List Asked) (asking : AreAsking p g requests) (wants : Wants)
+    (are : AreWanted requests wants) where
+  abbrev Lacks : Type 0
+  Lacks = LacksWords b.fragments b.limit b.next wants.needs.items
+
+  pub lacks_one : Lacks → LacksOne p InFragments g b requests
+  lacks_one l = (law p g b requests asking).1 (subst (λ (needs : List ℕ). LacksWords b.fragments b.limit b.next needs) are.needs l)
+
+  pub lacks_words : LacksOne p InFragments g b requests → Lacks
+  lacks_words l = subst (λ (needs : List ℕ). LacksWords b.fragments b.limit b.next needs) (sym are.needs) ((law p g b requests asking).0 l)
+
+  -- a minor pause is wanted
+  minor_wanted : (IsTrue wants.minor ⊎ Lacks) → WantsMinor p g b requests
+  minor_wanted (inl given) = inl (sym are.minor ∙ given)
+  minor_wanted (inr l) = inr (lacks_one l)
+
+  wanted_minor : WantsMinor p g b requests → (IsTrue wants.minor ⊎ Lacks)
+  wanted_minor (inl given) = inl (are.minor ∙ given)
+  wanted_minor (inr l) = inr (lacks_words l)
+
+  -- a major one behind it
+  abbrev IsGiven : MinorReport → Bool → Type 0
+  IsGiven minor given = given ≡ true ↔ (IsTrue wants.major ⊎ (minor.fails ≢ []))
+
+  major_wanted : (minor : MinorReport) (given : Bool) → IsGiven minor given → (IsTrue given ⊎ Lacks) → WantsMajor p g b requests minor
+  major_wanted minor given is (inl yes_given) = elim (is.0 yes_given) [
+    | inl one ↦ inl (sym are.major ∙ one)
+    | inr other ↦ inr (inl other)
+  ]
+  major_wanted minor given is (inr l) = inr (inr (lacks_one l))
+
+  wanted_major : (minor : MinorReport) (given : Bool) → IsGiven minor given → WantsMajor p g b requests minor → (IsTrue given ⊎ Lacks)
+  wanted_major minor given is (inl asked) = inl (is.1 (inl (are.major ∙ asked)))
+  wanted_major minor given is (inr (inl some)) = inl (is.1 (inr some))
+  wanted_major minor given is (inr (inr l)) = inr (lacks_words l)
+
+  -- and that no block is owed behind that
+  blocks_wanted : (IsTrue wants.blocks ⊎ Lacks) → WantsBlocks p g b requests
+  blocks_wanted (inl given) = inl (sym are.blocks ∙ given)
+  blocks_wanted (inr l) = inr (lacks_one l)
+
+  wanted_blocks : WantsBlocks p g b requests → (IsTrue wants.blocks ⊎ Lacks)
+  wanted_blocks (inl given) = inl (are.blocks ∙ given)
+  wanted_blocks (inr l) = inr (lacks_words l)
+
+  module _ (s : Contents) (heap : HoldsHeap p s g b) (words : List ℕ) where
+    pub no_minor : OwesNothing p b → ¬ (IsTrue wants.minor ⊎ Lacks) → HasMadeMinor p g b words requests None s
+    no_minor owes none = record {
+      book = b;
+      makes = ((λ w. none (wanted_minor w)), refl, refl);
+      copies = λ minor e. absurd (cc e);
+      heap = heap;
+      owes = owes;
+      emptied = λ minor e. absurd (cc e);
+    }
+
+    pub some_minor : OwesNothing p b → (IsTrue wants.minor ⊎ Lacks) → (t : Contents) (report : MinorReport) → HasPaused p g b words t report →
+        HasMadeMinor p g b words requests (Some report) t
+    some_minor owes given t report paused = record {
+      book = paused.book;
+      makes = (minor_wanted given, paused.pause);
+      copies = λ minor e. paused.copies;
+      heap = paused.heap;
+      owes = λ j l. ap (λ (owed : ℕ → Bool). owed j) paused.pause.tidies.owed ∙ owes j l;
+      emptied = λ minor e. paused.pause.tidies.emptied;
+    }
+
+    pub no_major_behind_none : OwesNothing p b → HasMadeMajor p g b words requests None None s
+    no_major_behind_none owes = record { book = b; makes = (refl, refl); heap = heap; owes = λ e. owes }
+
+    pub no_major : OwesNothing p b → (minor : MinorReport) (given : Bool) → IsGiven minor given → ¬ (IsTrue given ⊎ Lacks) →
+        HasMadeMajor p g b words requests (Some minor) None s
+    no_major owes minor given is none =
+        record { book = b; makes = ((λ w. none (wanted_major minor given is w)), refl, refl); heap = heap; owes = λ e. owes }
+
+    pub some_major : (minor : MinorReport) (given : Bool) → IsGiven minor given → (IsTrue given ⊎ Lacks) → (t : Contents) (report : MajorReport) →
+        HasCollected p g b words t report → HasMadeMajor p g b words requests (Some minor) (Some report) t
+    some_major minor given is wanted t report collected = record {
+      book = collected.book;
+      makes = (major_wanted minor given is wanted, collected.pause);
+      heap = collected.heap;
+      owes = λ e. absurd (cc e);
+    }
+
+    -- without a major pause all is in fragments
+    pub room_without : OwesNothing p b → HasMadeRoom p g b requests false Fragments s
+    room_without owes = record { book = b; makes = still; heap = heap; fits = tt; suits = refl; shows = λ e. owes }
+      where
+        still : (report : Option MajorReport) → is_some report ≡ false → MakesRoom p g b requests report b
+        still None e = refl
+        still (Some report) e = absurd (cc e)
+
+    pub room_in_fragments : ¬ (IsTrue wants.blocks ⊎ Lacks) → HasMadeRoom p g b requests true Fragments s
+    room_in_fragments none = record {
+      book = b;
+      makes = still;
+      heap = heap;
+      fits = tt;
+      suits = λ l. none (inr (lacks_words l));
+      shows = λ e. absurd (none (inl (are.blocks ∙ e)));
+    }
+      where
+        still : (report : Option MajorReport) → is_some report ≡ true → MakesRoom p g b requests report b
+        still None e = absurd (cc e)
+        still (Some report) e = inr ((λ w. none (wanted_blocks w)), refl)
+
+    pub room_in_slots : (IsTrue wants.blocks ⊎ Lacks) → (t : Contents) → HoldsHeap p t g (swept_out b) → HasMadeRoom p g b requests true SlotsToo t
+    room_in_slots given t swept = record { book = swept_out b; makes = out; heap = swept; fits = λ j l. refl; suits = tt; shows = λ e j l. refl }
+      where
+        out : (report : Option MajorReport) → is_some report ≡ true → MakesRoom p g b requests report (swept_out b)
+        out None e = absurd (cc e)
+        out (Some report) e = inl (blocks_wanted given, refl)
+
+-- a test that tells that nothing is wanted
+pub never : (given : Bool) (A : Type 0) → given ≡ false → (given ≡ true ↔ A) → ¬ A
+never given A no_one told a = let q : false ≡ true = sym no_one ∙ told.1 a in cc q
+
+-- all steps together
+pub halted_by : (p : Program) (g : Graph) (b : Book) (words : List ℕ) (requests : List Asked) (minor : Option MinorReport) (major : Option MajorReport) (room : Room)
+    (s t u v : Contents) → HoldsHeap p s g (swept_out b) → (made : HasMadeMinor p g (swept_out b) words requests minor t) →
+    (more : HasMadeMajor p g made.book words requests minor major u) → HasMadeRoom p g more.book requests (is_some major) room v →
+    HasHalted p g b words requests minor major room v
+halted_by p g b words requests minor major room s t u v heap made more last = record {
+  begun = s;
+  begun_heap = heap;
+  minor_book = made.book;
+  minor_space = t;
+  minor_heap = made.heap;
+  makes_minor = made.makes;
+  copies = made.copies;
+  major_book = more.book;
+  makes_major = more.makes;
+  book = last.book;
+  makes_room = last.makes major refl;
+  heap = last.heap;
+  fits = last.fits;
+  suits = last.suits;
+  shows = last.shows;
+}

@@ -1,0 +1,28 @@
+use Rattle.std.proofs.Common.{◌≡◌, ◌≢◌, ◌↔◌, ◌⊎◌, Bool, true, false, Some, None, [], inl, inr, sym, ap, ◌∙◌, subst, refl}
+use Rattle.std.specs.Prelude.{IsTrue}
+use Rattle.sg_graph.specs.Laws.{LacksWords}
+use Rattle.sg_space.specs.Space.{Contents}
+use Rattle.sg_heap.specs.Holding.{HoldsHeap}
+use Rattle.sg_graph.specs.declared.reports.MinorReport.{MinorReport}
+use Rattle.std.specs.Prelude.{Option}
+use Rattle.sg_world.specs.Steps.{HasMadeMajor}
+use Rattle.sg_world.proofs.Steps.{never, no_major_behind_none, no_major, some_major}
+use Rattle.sg_world.proofs.stop.major_pause.Goals as goal
+
+pub returns-then-not-branch-clause-made : goal.returns-then-not-branch-clause-made
+returns-then-not-branch-clause-made c p g b requests holds owes plain empty asking are =
+    subst (λ (minor : Option MinorReport). HasMadeMajor p g b c.args.words.now requests minor None c.args.space) (sym c.in-Some.is)
+    (no_major c.places_by_words.ensures p g b requests asking c.args.wants.now are c.args.space holds c.args.words.now owes c.in-Some.minor
+    c.has_cause-given.result c.has_cause-given.ensures (never c.in_ok-is_wanted.field-0 _ c.if-not-branch.true (c.in_ok-is_wanted.ensures p g b holds)))
+
+pub major-requires : goal.major-requires
+major-requires c =
+    let held = c.requires.some in
+    record { some = (held.0, held.1, held.2, held.3, held.5, held.4, held.6 c.in-Some.minor c.in-Some.is) }
+
+pub returns-clause-made : goal.returns-clause-made
+returns-clause-made c p g b requests holds owes plain empty asking are =
+    subst (λ (minor : Option MinorReport). HasMadeMajor p g b c.args.words.now requests minor (Some c.in_ok-space.report) c.in_ok-space.space) (sym c.in-Some.is)
+    (some_major c.places_by_words.ensures p g b requests asking c.args.wants.now are c.args.space holds c.args.words.now c.in-Some.minor
+    c.has_cause-given.result c.has_cause-given.ensures ((c.in_ok-is_wanted.ensures p g b holds).0 c.if-not-branch.false) c.in_ok-space.space c.in_ok-space.report
+    (c.in_ok-space.ensures.collected p g b holds plain owes (empty c.in-Some.minor c.in-Some.is)))
