@@ -113,7 +113,7 @@ module _ (law : FirstOpening) (p : Program) (can : CanRun p) (shapes : List Shap
       ∙ ap (λ j. length (script_of p j)) is.number in
       omega arith
 
-  pub begins : IsBetween p turns [] (record { program = p; space = s; mutators = ms; number = 0 }) (whole_schedule turns)
+  pub begins : IsBetween p turns [] (record { program = p; space = s; mutators = ms; number = 0; owes = false }) (whole_schedule turns)
   begins = record {
     of = record {
       can = can;
@@ -153,5 +153,6 @@ module _ (law : FirstOpening) (p : Program) (can : CanRun p) (shapes : List Shap
       },
       (begun.held.owner, begun.held.heap, begun.held.settled),
     );
+    unowed = λ e j l. refl;
     few = omega arith;
   }

@@ -35,6 +35,7 @@ use Rattle.sg_world.specs.Stopping.{asked_of, requests_of}
 use Rattle.sg_world.specs.Worlds.{Worldly, IsWorldOf, IsBetween, HasLeftReady, IsAtStop, ComesTo}
 use Rattle.sg_world.proofs.Lists.{pairwise_left, joined_pairwise, joined_filter, joined_by_numbers, in_joined, sums_le, pairwise_by, some_at}
 use Rattle.sg_world.proofs.Heaps.{constants_stay, heap_of_held}
+use Rattle.sg_world.proofs.Unowed.{still_unowed}
 use Rattle.sg_world.proofs.Parts.{IsLeaveOf, not_done, ready_left, ready_empty}
 use Rattle.sg_world.proofs.Epochs as epochs
 
@@ -77,7 +78,7 @@ module _ (stays : StaysReady) (is_sound : HeldIsSound) (whoever : HeldWhoever) (
   h = left one.graph
 
   abbrev world : Worldly
-  world = record { program = old.program; space = t; mutators = after; number = old.number }
+  world = record { program = old.program; space = t; mutators = after; number = old.number; owes = old.owes }
 
   was : (k : ℕ) (n : Mutating) → slice_get after k ≡ Some n → (m : Mutating) × (slice_get old.mutators k ≡ Some m)
   was = epochs.was p g between.book old.space old.mutators schedule t after next between.opened over
@@ -313,6 +314,7 @@ module _ (stays : StaysReady) (is_sound : HeldIsSound) (whoever : HeldWhoever) (
     epoch = is_epoch;
     going = λ all. (let q : true ≡ false = sym (is_epoch.is.ends.1 all) ∙ e in cc q);
     holds = holds;
+    unowed = λ none. still_unowed p old.space t g h between.book one.book over.leaves between.holds (between.unowed none) held;
     plain = held.plain;
     ready = λ k n is_n. (let m = was k n is_n in left_ready k m.0 n m.1 is_n n.stage refl);
     asked = asked;

@@ -1,5 +1,5 @@
 -- The stop behind an epoch: the owed sweep, the pauses, and then the answers to the requests.
-use Rattle.std.proofs.Common.{◌≡◌, ◌≢◌, ℕ, zero, suc, ◌+◌, ◌<◌, ◌≤◌, Bool, true, false, Option, Some, None, List, [], ◌∷◌, ◌++◌, length, slice_get, inl, inr, sym, refl, ap, ◌∙◌, subst, arith}
+use Rattle.std.proofs.Common.{◌≡◌, ◌≢◌, ℕ, zero, suc, ◌+◌, ◌<◌, ◌≤◌, ◌⊎◌, Bool, true, false, Option, Some, None, List, [], ◌∷◌, ◌++◌, length, slice_get, inl, inr, sym, refl, ap, ◌∙◌, subst, arith}
 use Rattle.std.specs.Prelude.{is_some, IsTrue}
 use Rattle.std.specs.List.{sum_by}
 use Rattle.std.proofs.lemmas.Bool.{cases_lt}
@@ -30,6 +30,7 @@ use Rattle.sg_graph.specs.Follows.{FollowsTo, IsStopInOrder}
 use Rattle.sg_graph.specs.Follows.FollowsTo.{GoesOn}
 use Rattle.sg_space.specs.Space.{Contents, words_of, IsContents}
 use Rattle.sg_placing.specs.declared.placing.Room.{Room}
+use Rattle.sg_placing.specs.declared.placing.Room.TheVariants.{SlotsToo}
 use Rattle.sg_placing.specs.Answering.{placing_in}
 use Rattle.sg_rules.specs.Rules.{Idle, Actor, fresh, owning}
 use Rattle.sg_order.specs.Rest.{IsReady}
@@ -355,15 +356,16 @@ module _ (keeps : KeepsPointedInto) (keeps_major : KeepsInMajor) (stays : StaysR
 
       -- the world behind the stop
       pub goes_on : (after : Worldly) → after.program ≡ world.program → after.space ≡ u → after.mutators ≡ ns → after.number ≡ world.number + 1 →
+          (after.owes ≡ false → (is_some major ≡ false) ⊎ (room ≡ SlotsToo)) →
           IsBetween p turns (phases ++ Epoch report order swept ∷ Stop told ∷ []) after
           schedule
-      goes_on after program space mutators number =
+      goes_on after program space mutators number may =
           subst (λ (w : Worldly). IsBetween p turns
           (phases ++ Epoch report order swept ∷ Stop told ∷ []) w schedule)
-          (λ i. record { program = sym program i; space = sym space i; mutators = sym mutators i; number = sym number i }) between
+          (λ i. record { program = sym program i; space = sym space i; mutators = sym mutators i; number = sym number i; owes = after.owes }) between
         where
           between : IsBetween p turns (phases ++ Epoch report order swept ∷ Stop told ∷ [])
-              (record { program = world.program; space = u; mutators = ns; number = world.number + 1 }) schedule
+              (record { program = world.program; space = u; mutators = ns; number = world.number + 1; owes = after.owes }) schedule
           between = record {
             of = record { can = t.of.can; program = t.of.program; are = are; contents = all.holding.contents; counted = counted; numbered = numbered };
             graph = all.graph;
@@ -389,5 +391,6 @@ module _ (keeps : KeepsPointedInto) (keeps_major : KeepsInMajor) (stays : StaysR
               going = λ ended. t.going (λ k l. sym (all.ended k) ∙ ended k l);
             };
             holds = all.holding.heap;
+            unowed = λ none j l. ap (λ (owed : ℕ → Bool). owed j) all.owed ∙ halted.rests (may none) j l;
             few = few;
           }

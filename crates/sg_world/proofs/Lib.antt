@@ -15,5 +15,6 @@ pub mod Parts
 pub mod Paused
 pub mod Services
 pub mod Steps
+pub mod Unowed
 pub mod Wanting
 pub mod Yields

@@ -106,7 +106,7 @@ module _ (law : PlacesByWords) (p : Program) (g : Graph) (b : Book) (requests : 
 
     -- without a major pause all is in fragments
     pub room_without : OwesNothing p b → HasMadeRoom p g b requests false Fragments s
-    room_without owes = record { book = b; makes = still; heap = heap; fits = tt; suits = refl; shows = λ e. owes }
+    room_without owes = record { book = b; makes = still; heap = heap; fits = tt; suits = refl; shows = λ e. owes; rests = λ e. owes }
       where
         still : (report : Option MajorReport) → is_some report ≡ false → MakesRoom p g b requests report b
         still None e = refl
@@ -120,6 +120,7 @@ module _ (law : PlacesByWords) (p : Program) (g : Graph) (b : Book) (requests : 
       fits = tt;
       suits = λ l. none (inr (lacks_words l));
       shows = λ e. absurd (none (inl (are.blocks ∙ e)));
+      rests = λ e. elim e [ inl not ↦ absurd (cc not) | inr slots ↦ absurd (cc slots) ];
     }
       where
         still : (report : Option MajorReport) → is_some report ≡ true → MakesRoom p g b requests report b
@@ -127,7 +128,7 @@ module _ (law : PlacesByWords) (p : Program) (g : Graph) (b : Book) (requests : 
         still (Some report) e = inr ((λ w. none (wanted_blocks w)), refl)
 
     pub room_in_slots : (IsTrue wants.blocks ⊎ Lacks) → (t : Contents) → HoldsHeap p t g (swept_out b) → HasMadeRoom p g b requests true SlotsToo t
-    room_in_slots given t swept = record { book = swept_out b; makes = out; heap = swept; fits = λ j l. refl; suits = tt; shows = λ e j l. refl }
+    room_in_slots given t swept = record { book = swept_out b; makes = out; heap = swept; fits = λ j l. refl; suits = tt; shows = λ e j l. refl; rests = λ e j l. refl }
       where
         out : (report : Option MajorReport) → is_some report ≡ true → MakesRoom p g b requests report (swept_out b)
         out None e = absurd (cc e)
@@ -158,4 +159,5 @@ halted_by p g b words requests minor major room s t u v heap made more last = re
   fits = last.fits;
   suits = last.suits;
   shows = last.shows;
+  rests = last.rests;
 }

@@ -1,5 +1,5 @@
 -- What the steps of a stop before its answers make, by the graph and the book that the space holds. No step changes the graph.
-use Rattle.std.specs.Prelude.{◌≡◌, ℕ, Bool, true, false, Option, Some, None, List, IsTrue, is_some}
+use Rattle.std.specs.Prelude.{◌≡◌, ℕ, ◌⊎◌, Bool, true, false, Option, Some, None, List, IsTrue, is_some}
 use Rattle.sg_program.specs.declared.program.Program.{Program}
 use Rattle.sg_graph.specs.declared.reports.MinorReport.{MinorReport}
 use Rattle.sg_graph.specs.declared.reports.MajorReport.{MajorReport}
@@ -49,8 +49,9 @@ pub record HasMadeRoom (p : Program) (g : Graph) (b : Book) (requests : List Ask
   pub heap : HoldsHeap p t g book
   pub fits : FitsRoom p book room
   pub suits : SuitsRoom p g book requests major room
-  -- no block is owed where a request wants that
+  -- no block is owed where a request wants that, and but for a major pause that leaves all in fragments
   pub shows : IsTrue (some_wants wants_blocks requests) → OwesNothing p book
+  pub rests : (major ≡ false) ⊎ (room ≡ SlotsToo) → OwesNothing p book
 
 -- all steps, one after another
 pub record HasHalted (p : Program) (g : Graph) (b : Book) (words : List ℕ) (requests : List Asked) (minor : Option MinorReport) (major : Option MajorReport)
@@ -71,3 +72,4 @@ pub record HasHalted (p : Program) (g : Graph) (b : Book) (words : List ℕ) (re
   pub fits : FitsRoom p book room
   pub suits : SuitsRoom p g book requests (is_some major) room
   pub shows : IsTrue (some_wants wants_blocks requests) → OwesNothing p book
+  pub rests : (is_some major ≡ false) ⊎ (room ≡ SlotsToo) → OwesNothing p book

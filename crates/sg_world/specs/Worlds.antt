@@ -1,5 +1,5 @@
 -- A world between its epochs and stops.
-use Rattle.std.specs.Prelude.{◌≡◌, ◌≢◌, ℕ, ◌+◌, ◌≤◌, ◌⊎◌, true, false, Some, List, [], ◌∷◌, ◌++◌, length, slice_get}
+use Rattle.std.specs.Prelude.{◌≡◌, ◌≢◌, ℕ, ◌+◌, ◌≤◌, ◌⊎◌, Bool, true, false, Some, List, [], ◌∷◌, ◌++◌, length, slice_get}
 use Rattle.std.specs.List.{sum_by}
 use Rattle.sg_words.specs.Schedule.{Schedule}
 use Rattle.sg_program.specs.declared.program.Program.{Program}
@@ -13,7 +13,7 @@ use Rattle.sg_graph.specs.Stop.{requests_in}
 use Rattle.sg_graph.specs.Run.{Phase, Epoch}
 use Rattle.sg_graph.specs.Follows.{FollowsTo, IsEpochBy, IsWholeRunBy}
 use Rattle.sg_space.specs.Space.{Contents, IsContents}
-use Rattle.sg_heap.specs.Holding.{HoldsHeap}
+use Rattle.sg_heap.specs.Holding.{HoldsHeap, OwesNothing}
 use Rattle.sg_rules.specs.Rules.{fresh}
 use Rattle.sg_program.specs.Scripts.{IsRequestOf}
 use Rattle.sg_order.specs.Rest.{IsReady}
@@ -24,12 +24,14 @@ use Rattle.sg_actor.specs.State.{Mutating, actor_of, IsCounted}
 use Rattle.sg_mutate.specs.Epochs.{AreMutatorsOf, IsOpened, parted}
 use Rattle.sg_world.specs.Stopping.{requests_of}
 
--- its program, its space, its mutators by number, and the number of its next epoch, or of the one before the next stop
+-- Its program, its space, its mutators by number, and the number of its next epoch, or of the one before the next stop; and whether some block
+-- may be owed.
 pub record Worldly : Type 0 where
   pub program : Program
   pub space : Contents
   pub mutators : List Mutating
   pub number : ℕ
+  pub owes : Bool
 
 -- a program that a world can run: it is within the limits, and its scripts find what they need and are run now
 pub record CanRun (p : Program) : Type 0 where
@@ -53,6 +55,7 @@ pub record IsBetween (p : Program) (turns : List ℕ) (phases : List Phase) (wor
   pub follows : FollowsTo p turns world.number phases graph book schedule
   pub opened : IsOpened p graph book world.space world.mutators
   pub holds : HoldsHeap p world.space graph book
+  pub unowed : world.owes ≡ false → OwesNothing p book
   -- there are fewer epochs than a program can have statements, and one more
   pub few : world.number ≤ 1048576
 
@@ -78,6 +81,7 @@ pub record IsAtStop (p : Program) (turns : List ℕ) (phases : List Phase) (repo
   pub epoch : IsEpochBy p world.number before_graph before_book before_schedule order swept report graph book schedule
   pub going : ¬ AllEnded p graph
   pub holds : HoldsHeap p world.space graph book
+  pub unowed : world.owes ≡ false → OwesNothing p book
   pub plain : IsPlain p graph
   pub ready : (k : ℕ) (m : Mutating) → slice_get world.mutators k ≡ Some m → HasLeftReady p graph book k m m.stage
   pub asked : requests_in report.parts ≡ requests_of world.mutators

@@ -1,5 +1,5 @@
 // What a stop does before it answers: the owed sweep, a minor pause, a major one behind it, and the owed sweep again.
-ghost use Rattle.std.specs.Prelude.{◌≡◌, ◌≢◌, ℕ, ◌≤◌, ◌++◌, ◌⊎◌, ◌↔◌, true, false, Some, List as Sequence, [], length, IfOk, IsTrue};
+ghost use Rattle.std.specs.Prelude.{◌≡◌, ◌≢◌, ℕ, ◌≤◌, ◌++◌, ◌⊎◌, ◌↔◌, true, false, Some, List as Sequence, [], length, IfOk, IsTrue, is_some};
 ghost use Rattle.sg_words.specs.Lists.{Pairwise};
 ghost use Rattle.sg_program.specs.declared.program.Program.{Program as AnyProgram};
 ghost use Rattle.sg_graph.specs.declared.reports.MinorReport.{MinorReport as AnyReport};
@@ -12,6 +12,7 @@ ghost use Rattle.sg_space.specs.Space.{IsContents};
 ghost use Rattle.sg_heap.specs.Holding.{HoldsHeap, OwesNothing};
 ghost use Rattle.sg_minor.specs.Parts.{HoldsSome};
 ghost use Rattle.sg_major.specs.Parts.{HasNoBuffer};
+ghost use Rattle.sg_placing.specs.declared.placing.Room.TheVariants.{SlotsToo};
 ghost use Rattle.sg_actor.specs.State.{DropsBuffer};
 ghost use Rattle.sg_world.specs.Telling.{goes};
 ghost use Rattle.sg_world.specs.Stopping.{held_by, held_in, HaveRegisters, AreWanted, HaveBuffersBy};
@@ -40,19 +41,21 @@ pub(crate) struct Halted {
 }
 
 /// All that a stop does before it answers: the stop word is cleared, and the owed blocks are swept; then, where the requests want that, a minor
-/// pause, a major one, and the sweep of the blocks that it owes. `words` are those in the mutators' hands.
+/// pause, a major one, and the sweep of the blocks that it owes. `words` are those in the mutators' hands; without `owes` no block is owed, so that none
+/// is looked at.
 ///
 /// Takes the time and the memory of the pauses that are made. Where memory runs out the space is lost.
 pub(crate) fn halt(
     alloc: Global,
     space: Space,
+    owes: bool,
     words: &[u64],
     wants: &Wants,
 ) -> Result<Halted, AllocError>
     requires some { (p : AnyProgram) × (g : Graph) × (b : Book) × (requests : Sequence Asked) × HoldsHeap p space g b × IsPlain p g × AreAsking p g requests
-        × AreWanted requests wants.now }
-    ensures halted { IfOk result (λ halt. (p : AnyProgram) (g : Graph) (b : Book) (requests : Sequence Asked) → HoldsHeap p space g b → IsPlain p g →
-        AreAsking p g requests → AreWanted requests wants.now → HasHalted p g b words.now requests halt.minor halt.major halt.room halt.space) }
+        × AreWanted requests wants.now × (owes ≡ false → OwesNothing p b) }
+    ensures halted { IfOk result (λ halt. (p : AnyProgram) (g : Graph) (b : Book) (requests : Sequence Asked) → HoldsHeap p space g b →
+        (owes ≡ false → OwesNothing p b) → IsPlain p g → AreAsking p g requests → AreWanted requests wants.now → HasHalted p g b words.now requests halt.minor halt.major halt.room halt.space) }
     ensures contents { IfOk result (λ halt. IsContents halt.space) }
     ensures going { IfOk result (λ halt. halt.space.stop ≡ 0) }
 {
@@ -60,7 +63,7 @@ pub(crate) fn halt(
     sweep_law();
     let mut space = space;
     space.set_stopping(false);
-    sweep_out(&mut space);
+    begin(&mut space, owes);
     let (space, minor) = minor_pause(alloc, space, words, wants)?;
     let (space, major) = major_pause(alloc, space, words, wants, &minor)?;
     let mut space = space;
@@ -72,6 +75,21 @@ pub(crate) fn halt(
         major,
         room,
     })
+}
+
+/// Sweeps all blocks that are owed, where some may be.
+fn begin(space: &mut Space, owes: bool)
+    requires some { (p : AnyProgram) × (g : Graph) × (b : Book) × HoldsHeap p space.old g b × (owes ≡ false → OwesNothing p b) }
+    ensures swept { (p : AnyProgram) (g : Graph) (b : Book) → HoldsHeap p space.old g b → (owes ≡ false → OwesNothing p b) → HoldsHeap p space.new g (swept_out b) }
+    ensures stop { space.new.stop ≡ space.old.stop }
+{
+    // The law that it rests on: this call does nothing.
+    sweep_law();
+    let _ = space.layout();
+    if !owes {
+        return;
+    }
+    sweep_out(space);
 }
 
 /// Sweeps all blocks that are owed. Linear in their words and in the blocks.
@@ -188,6 +206,16 @@ fn make_room(
     }
     sweep_out(space);
     Ok(Room::SlotsToo)
+}
+
+/// Whether some block may be owed behind these pauses: a major one left all in fragments.
+pub(crate) fn may_owe(major: &Option<MajorReport>, room: Room) -> bool
+    ensures { result ≡ false → (is_some major.now ≡ false) ⊎ (room ≡ SlotsToo) }
+{
+    match room {
+        Room::Fragments => major.is_some(),
+        Room::SlotsToo => false,
+    }
 }
 
 /// No mutator has a buffer any more behind a minor pause; without one all stays as it is.

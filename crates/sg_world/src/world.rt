@@ -13,7 +13,7 @@ ghost use Rattle.sg_world.specs.Telling.{HaveEnded};
 
 use crate::reports::{epoch_report, going, have_ended};
 use crate::serving::serve_all;
-use crate::stop::{Halted, ambiguous, halt, settle_buffers};
+use crate::stop::{Halted, ambiguous, halt, may_owe, settle_buffers};
 use crate::wants::wants_of;
 use sg_actor::Mutator;
 use sg_cells::ScheduleDriver;
@@ -35,6 +35,8 @@ pub struct World<'a> {
     space: Space,
     mutators: List<Mutator<'a>>,
     number: u32,
+    /// Whether some block may be owed.
+    owes: bool,
 }
 
 impl<'a> Model for World<'a> {
@@ -46,7 +48,7 @@ impl<'a> Model for World<'a> {
 
     ghost coded = { Prim.hlevel (codes, e.the_row.coded) };
 
-    ghost view = { λ w. record { program = w.program.now; space = w.space; mutators = w.mutators; number = w.number } };
+    ghost view = { λ w. record { program = w.program.now; space = w.space; mutators = w.mutators; number = w.number; owes = w.owes } };
 }
 
 impl<'a> World<'a> {
@@ -64,6 +66,7 @@ impl<'a> World<'a> {
             space: Space::new(alloc, layout_of(&program.config), &shapes)?,
             mutators: List::from_vec(mutators_of(alloc, program)?),
             number: 0,
+            owes: false,
         })
     }
 
@@ -92,6 +95,7 @@ impl<'a> World<'a> {
             space: end.space,
             mutators: end.mutators,
             number: self.number,
+            owes: self.owes,
         };
         Ok((world, report))
     }
@@ -114,7 +118,7 @@ impl<'a> World<'a> {
         let mut mutators = self.mutators.into_vec();
         let words = ambiguous(alloc, mutators.as_slice())?;
         let wants = wants_of(alloc, mutators.as_slice())?;
-        let halted = halt(alloc, self.space, words.as_slice(), &wants)?;
+        let halted = halt(alloc, self.space, self.owes, words.as_slice(), &wants)?;
         let Halted {
             space,
             minor,
@@ -122,6 +126,7 @@ impl<'a> World<'a> {
             room,
         } = halted;
         settle_buffers(&minor, mutators.as_mut_slice());
+        let owes = may_owe(&major, room);
         let mut space = space;
         let served = serve_all(
             alloc,
@@ -141,6 +146,7 @@ impl<'a> World<'a> {
             space,
             mutators: List::from_vec(mutators),
             number: self.number + 1,
+            owes,
         };
         Ok((world, report))
     }

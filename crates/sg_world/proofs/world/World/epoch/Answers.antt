@@ -40,8 +40,8 @@ returns-clause-comes c p turns phases is =
       program = c.self.inside.program.now;
       space = c.self.inside.space;
       mutators = c.self.inside.mutators;
-      number =
-          c.self.inside.number;
+      number = c.self.inside.number;
+      owes = c.self.inside.owes;
     } in
     let over = c.in_ok-end.ensures.over p b.graph b.book b.opened in
     let ran : c.as_slice-2.result.now ≡ going_in c.self.inside.mutators = c.as_slice-2.ensures.value ∙ c.in_ok-ran.ensures ∙ ap going_in c.as_slice.ensures in
