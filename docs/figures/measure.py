@@ -65,6 +65,20 @@ def long_old_list():
     return with_old_list(120000, 3000)
 
 
+def majors(pauses):
+    """A list of 20,000 objects that is promoted, and then major pauses, each after an object of 42 words."""
+    return program('nursery 4096\nblocks 2048\n', NODE + 'class B plain 40\n',
+                   f'repeat 20000\nnew r0 N\nput r0 0 r1\nmove r1 r0\nend\ndrop r0\nrepeat {pauses}\nnew r2 B\ncollect major\nend\n')
+
+
+def one_major():
+    return majors(1)
+
+
+def sixty_majors():
+    return majors(60)
+
+
 def wide_objects():
     return program('', 'class W plain 62\n', 'new r0 W\n' * 60000)
 
@@ -111,6 +125,8 @@ INPUTS = [
     (no_old_list, '3,000 pauses, each after one `new`, over 4,096 blocks and one old object', ['run']),
     (old_list, 'a list of 40,000 objects that is promoted, and then 2,000 such pauses', ['run']),
     (long_old_list, 'a list of 120,000 objects that is promoted, and then 3,000 such pauses', ['run']),
+    (one_major, 'a list of 20,000 objects that is promoted, and a major pause, over 2,048 blocks', ['run']),
+    (sixty_majors, 'the same with 60 major pauses, each after an object of 42 words', ['run']),
     (wide_objects, '60,000 `new`s of 64 words over the default nursery', ['run']),
     (names, '250 classes with names of 26 bytes, and 26,000 `new`s of them', ['run']),
     (empty_repeats, 'four nested repeats of 1,048,576 over nothing', ['run']),
