@@ -36,10 +36,10 @@ finish-requires c j l =
     let more = c.in_ok-world-3.ensures.between p [] [] c.in_ok-world-2.first comes.0 comes.1 c.epoch.new.order stops in
     let next = c.in_ok-world-4.ensures.comes p [] _ more in
     let t = at_stop_of p [] _ c.in_ok-world-4.second c.in_ok-world-4.world c.epoch-2.new.order next c.if-second.false in
-    let heap = subst (λ (s : Contents). HoldsHeap p s t.graph t.book) (sym c.into_space.ensures) t.holds in
+    let heap = subst (λ (s : Contents). HoldsHeap p s t.graph t.book) (sym c.into_space-space.ensures) t.holds in
     record {
-      settled = λ z e. c.sweep_law.ensures.settled p c.into_space.result t.graph t.book heap c.layout.ensures.contents j z l e;
-      sized = λ z e. c.sweep_law.ensures.sized p c.into_space.result t.graph t.book heap c.layout.ensures.contents j z l e;
+      settled = λ z e. c.sweep_law.ensures.settled p c.into_space-space.result t.graph t.book heap c.layout.ensures.contents j z l e;
+      sized = λ z e. c.sweep_law.ensures.sized p c.into_space-space.result t.graph t.book heap c.layout.ensures.contents j z l e;
     }
 
 pub returns : goal.returns
@@ -51,6 +51,6 @@ returns c =
     let more = c.in_ok-world-3.ensures.between p [] [] c.in_ok-world-2.first comes.0 comes.1 c.epoch.new.order stops in
     let next = c.in_ok-world-4.ensures.comes p [] _ more in
     let t = at_stop_of p [] _ c.in_ok-world-4.second c.in_ok-world-4.world c.epoch-2.new.order next c.if-second.false in
-    let heap = subst (λ (s : Contents). HoldsHeap p s t.graph t.book) (sym c.into_space.ensures) t.holds in
-    let swept = c.sweep_law.ensures.swept p c.into_space.result c.finish.new.space t.graph t.book c.layout.ensures.contents heap c.finish.ensures.swept in
+    let heap = subst (λ (s : Contents). HoldsHeap p s t.graph t.book) (sym c.into_space-space.ensures) t.holds in
+    let swept = c.sweep_law.ensures.swept p c.into_space-space.result c.finish.new.space t.graph t.book c.layout.ensures.contents heap c.finish.ensures.swept in
     (p, t.graph, swept_out t.book, swept.0, swept.2, t.plain)
