@@ -1,5 +1,5 @@
 -- The book: which objects stand, and where; the owed blocks; the fragments; the buffers.
-use Rattle.std.specs.Prelude.{◌≡◌, ◌≢◌, ℕ, ◌+◌, ◌-◌, ◌*◌, ◌<◌, ◌≤◌, ◌⊎◌, ◌==◌, min, max, Bool, true, false}
+use Rattle.std.specs.Prelude.{◌≡◌, ◌≢◌, ℕ, ◌+◌, ◌-◌, ◌*◌, ◌<◌, ◌≤◌, ◌⊎◌, ◌==◌, min, max, Bool, true, false, List, [], ◌∷◌}
 use Rattle.sg_words.specs.Words.{put}
 use Rattle.sg_program.specs.declared.program.Statement.{Statement}
 use Rattle.sg_program.specs.declared.program.Statement.TheVariants.{New, NewV, Mature, Collect, Sections}
@@ -77,6 +77,11 @@ placed b name x = placed_in b Young name x
 abbrev pub swept_out : Book → Book
 swept_out b = record b { owed = λ _. false }
 
+-- these blocks are swept: none of them is owed any more, and nothing else changes
+abbrev pub swept_in : Book → List ℕ → Book
+swept_in b [] = b
+swept_in b (j ∷ more) = swept_in (record b { owed = put b.owed j false }) more
+
 -- the object takes n words at the front of k's buffer
 pub record Bumps (b : Book) (k n name : ℕ) (c : Book) : Type 0 where
   pub room : b.from k + n ≤ b.to k
@@ -123,18 +128,6 @@ words_of_class p c = words_for (fields_of p c)
 -- given to a large one yet.
 abbrev pub IsPlaced : Program → Book → ℕ → ℕ → ℕ → Book → Type 0
 IsPlaced p b k n name c = IsSmall n × (Bumps b k n name c ⊎ ((f : ℕ) × Claims p b k n name f c))
-
--- Where the object of a statement of mutator k with this answer stands; no other statement changes the book. A new object's
--- want of room is told at a stop alone, and a pause is made there. By the graph objects have sizes.
-abbrev pub Books : Program → Graph → Book → ℕ → Statement → Answer → Book → Type 0
-Books p g b k (New r class) (At name) c = IsPlaced p b k (words_of_class p class) name c
-Books p g b k (New r class) answer c = ⊥
-Books p g b k (NewV r class count) (At name) c = IsPlaced p b k (words_for count) name c
-Books p g b k (NewV r class count) answer c = ⊥
-Books p g b k (Mature r class) answer c = ⊥
-Books p g b k (Collect major) answer c = ⊥
-Books p g b k Sections answer c = ⊥
-Books p g b k s answer c = c ≡ b
 
 -- the word of what a register, a place of a stack or a field holds: an object's byte address, or that of a byte of it, 0 for
 -- none, or the number
@@ -192,6 +185,33 @@ IsShut p g b j z = ((name : ℕ) × IsInBlock p b name j × (slot_words (g.size 
 pub record IsFirstSlot (p : Program) (g : Graph) (b : Book) (j z i : ℕ) : Type 0 where
   pub open_slot : IsOpenSlot p g b j z i
   pub below : (k : ℕ) → k < j → IsShut p g b k z
+
+-- The new object stands in a slot of z words, the lowest without a standing object of a block that has such slots or is free. Which block it is
+-- depends on which were owed when: of this an epoch's end tells.
+pub record IsSlotted (p : Program) (g : Graph) (b : Book) (z name : ℕ) (c : Book) : Type 0 where
+  pub block : ℕ
+  pub slot : ℕ
+  pub open_slot : IsOpenSlot p g b block z slot
+  pub after : c ≡ placed_in b Old name (slot_at p block z slot)
+
+-- Where the object of a statement of mutator k with this answer stands; no other statement changes the book. A new object's
+-- want of room is told at a stop alone, and a pause is made there. By the graph objects have sizes.
+abbrev pub Books : Program → Graph → Book → ℕ → Statement → Answer → Book → Type 0
+Books p g b k (New r class) (At name) c = IsPlaced p b k (words_of_class p class) name c
+Books p g b k (New r class) answer c = ⊥
+Books p g b k (NewV r class count) (At name) c = IsPlaced p b k (words_for count) name c
+Books p g b k (NewV r class count) answer c = ⊥
+Books p g b k (Mature r class) (At name) c = IsSlotted p g b (slot_words (fields_of p class)) name c
+Books p g b k (Mature r class) answer c = ⊥
+Books p g b k (Collect major) answer c = ⊥
+Books p g b k Sections answer c = ⊥
+Books p g b k s answer c = c ≡ b
+
+-- By the book c as an epoch ends, a search for a slot of z words has no place in block j: the block isn't owed any more; and where it wasn't owed
+-- as the epoch began, an object of another size stands in it, or one stands in each of its slots.
+pub record IsClosed (p : Program) (owed : ℕ → Bool) (g : Graph) (c : Book) (j z : ℕ) : Type 0 where
+  pub swept : c.owed j ≡ false
+  pub shut : owed j ≡ false → IsShut p g c j z
 
 -- no word is of two standing objects, and each young one lies in the nursery
 pub record IsApart (p : Program) (g : Graph) (b : Book) : Type 0 where

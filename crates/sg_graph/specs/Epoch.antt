@@ -1,23 +1,24 @@
 -- An epoch: each mutator that hasn't ended does some of its next statements and then leaves.
-use Rattle.std.specs.Prelude.{◌≡◌, ◌≢◌, ℕ, zero, suc, ◌+◌, ◌<◌, ◌==◌, ◌↔◌, Bool, true, false, not, IsTrue, if◌then◌else◌, List, [], ◌∷◌, ◌++◌, length, map, filter}
+use Rattle.std.specs.Prelude.{◌≡◌, ◌≢◌, ℕ, zero, suc, ◌+◌, ◌<◌, ◌≤◌, ◌==◌, ◌↔◌, Bool, true, false, not, IsTrue, if◌then◌else◌, List, [], ◌∷◌, ◌++◌, length, map, filter}
 use Rattle.std.specs.List.{Contains}
 use Rattle.sg_words.specs.Address.{byte_at}
 use Rattle.sg_words.specs.Lists.{Pairwise}
 use Rattle.sg_program.specs.declared.program.Statement.{Statement}
-use Rattle.sg_program.specs.declared.program.Statement.TheVariants.{New, NewV}
+use Rattle.sg_program.specs.declared.program.Statement.TheVariants.{New, NewV, Mature}
 use Rattle.sg_program.specs.declared.program.Program.{Program}
 use Rattle.sg_program.specs.declared.answers.Answer.{Answer}
 use Rattle.sg_program.specs.declared.answers.Answer.TheVariants.{At, Nil, Null, Number, Fine, Yes, No, Field, Full}
 use Rattle.sg_program.specs.declared.answers.Leave.{Leave}
 use Rattle.sg_program.specs.declared.answers.Leave.TheVariants.{Ended, Yield, Wants}
 use Rattle.sg_program.specs.declared.answers.Request.{Request}
-use Rattle.sg_program.specs.declared.answers.Request.TheVariants.{Need}
+use Rattle.sg_program.specs.declared.answers.Request.TheVariants.{Need, Slot}
 use Rattle.sg_graph.specs.declared.reports.Part.{Part}
 use Rattle.sg_graph.specs.declared.reports.EpochReport.{EpochReport}
-use Rattle.sg_program.specs.Scripts.{script_of, words_for, IsSmall, IsCollecting}
+use Rattle.sg_words.specs.Reach.{AreDistinct}
+use Rattle.sg_program.specs.Scripts.{script_of, fields_of, words_for, IsSmall, IsCollecting}
 use Rattle.sg_graph.specs.Graph.{Graph, Mutator, Ref}
 use Rattle.sg_graph.specs.Statements.{Does}
-use Rattle.sg_graph.specs.Book.{Book, Books, HasNoPlace, words_of_class, IsSoundBook}
+use Rattle.sg_graph.specs.Book.{Book, Old, Books, HasNoPlace, words_of_class, slot_words, block_at, swept_in, IsClosed, IsSoundBook}
 
 -- mutator `by` did its next statement and got this answer, in which a name stands for an address
 pub record Said : Type 0 where
@@ -55,10 +56,12 @@ by_address b Field = Field
 by_address b Full = Full
 
 -- Which statement asks for what: a small new object asks for its words, where neither the buffer nor, as the epoch ends, any
--- fragment has them, and a large one for nothing yet; a collection, and the question what stands in each section, in any case.
+-- fragment has them, and a large one for nothing yet; one of the major heap asks for a slot; a collection, and the question what stands in each
+-- section, in any case.
 abbrev pub Asks : Program → Book → ℕ → Statement → Request → Type 0
 Asks p b k (New r class) (Need words) = (words ≡ words_of_class p class) × IsSmall words × HasNoPlace b k words
 Asks p b k (NewV r class count) (Need words) = (words ≡ words_for count) × IsSmall words × HasNoPlace b k words
+Asks p b k (Mature r class) (Slot size) = size ≡ slot_words (fields_of p class)
 Asks p b k s request = IsCollecting s request
 
 -- how mutator k leaves: it has ended exactly where no statement is left; else it yields, or its next statement asks for something
@@ -104,17 +107,34 @@ left g = record g { mutator = λ k. parted (g.mutator k) (is_done (g.mutator k).
 abbrev pub AllEnded : Program → Graph → Type 0
 AllEnded p g = (k : ℕ) → k < length p.mutators → (g.mutator k).ended ≡ true
 
+-- the new object with this name, of an epoch that began with so many objects, stands in the major heap
+pub record IsNewOld (count : ℕ) (c : Book) (name : ℕ) : Type 0 where
+  pub new : count < name
+  pub stands : c.stands name ≡ true
+  pub old : c.section name ≡ Old
+
+-- some part is of a mutator that asks for a slot of z words
+abbrev pub AsksSlot : List Part → ℕ → Type 0
+AsksSlot parts z = (part : Part) × Contains parts part × (part.leave ≡ Wants (Slot z))
+
 -- Epoch number e leads from g and b to h and c, and this is its report: this order of whole statements explains every answer,
--- each mutator left as it may, and the book is sound. `swept` are the blocks that were swept in it: none yet.
+-- each mutator left as it may, and the book is sound. `swept` are the blocks that mutators swept in it, in no order.
 pub record IsEpoch (p : Program) (e : ℕ) (g : Graph) (b : Book) (order : List Said) (swept : List ℕ) (report : EpochReport) (h : Graph) (c : Book) : Type 0 where
   pub going : ¬ AllEnded p g
   pub last : Graph
-  pub explains : Explains p g b order last c
+  pub book : Book
+  pub explains : Explains p g b order last book
   pub after : h ≡ left last
   pub number : report.number ≡ e
   pub parts : Pairwise (IsPart p g order last c) (running p g) report.parts
   -- who yields does so since another one asks
   pub yields : (part : Part) → Contains report.parts part → part.leave ≡ Yield → SomeAsks report.parts
   pub ends : IsTrue report.last ↔ AllEnded p h
-  pub none : swept ≡ []
+  -- what was swept had been owed, and was swept once
+  pub sweeps : c ≡ swept_in book swept
+  pub were_owed : (j : ℕ) → Contains swept j → (j < p.config.blocks) × (b.owed j ≡ true)
+  pub once : AreDistinct swept
+  -- no block below a new object of the major heap has a place for it as the epoch ends, and where a slot is asked for, no block has one
+  pub lowest : (n j : ℕ) → IsNewOld g.count c n → block_at p j + 256 ≤ c.address n → IsClosed p b.owed last c j (slot_words (last.size n))
+  pub searched : (z j : ℕ) → AsksSlot report.parts z → j < p.config.blocks → IsClosed p b.owed last c j z
   pub sound : IsSoundBook p h c

@@ -114,7 +114,7 @@ pub record IsWithinLimits (p : Program) : Type 0 where
 abbrev pub IsBuilt : Program → Statement → Type 0
 IsBuilt p (New r class) = kind_of p class ≢ Ephemeron
 IsBuilt p (NewV r class count) = count ≤ most_fields
-IsBuilt p (Mature r class) = ⊥
+IsBuilt p (Mature r class) = kind_of p class ≢ Ephemeron
 IsBuilt p (WSet w r long) = ⊥
 IsBuilt p (WGet r w) = ⊥
 IsBuilt p (Final r) = ⊥

@@ -1,10 +1,10 @@
 -- A program's scripts, and the shapes of its classes.
-use Rattle.std.specs.Prelude.{◌≡◌, ℕ, zero, suc, ◌+◌, ◌<◌, ◌≤◌, Bool, true, false, length, Option, Some, None, List, [], ◌∷◌, ◌++◌, slice_get}
+use Rattle.std.specs.Prelude.{◌≡◌, ℕ, zero, suc, ◌+◌, ◌<◌, ◌≤◌, ◌⊎◌, Bool, true, false, length, Option, Some, None, List, [], ◌∷◌, ◌++◌, slice_get}
 use Rattle.std.specs.List.{flat_map, sum_by, count_by}
 use Rattle.sg_program.specs.declared.program.Statement.{Statement}
 use Rattle.sg_program.specs.declared.program.Statement.TheVariants.{New, NewV, Mature, Final, Collect, Sections}
 use Rattle.sg_program.specs.declared.answers.Request.{Request}
-use Rattle.sg_program.specs.declared.answers.Request.TheVariants.{Need, Minor, Major, Sections as AllSections}
+use Rattle.sg_program.specs.declared.answers.Request.TheVariants.{Need, Slot, Minor, Major, Sections as AllSections}
 use Rattle.sg_program.specs.declared.program.Item.{Item, fold-Item}
 use Rattle.sg_program.specs.declared.program.Item.TheOpen.{Item-F, One, Repeat}
 use Rattle.sg_program.specs.declared.program.Script.{Script}
@@ -15,6 +15,7 @@ use Rattle.sg_desc.specs.declared.shapes.Descriptor.{Descriptor}
 use Rattle.sg_desc.specs.declared.shapes.Descriptor.TheVariants.{PtrFree}
 use Rattle.sg_program.specs.Limits.{most_fields}
 use Rattle.sg_desc.specs.Shapes.{is_vector}
+use Rattle.sg_words.specs.Blocks.{slot_size}
 
 -- the list this many times, one after another
 abbrev pub repeated : {A : Type 0} → ℕ → List A → List A
@@ -100,24 +101,40 @@ IsMaking (New r class) = Unit {0}
 IsMaking (NewV r class count) = Unit {0}
 IsMaking s = ⊥
 
+-- the statement makes an object in a slot of the major heap
+abbrev pub IsMature : Statement → Type 0
+IsMature (Mature r class) = Unit {0}
+IsMature s = ⊥
+
+-- the statement makes an object
+abbrev pub MakesObject : Statement → Type 0
+MakesObject s = IsMaking s ⊎ IsMature s
+
 -- the register that gets the object, its class, its fields and its words
 abbrev pub made_in : Statement → ℕ
 made_in (New r class) = r
 made_in (NewV r class count) = r
+made_in (Mature r class) = r
 made_in s = 0
 
 abbrev pub made_class : Statement → ℕ
 made_class (New r class) = class
 made_class (NewV r class count) = class
+made_class (Mature r class) = class
 made_class s = 0
 
 abbrev pub made_fields : Program → Statement → ℕ
 made_fields p (New r class) = fields_of p class
 made_fields p (NewV r class count) = count
+made_fields p (Mature r class) = fields_of p class
 made_fields p s = 0
 
 abbrev pub made_words : Program → Statement → ℕ
 made_words p s = words_for (made_fields p s)
+
+-- the words of a slot for it: the least size class that holds it
+abbrev pub made_slot : Program → Statement → ℕ
+made_slot p s = slot_size (made_words p s)
 
 -- the statement asks for this whenever it is begun: a collection, or what stands in each section
 abbrev pub IsCollecting : Statement → Request → Type 0
@@ -126,10 +143,11 @@ IsCollecting (Collect true) Major = Unit {0}
 IsCollecting Sections AllSections = Unit {0}
 IsCollecting s request = ⊥
 
--- which request a statement makes: room for the object that it makes, where there is none, or what it asks for in any case
+-- which request a statement makes: room for the object that it makes, or a slot for it, where there is none; or what it asks for in any case
 abbrev pub IsRequestOf : Program → Statement → Request → Type 0
 IsRequestOf p (New r class) (Need words) = words ≡ made_words p (New r class)
 IsRequestOf p (NewV r class count) (Need words) = words ≡ made_words p (NewV r class count)
+IsRequestOf p (Mature r class) (Slot size) = size ≡ made_slot p (Mature r class)
 IsRequestOf p s request = IsCollecting s request
 
 -- the class of a statement that makes an object is one of the program's
