@@ -1,9 +1,9 @@
 -- Laws of the definitions: that they mean what their names say.
-use Rattle.std.specs.Prelude.{◌≡◌, ◌≢◌, ℕ, ◌+◌, ◌^◌, ◌<◌, ◌≤◌, ◌⊎◌, ◌↔◌, Bool, true, false, Some, List, [], ◌∷◌, ◌++◌, map}
+use Rattle.std.specs.Prelude.{◌≡◌, ◌≢◌, ℕ, ◌+◌, ◌^◌, ◌<◌, ◌≤◌, ◌⊎◌, ◌↔◌, Bool, true, false, Option, Some, List, [], ◌∷◌, ◌++◌, map}
 use Rattle.std.specs.List.{Contains, AllByRecursion}
 use Rattle.std.specs.Int.{bit_at}
 use Rattle.std.specs.Int.Bits.{bit_or}
-use Rattle.sg_words.specs.Blocks.{slots, IsSizeClass}
+use Rattle.sg_words.specs.Blocks.{slots, IsSizeClass, IsOwing}
 use Rattle.sg_words.specs.Words.{put}
 use Rattle.sg_words.specs.declared.steps.BlockWord.{BlockWord}
 use Rattle.sg_words.specs.declared.steps.BlockWord.TheVariants.{Free, Swept}
@@ -14,7 +14,7 @@ use Rattle.sg_program.specs.declared.program.Statement.{Statement}
 use Rattle.sg_program.specs.Scripts.{kind_of, made_words, IsSmall, IsRequestOf}
 use Rattle.sg_program.specs.declared.answers.Answer.TheVariants.{Full}
 use Rattle.sg_program.specs.declared.answers.Request.{Request}
-use Rattle.sg_program.specs.declared.answers.Request.TheVariants.{Need}
+use Rattle.sg_program.specs.declared.answers.Request.TheVariants.{Need, Slot}
 use Rattle.sg_program.specs.declared.answers.Leave.{Leave}
 use Rattle.sg_graph.specs.declared.reports.Part.{Part}
 use Rattle.sg_graph.specs.declared.reports.EpochReport.{EpochReport}
@@ -26,7 +26,8 @@ use Rattle.sg_graph.specs.Blocks.{IsOldAt, AreBlocks}
 use Rattle.sg_graph.specs.Swept.{AreSwept, AreAtRest, AreInhabited}
 use Rattle.sg_graph.specs.Heap.{Owner, Of}
 use Rattle.sg_graph.specs.Book.{Book, Section, Old, block_at, slot_at, IsApart}
-use Rattle.sg_graph.specs.Epoch.{Said, Turn, IsEpoch}
+use Rattle.sg_graph.specs.Epoch.{Said, Turn, IsNewOld, IsEpoch}
+use Rattle.sg_graph.specs.Turns.{Position, Board, SearchesFrom}
 use Rattle.sg_graph.specs.Pause.{IsTarget, IsReached, IsPause, IsPointedInto, IsRoot}
 use Rattle.sg_graph.specs.Minor.{IsMinorPause}
 use Rattle.sg_graph.specs.declared.reports.MajorReport.{MajorReport}
@@ -46,15 +47,19 @@ pub record EndsBehindLast : Type 0 where
 abbrev pub leaves_of : EpochReport → List Leave
 leaves_of report = map (λ (part : Part). part.leave) report.parts
 
--- one order of whole statements, from one graph and one book on, leads to one graph and one book; and it has one report, where the
--- mutators leave in one way
+-- the old objects behind the first `count` names have the same addresses in both books
+abbrev pub AgreeOnNew : ℕ → Book → Book → Type 0
+AgreeOnNew count c d = (name : ℕ) → IsNewOld count c name → c.address name ≡ d.address name
+
+-- One order of whole statements, from one graph and one book on, leads to one graph; with the same places for the new objects of the major heap
+-- and the same blocks swept it leads to one book; and then it has one report, where the mutators leave in one way.
 pub record HasOneReport : Type 0 where
   pub graph : (p : Program) (e : ℕ) (g : Graph) (b : Book) (order : List Said) (swept swept' : List ℕ) (r s : EpochReport)
       (h i : Graph) (c d : Book) → IsEpoch p e g b order swept r h c → IsEpoch p e g b order swept' s i d → h ≡ i
-  pub book : (p : Program) (e : ℕ) (g : Graph) (b : Book) (order : List Said) (swept swept' : List ℕ) (r s : EpochReport)
-      (h i : Graph) (c d : Book) → IsEpoch p e g b order swept r h c → IsEpoch p e g b order swept' s i d → c ≡ d
+  pub book : (p : Program) (e : ℕ) (g : Graph) (b : Book) (order : List Said) (swept : List ℕ) (r s : EpochReport)
+      (h i : Graph) (c d : Book) → IsEpoch p e g b order swept r h c → IsEpoch p e g b order swept s i d → AgreeOnNew g.count c d → c ≡ d
   pub report : (p : Program) (e : ℕ) (g : Graph) (b : Book) (order : List Said) (swept swept' : List ℕ) (r s : EpochReport) (h i : Graph) (c d : Book) →
-      IsEpoch p e g b order swept r h c → IsEpoch p e g b order swept' s i d → leaves_of r ≡ leaves_of s → r ≡ s
+      IsEpoch p e g b order swept r h c → IsEpoch p e g b order swept' s i d → AgreeOnNew g.count c d → leaves_of r ≡ leaves_of s → r ≡ s
 
 -- what an ambiguous word points into stands after a minor pause, where it stood
 pub record KeepsPointedInto : Type 0 where
@@ -88,6 +93,10 @@ abbrev pub needed_by : Request → List ℕ → List ℕ
 needed_by (Need words) more = words ∷ more
 needed_by request more = more
 
+-- No request is one for a slot: then a place is a fragment's.
+abbrev pub AsksNoSlot : List Asked → Type 0
+AsksNoSlot requests = (asked : Asked) (size : ℕ) → Contains requests asked → asked.request ≢ Slot size
+
 -- the words for which requests ask, in order
 abbrev pub needs_of : List Asked → List ℕ
 needs_of [] = []
@@ -106,11 +115,55 @@ pub record AreAsking (p : Program) (g : Graph) (requests : List Asked) : Type 0 
   pub each : AllByRecursion (IsAsking p g) requests
   pub once : AreDistinct (map (λ (asked : Asked). asked.by) requests)
 
--- Placing the requests by fragments alone leaves one without a place exactly where giving the words for which they ask finds no room.
+-- Where no slot is asked for, placing the requests by fragments alone leaves one without a place exactly where giving the words for which they ask
+-- finds no room.
 abbrev pub PlacesByWords : Type 0
 PlacesByWords =
-    (p : Program) (g : Graph) (b : Book) (requests : List Asked) → AreAsking p g requests →
+    (p : Program) (g : Graph) (b : Book) (requests : List Asked) → AreAsking p g requests → AsksNoSlot requests →
     LacksOne p InFragments g b requests ↔ LacksWords b.fragments b.limit b.next (needs_of requests)
+
+-- slot i of z words is the lowest clear one of a block with this word and this occupancy, which is free or has such slots
+pub record IsClearAt (state : BlockWord) (used z i : ℕ) : Type 0 where
+  pub sized : (state ≡ Free) ⊎ (state ≡ Swept z)
+  pub fits : i < slots z
+  pub clear : bit_at used i ≡ 0
+  pub lowest : (j : ℕ) → j < i → bit_at used j ≡ 1
+
+-- and no slot of z words is
+abbrev pub HasNoClear : BlockWord → ℕ → ℕ → Type 0
+HasNoClear state used z = (i : ℕ) → ¬ IsClearAt state used z i
+
+-- giving each of these sizes in turn the lowest clear slot of the first block that has one, one finds no slot
+pub data LacksSlots (blocks : ℕ) : (ℕ → BlockWord) → (ℕ → ℕ) → List ℕ → Type 0 where
+  NoSlot : (state : ℕ → BlockWord) (used : ℕ → ℕ) (z : ℕ) (more : List ℕ) → ((c : ℕ) → c < blocks → HasNoClear (state c) (used c) z) →
+      LacksSlots blocks state used (z ∷ more)
+  SlotBefore : (state : ℕ → BlockWord) (used : ℕ → ℕ) (z : ℕ) (more : List ℕ) (c i : ℕ) → c < blocks → IsClearAt (state c) (used c) z i →
+      ((d : ℕ) → d < c → HasNoClear (state d) (used d) z) →
+      LacksSlots blocks (put state c (Swept z)) (put used c (bit_or (used c) (2 ^ i))) more → LacksSlots blocks state used (z ∷ more)
+
+-- the size of the slot for which a request asks, before these
+abbrev pub sized_by : Request → List ℕ → List ℕ
+sized_by (Slot size) more = size ∷ more
+sized_by request more = more
+
+-- the sizes of the slots for which requests ask, in order
+abbrev pub sizes_of : List Asked → List ℕ
+sizes_of [] = []
+sizes_of (asked ∷ more) = sized_by asked.request (sizes_of more)
+
+-- no block is to be swept or being swept
+abbrev pub AreUnowed : Program → (ℕ → BlockWord) → Type 0
+AreUnowed p state = (c s : ℕ) → c < p.config.blocks → IsOwing (state c) s → ⊥
+
+-- Where no block is owed, placing the requests by fragments alone leaves one without a place exactly where giving the words for which they ask finds
+-- no room, or giving the slots finds none.
+abbrev pub PlacesByRoom : Type 0
+PlacesByRoom =
+    (p : Program) (g : Graph) (b : Book) (marks used word : ℕ → ℕ) (state : ℕ → BlockWord) (owner : ℕ → Owner) (requests : List Asked) →
+    AreAsking p g requests → ((name : ℕ) → b.stands name ≡ true → name ≤ g.count) →
+    AreBlocks p marks state used word g.size b.stands b.address b.section b.owed owner → AreUnowed p state →
+    LacksOne p InFragments g b requests ↔
+    (LacksWords b.fragments b.limit b.next (needs_of requests) ⊎ LacksSlots p.config.blocks state used (sizes_of requests))
 
 -- the roots of a minor pause reach only objects of the graph
 abbrev pub ReachesObjects : Program → Graph → Book → List ℕ → Type 0
@@ -136,10 +189,15 @@ pub record QuietPause : Type 0 where
       ((n : ℕ) → kept n ≡ true → (1 ≤ n) × (n ≤ g.count)) →
       ((n : ℕ) → n ≢ 0 → kept n ≡ true ↔ IsReached p g (IsMajorRoot p g b ambiguous) n) → IsPause p g (IsMajorRoot p g b ambiguous) g kept
 
--- A mutator's next statement has one answer, and so leads to one graph and one book.
+-- A mutator's next statement has one answer, and so leads to one graph; with the same place for a new object of the major heap, to one book.
 abbrev pub HasOneTurn : Type 0
 HasOneTurn = (p : Program) (g : Graph) (b : Book) (said said' : Said) (h h' : Graph) (c c' : Book) → Turn p g b said h c → Turn p g b said' h' c' →
-    said.by ≡ said'.by → (said ≡ said') × (h ≡ h') × (c ≡ c')
+    said.by ≡ said'.by → AgreeOnNew g.count c c' → (said ≡ said') × (h ≡ h') × (c ≡ c')
+
+-- a search for a slot of a size class stops in one way
+abbrev pub HasOneSearch : Type 0
+HasOneSearch = (p : Program) (x : Board) (z j : ℕ) (found found' : Option Position) → IsSizeClass z → SearchesFrom p x z j found →
+    SearchesFrom p x z j found' → found ≡ found'
 
 -- a run that follows a list of turns is a run
 pub record RunsByTurns : Type 0 where

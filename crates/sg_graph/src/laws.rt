@@ -1,4 +1,4 @@
-ghost use Rattle.sg_graph.specs.Laws.{BlocksAreSwept, BlocksGo, EndsBehindLast, FullIsLast, HasOneReport, HasOneTurn, KeepsInMajor, KeepsPointedInto, PlacesByWords, QuietPause, RunsByTurns};
+ghost use Rattle.sg_graph.specs.Laws.{BlocksAreSwept, BlocksGo, EndsBehindLast, FullIsLast, HasOneReport, HasOneSearch, HasOneTurn, KeepsInMajor, KeepsPointedInto, PlacesByRoom, PlacesByWords, QuietPause, RunsByTurns};
 
 /// The law of the end: a run ends behind the epoch that is told to be the last one. It does nothing; its contract is the
 /// law.
@@ -6,8 +6,9 @@ pub fn ends_behind_last()
     ensures { EndsBehindLast }
 {}
 
-/// The law of one report: one order of whole statements, from one graph and one book on, has one report, and leads to
-/// one graph and one book. It does nothing; its contract is the law.
+/// The law of one report: one order of whole statements, from one graph and one book on, leads to one graph; and with the same places
+/// for the new objects of the major heap it has one report, and with the same blocks swept it leads to one book. It does nothing;
+/// its contract is the law.
 pub fn one_report()
     ensures { HasOneReport }
 {}
@@ -17,10 +18,16 @@ pub fn full_is_last()
     ensures { FullIsLast }
 {}
 
-/// The law of placing by words: whether the fragments have room for all requests is told by the words for which they ask. It does
-/// nothing; its contract is the law.
+/// The law of placing by words: where no slot is asked for, whether the fragments have room for all requests is told by the words for
+/// which they ask. It does nothing; its contract is the law.
 pub fn places_by_words()
     ensures { PlacesByWords }
+{}
+
+/// The law of placing by room: where no block is owed, whether all requests find a place is told by the words and by the slots for
+/// which they ask. It does nothing; its contract is the law.
+pub fn places_by_room()
+    ensures { PlacesByRoom }
 {}
 
 /// The law of what is pointed into: it stands after a minor pause, where it stood. It does nothing; its contract is the
@@ -35,10 +42,15 @@ pub fn quiet_pause()
     ensures { QuietPause }
 {}
 
-/// The law of one turn: a mutator's next statement has one answer, and so leads to one graph and one book. It does nothing;
-/// its contract is the law.
+/// The law of one turn: a mutator's next statement has one answer, and so leads to one graph, and with the same place for a new object
+/// of the major heap to one book. It does nothing; its contract is the law.
 pub fn one_turn()
     ensures { HasOneTurn }
+{}
+
+/// The law of one search: a search for a slot stops in one way. It does nothing; its contract is the law.
+pub fn one_search()
+    ensures { HasOneSearch }
 {}
 
 /// The law of turns: a run that follows a list of turns is a run. It does nothing; its contract is the law.
