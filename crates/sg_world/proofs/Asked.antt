@@ -15,7 +15,7 @@ use Rattle.sg_graph.specs.declared.reports.MajorReport.{MajorReport}
 use Rattle.sg_graph.specs.declared.reports.Service.{Service}
 use Rattle.sg_graph.specs.Graph.{Graph}
 use Rattle.sg_graph.specs.Book.{Book}
-use Rattle.sg_graph.specs.Laws.{needed_by, needs_of, IsAsking, AreAsking}
+use Rattle.sg_graph.specs.Laws.{needed_by, needs_of, sized_by, sizes_of, IsAsking, AreAsking}
 use Rattle.sg_graph.specs.Stop.{Asked, Placing, InFragments, InSlotsToo, wants_blocks, some_wants, placing_behind, Places, IsServed, Serves, IsAnswered, LacksOne}
 use Rattle.sg_graph.specs.Stop.LacksOne.{ThisOne, OneBehind}
 use Rattle.sg_heap.specs.Holding.{OwesNothing}
@@ -57,6 +57,17 @@ needed_append AllSections xs ys = refl
 pub needs_more : (requests : List Asked) (a : Asked) → needs_of (requests ++ a ∷ []) ≡ needs_of requests ++ needed_by a.request []
 needs_more [] a = refl
 needs_more (b ∷ requests) a = ap (needed_by b.request) (needs_more requests a) ∙ needed_append b.request (needs_of requests) (needed_by a.request [])
+
+sized_append : (request : Request) (xs ys : List ℕ) → sized_by request (xs ++ ys) ≡ sized_by request xs ++ ys
+sized_append (Need words) xs ys = refl
+sized_append (Slot size) xs ys = refl
+sized_append Minor xs ys = refl
+sized_append Major xs ys = refl
+sized_append AllSections xs ys = refl
+
+pub sizes_more : (requests : List Asked) (a : Asked) → sizes_of (requests ++ a ∷ []) ≡ sizes_of requests ++ sized_by a.request []
+sizes_more [] a = refl
+sizes_more (b ∷ requests) a = ap (sized_by b.request) (sizes_more requests a) ∙ sized_append b.request (sizes_of requests) (sized_by a.request [])
 
 abbrev by_of : Asked → ℕ
 by_of asked = asked.by
@@ -123,24 +134,27 @@ wants_in wants (a ∷ requests) more q = ap (λ x. wants a.request || x) (wants_
 wants_here : (wants : Request → Bool) (a : Asked) (more : List Asked) → wants a.request ≡ true → some_wants wants (a ∷ more) ≡ true
 wants_here wants a more q = ap (λ x. x || some_wants wants more) q
 
-wants_at : (os : List Mutating) (k : ℕ) (o : Mutating) (statement : Statement) → slice_get os k ≡ Some o → o.stage ≡ Asking statement AllSections →
-    IsTrue (some_wants wants_blocks (requests_of os))
-wants_at [] k o statement e stands = absurd (cc e)
-wants_at (x ∷ os) zero o statement e stands =
+wants_at : (os : List Mutating) (k : ℕ) (o : Mutating) (statement : Statement) (request : Request) → slice_get os k ≡ Some o →
+    o.stage ≡ Asking statement request → wants_blocks request ≡ true → IsTrue (some_wants wants_blocks (requests_of os))
+wants_at [] k o statement request e stands wanted = absurd (cc e)
+wants_at (x ∷ os) zero o statement request e stands wanted =
     let same : x ≡ o = same_Some x o e in
     subst (λ (xs : List Asked). some_wants wants_blocks (xs ++ requests_of os) ≡ true) (sym (ap (asked_of x) (ap (λ (y : Mutating). y.stage) same ∙ stands)))
-    (wants_here wants_blocks (record { by = x.number; statement = x.first + length x.told; request = AllSections }) (requests_of os) refl)
-wants_at (x ∷ os) (suc k) o statement e stands = wants_in wants_blocks (asked_of x x.stage) (requests_of os) (wants_at os k o statement e stands)
+    (wants_here wants_blocks (record { by = x.number; statement = x.first + length x.told; request = request }) (requests_of os) wanted)
+wants_at (x ∷ os) (suc k) o statement request e stands wanted =
+    wants_in wants_blocks (asked_of x x.stage) (requests_of os) (wants_at os k o statement request e stands wanted)
 
--- who asks for the sections finds no block owed
-tells_by : (p : Program) (c : Book) (stage : Stage) → ((statement : Statement) → stage ≡ Asking statement AllSections → OwesNothing p c) → CanTell p c stage
-tells_by p c (Asking statement AllSections) owes = owes statement refl
+-- who asks for a slot or for the sections finds no block owed
+tells_by : (p : Program) (c : Book) (stage : Stage) →
+    ((statement : Statement) (request : Request) → stage ≡ Asking statement request → wants_blocks request ≡ true → OwesNothing p c) → CanTell p c stage
+tells_by p c (Asking statement AllSections) owes = owes statement AllSections refl refl
+tells_by p c (Asking statement (Slot size)) owes = owes statement (Slot size) refl refl
 tells_by p c (Asking statement request) owes = tt
 tells_by p c stage owes = tt
 
 pub can_tell : (p : Program) (c : Book) (os : List Mutating) (k : ℕ) (o : Mutating) → slice_get os k ≡ Some o →
     (IsTrue (some_wants wants_blocks (requests_of os)) → OwesNothing p c) → CanTell p c o.stage
-can_tell p c os k o e owes = tells_by p c o.stage (λ statement stands. owes (wants_at os k o statement e stands))
+can_tell p c os k o e owes = tells_by p c o.stage (λ statement request stands wanted. owes (wants_at os k o statement request e stands wanted))
 
 -- where fragments have room for all, slots aren't looked for
 places_too : (p : Program) (g : Graph) (b : Book) (s : Statement) (answer : Answer) (c : Book) → (answer ≡ Full → ⊥) → Places p InFragments g b s answer c →

@@ -1,14 +1,27 @@
 -- The steps of a stop before its answers.
 use Rattle.std.proofs.Common.{◌≡◌, ◌≢◌, ℕ, Bool, true, false, Option, Some, None, List, [], inl, inr, sym, refl, ap, ◌∙◌, subst, ◌↔◌, ◌⊎◌}
-use Rattle.std.specs.Prelude.{is_some, IsTrue}
+use Rattle.std.specs.Prelude.{is_some, IsTrue, ◌||◌}
+use Rattle.std.specs.List.{AllByRecursion}
+use Rattle.std.proofs.lemmas.Bool.{cases_Bool}
+use Rattle.sg_words.specs.Blocks.{IsSizeClass}
+use Rattle.sg_words.specs.declared.steps.BlockWord.{BlockWord}
+use Rattle.sg_words.proofs.Blocks.{slot_size-class}
+use Rattle.sg_words.proofs.Everywhere.{contained}
+use Rattle.sg_program.specs.declared.program.Statement.{Statement}
+use Rattle.sg_program.specs.declared.program.Statement.TheVariants.{Mature}
+use Rattle.sg_program.specs.declared.answers.Request.{Request}
+use Rattle.sg_program.specs.declared.answers.Request.TheVariants.{Need, Slot, Minor, Major, Sections as AllSections}
+use Rattle.sg_program.specs.Scripts.{IsRequestOf, made_words}
 use Rattle.sg_program.specs.declared.program.Program.{Program}
 use Rattle.sg_graph.specs.declared.reports.MinorReport.{MinorReport}
 use Rattle.sg_graph.specs.declared.reports.MajorReport.{MajorReport}
 use Rattle.sg_graph.specs.Graph.{Graph}
 use Rattle.sg_graph.specs.Book.{Book, swept_out}
-use Rattle.sg_graph.specs.Laws.{needs_of, AreAsking, LacksWords, PlacesByWords}
+use Rattle.sg_graph.specs.Laws.{sized_by, sizes_of, AsksNoSlot, IsAsking, AreAsking, LacksWords, LacksSlots, PlacesByWords, PlacesByRoom}
+use Rattle.sg_graph.specs.Laws.LacksSlots.{NoSlot, SlotBefore}
 use Rattle.sg_graph.specs.Stop.{Asked, InFragments, LacksOne, some_wants, wants_minor, wants_major, wants_blocks, WantsMinor, WantsMajor, WantsBlocks, MakesMinor, MakesMajor, MakesRoom}
 use Rattle.sg_space.specs.Space.{Contents}
+use Rattle.sg_space.specs.Standing.{word, block_in, used_in, marks_in}
 use Rattle.sg_heap.specs.Holding.{HoldsHeap, OwesNothing}
 use Rattle.sg_minor.specs.Law.{HasPaused}
 use Rattle.sg_major.specs.Law.{HasCollected}
@@ -19,17 +32,100 @@ use Rattle.sg_world.specs.declared.wants.Wants.{Wants}
 use Rattle.sg_world.specs.Stopping.{AreWanted}
 use Rattle.sg_world.specs.Steps.{HasMadeMinor, HasMadeMajor, HasMadeRoom, HasHalted}
 
--- what the code tells of the fragments is what the definition says of the requests
-module _ (law : PlacesByWords) (p : Program) (g : Graph) (b : Book) (requests : List Asked) (asking : AreAsking p g requests) (wants : Wants)
+-- what the code tells of fragments and blocks
+abbrev pub LacksRoom : Program → Book → Contents → Wants → Type 0
+LacksRoom p b s wants = LacksWords b.fragments b.limit b.next wants.needs.items ⊎ LacksSlots p.config.blocks (block_in s) (used_in s) wants.sizes.items
+
+-- the slots for which requests ask have sizes of classes
+class_of : (p : Program) (s : Statement) (request : Request) (more : List ℕ) → IsRequestOf p s request → AllByRecursion IsSizeClass more →
+    AllByRecursion IsSizeClass (sized_by request more)
+class_of p (Mature r class) (Slot size) more asks all = (subst IsSizeClass (sym asks) (slot_size-class (made_words p (Mature r class))), all)
+class_of p s (Slot size) more asks all = absurd asks
+class_of p s (Need words) more asks all = all
+class_of p s Minor more asks all = all
+class_of p s Major more asks all = all
+class_of p s AllSections more asks all = all
+
+classes_of : (p : Program) (g : Graph) (requests : List Asked) → AllByRecursion (IsAsking p g) requests → AllByRecursion IsSizeClass (sizes_of requests)
+classes_of p g [] asking = tt
+classes_of p g (asked ∷ more) (first, rest) = class_of p first.statement asked.request (sizes_of more) first.asks (classes_of p g more rest)
+
+pub wanted_classes : (p : Program) (g : Graph) (requests : List Asked) (wants : Wants) → AreAsking p g requests → AreWanted requests wants →
+    AllByRecursion IsSizeClass wants.sizes.items
+wanted_classes p g requests wants asking are = subst (AllByRecursion IsSizeClass) (sym are.sizes) (classes_of p g requests asking.each)
+
+-- where no block is owed, it is what the definition says of the requests
+pub told_by_room : PlacesByRoom → (p : Program) (g : Graph) (b : Book) (s : Contents) (requests : List Asked) (wants : Wants) → AreAsking p g requests →
+    AreWanted requests wants → HoldsHeap p s g b → OwesNothing p b → LacksOne p InFragments g b requests ↔ LacksRoom p b s wants
+told_by_room law p g b s requests wants asking are holds owes =
+    subst (λ (sizes : List ℕ). LacksOne p InFragments g b requests ↔
+    (LacksWords b.fragments b.limit b.next wants.needs.items ⊎ LacksSlots p.config.blocks (block_in s) (used_in s) sizes)) (sym are.sizes)
+    (subst (λ (needs : List ℕ). LacksOne p InFragments g b requests ↔
+    (LacksWords b.fragments b.limit b.next needs ⊎ LacksSlots p.config.blocks (block_in s) (used_in s) (sizes_of requests))) (sym are.needs)
+    (law p g b (marks_in s) (used_in s) (word s) (block_in s) holds.1.0 requests asking (λ name stands. holds.1.1.objects.given name stands)
+    holds.1.2.blocks (λ c z l e. let q : false ≡ true = sym (owes c l) ∙ (holds.1.2.blocks.each c l).owing z e in cc q)))
+
+-- where no request wants blocks, none is for a slot
+none_wants : (requests : List Asked) → some_wants wants_blocks requests ≡ false → AllByRecursion (λ (asked : Asked). wants_blocks asked.request ≡ false) requests
+none_wants [] none = tt
+none_wants (asked ∷ more) none = let both = or_none (wants_blocks asked.request) (some_wants wants_blocks more) none in (both.0, none_wants more both.1)
+  where
+    or_none : (x y : Bool) → (x || y) ≡ false → (x ≡ false) × (y ≡ false)
+    or_none true y e = absurd (cc e)
+    or_none false y e = (refl, e)
+
+no_slot : (requests : List Asked) → some_wants wants_blocks requests ≡ false → AsksNoSlot requests
+no_slot requests none asked size there e =
+    let q : false ≡ true = sym (contained (λ (asked : Asked). wants_blocks asked.request ≡ false) requests asked (none_wants requests none) there)
+    ∙ ap wants_blocks e in cc q
+
+size_none : (request : Request) (more : List ℕ) → wants_blocks request ≡ false → sized_by request more ≡ more
+size_none (Need words) more none = refl
+size_none (Slot size) more none = absurd (cc none)
+size_none Minor more none = refl
+size_none Major more none = refl
+size_none AllSections more none = absurd (cc none)
+
+sizes_none : (requests : List Asked) → AllByRecursion (λ (asked : Asked). wants_blocks asked.request ≡ false) requests → sizes_of requests ≡ []
+sizes_none [] none = refl
+sizes_none (asked ∷ more) (first, rest) = size_none asked.request (sizes_of more) first ∙ sizes_none more rest
+
+no_slots : (blocks : ℕ) (state : ℕ → BlockWord) (used : ℕ → ℕ) (sizes : List ℕ) → sizes ≡ [] → LacksSlots blocks state used sizes → ⊥
+no_slots blocks state used sizes none (NoSlot state used z more all) = absurd (cc none)
+no_slots blocks state used sizes none (SlotBefore state used z more c i there clear below rest) = absurd (cc none)
+
+-- behind a major pause blocks are owed: there the words alone tell, since who asks for a slot wants blocks in any case
+module _ (law : PlacesByWords) (p : Program) (g : Graph) (b : Book) (s : Contents) (requests : List Asked) (wants : Wants) (asking : AreAsking p g requests)
     (are : AreWanted requests wants) where
-  abbrev Lacks : Type 0
-  Lacks = LacksWords b.fragments b.limit b.next wants.needs.items
+  by_words : some_wants wants_blocks requests ≡ false → LacksRoom p b s wants → LacksOne p InFragments g b requests
+  by_words none (inl l) = (law p g b requests asking (no_slot requests none)).1 (subst (λ (needs : List ℕ). LacksWords b.fragments b.limit b.next needs) are.needs l)
+  by_words none (inr l) =
+      absurd (no_slots p.config.blocks (block_in s) (used_in s) wants.sizes.items (are.sizes ∙ sizes_none requests (none_wants requests none)) l)
 
-  pub lacks_one : Lacks → LacksOne p InFragments g b requests
-  lacks_one l = (law p g b requests asking).1 (subst (λ (needs : List ℕ). LacksWords b.fragments b.limit b.next needs) are.needs l)
+  pub told_by_words : (IsTrue wants.blocks ⊎ LacksRoom p b s wants) ↔ (IsTrue wants.blocks ⊎ LacksOne p InFragments g b requests)
+  told_by_words = (
+    (λ w. elim w [
+      | inl given ↦ inl given
+      | inr l ↦ elim (cases_Bool (some_wants wants_blocks requests)) [ inl some ↦ inl (are.blocks ∙ some) | inr none ↦ inr (by_words none l) ]
+    ]),
+    (λ w. elim w [
+      | inl given ↦ inl given
+      | inr l ↦ elim (cases_Bool (some_wants wants_blocks requests)) [
+        | inl some ↦ inl (are.blocks ∙ some)
+        | inr none ↦ inr (inl (subst (λ (needs : List ℕ). LacksWords b.fragments b.limit b.next needs) (sym are.needs)
+            ((law p g b requests asking (no_slot requests none)).0 l)))
+      ]
+    ]),
+  )
 
-  pub lacks_words : LacksOne p InFragments g b requests → Lacks
-  lacks_words l = subst (λ (needs : List ℕ). LacksWords b.fragments b.limit b.next needs) (sym are.needs) ((law p g b requests asking).0 l)
+-- what the code tells of the requests, where it is what the definition says
+module _ (p : Program) (g : Graph) (b : Book) (requests : List Asked) (wants : Wants) (are : AreWanted requests wants) (Lacks : Type 0)
+    (told : LacksOne p InFragments g b requests ↔ Lacks) where
+  lacks_one : Lacks → LacksOne p InFragments g b requests
+  lacks_one l = told.1 l
+
+  lacks_words : LacksOne p InFragments g b requests → Lacks
+  lacks_words l = told.0 l
 
   -- a minor pause is wanted
   minor_wanted : (IsTrue wants.minor ⊎ Lacks) → WantsMinor p g b requests

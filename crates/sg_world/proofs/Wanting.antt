@@ -5,14 +5,14 @@ use Rattle.std.proofs.lemmas.List.Concat.{flat_map-append}
 use Rattle.sg_program.specs.declared.answers.Leave.{Leave}
 use Rattle.sg_program.specs.declared.answers.Leave.TheVariants.{Wants as HasAsked}
 use Rattle.sg_program.specs.declared.answers.Request.{Request}
-use Rattle.sg_graph.specs.Laws.{needed_by, needs_of}
+use Rattle.sg_graph.specs.Laws.{needed_by, needs_of, sized_by, sizes_of}
 use Rattle.sg_graph.specs.Stop.{Asked, wants_minor, wants_major, wants_blocks, some_wants}
 use Rattle.sg_actor.specs.declared.mutator.Stage.{Stage}
 use Rattle.sg_actor.specs.declared.mutator.Stage.TheVariants.{Ended, Asking, Yielded}
 use Rattle.sg_actor.specs.State.{Mutating, leave_of}
 use Rattle.sg_world.specs.declared.wants.Wants.{Wants}
 use Rattle.sg_world.specs.Stopping.{asked_of, requests_of, AreWanted}
-use Rattle.sg_world.proofs.Asked.{wants_more, needs_more}
+use Rattle.sg_world.proofs.Asked.{wants_more, needs_more, sizes_more}
 
 -- who leaves with a request asks for it, and nobody else asks
 pub record AsksFor (m : Mutating) (stage : Stage) (request : Request) : Type 0 where
@@ -40,14 +40,17 @@ wants_none requests m stage wants none are =
 -- with one request more
 pub wants_one : (requests : List Asked) (m : Mutating) (stage : Stage) (request : Request) (old new : Wants) → AsksFor m stage request → AreWanted requests old →
     new.minor ≡ (old.minor || wants_minor request) → new.major ≡ (old.major || wants_major request) → new.blocks ≡ (old.blocks || wants_blocks request) →
-    new.needs.items ≡ old.needs.items ++ needed_by request [] → AreWanted (requests ++ asked_of m stage) new
-wants_one requests m stage request old new asks are minor major blocks needs =
+    new.needs.items ≡ old.needs.items ++ needed_by request [] → new.sizes.items ≡ old.sizes.items ++ sized_by request [] →
+    AreWanted (requests ++ asked_of m stage) new
+wants_one requests m stage request old new asks are minor major blocks needs sizes =
     subst (λ (xs : List Asked). AreWanted (requests ++ xs) new) (sym asks.is) (record {
       minor = minor ∙ ap (λ x. x || wants_minor request) are.minor ∙ flag wants_minor;
       major = major ∙ ap (λ x. x || wants_major request) are.major ∙ flag wants_major;
       blocks = blocks ∙ ap (λ x. x || wants_blocks request) are.blocks ∙ flag wants_blocks;
       needs = needs ∙ ap (λ xs. xs ++ needed_by request []) are.needs
           ∙ ap (λ (r : Request). needs_of requests ++ needed_by r []) (sym asks.request_is) ∙ sym (needs_more requests asks.asked);
+      sizes = sizes ∙ ap (λ xs. xs ++ sized_by request []) are.sizes
+          ∙ ap (λ (r : Request). sizes_of requests ++ sized_by r []) (sym asks.request_is) ∙ sym (sizes_more requests asks.asked);
     })
   where
     flag : (wants : Request → Bool) → (some_wants wants requests || wants request) ≡ some_wants wants (requests ++ asks.asked ∷ [])

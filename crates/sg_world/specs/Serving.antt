@@ -3,7 +3,7 @@ use Rattle.std.specs.Prelude.{◌≡◌, ◌≢◌, ℕ, ◌+◌, ◌^◌, ◌<�
 use Rattle.sg_words.specs.Lists.{Pairwise}
 use Rattle.sg_program.specs.declared.program.Statement.{Statement}
 use Rattle.sg_program.specs.declared.program.Program.{Program}
-use Rattle.sg_program.specs.declared.answers.Request.TheVariants.{Sections as AllSections}
+use Rattle.sg_program.specs.declared.answers.Request.TheVariants.{Slot, Sections as AllSections}
 use Rattle.sg_graph.specs.declared.reports.Service.{Service}
 use Rattle.sg_graph.specs.Graph.{Graph}
 use Rattle.sg_graph.specs.Book.{Book}
@@ -28,8 +28,9 @@ pub record IsHolding (p : Program) (s : Contents) (g : Graph) (b : Book) : Type 
   pub plain : IsPlain p g
   pub heap : HoldsHeap p s g b
 
--- what a mutator that stands there asks for can be answered: who asks for the sections finds no block owed
+-- what a mutator that stands there asks for can be answered: who asks for a slot or for the sections finds no block owed
 abbrev pub CanTell : Program → Book → Stage → Type 0
+CanTell p b (Asking statement (Slot size)) = OwesNothing p b
 CanTell p b (Asking statement AllSections) = OwesNothing p b
 CanTell p b stage = Unit {0}
 

@@ -3,7 +3,7 @@ use Rattle.std.specs.Prelude.{◌≡◌, ℕ, ◌+◌, ◌^◌, ◌<◌, true, O
 use Rattle.std.specs.List.{flat_map}
 use Rattle.sg_words.specs.Lists.{Pairwise}
 use Rattle.sg_graph.specs.declared.reports.MinorReport.{MinorReport}
-use Rattle.sg_graph.specs.Laws.{needs_of}
+use Rattle.sg_graph.specs.Laws.{needs_of, sizes_of}
 use Rattle.sg_graph.specs.Stop.{Asked, wants_minor, wants_major, wants_blocks, some_wants}
 use Rattle.sg_actor.specs.declared.mutator.Stage.{Stage}
 use Rattle.sg_actor.specs.declared.mutator.Stage.TheVariants.{Ended, Asking}
@@ -37,6 +37,7 @@ pub record AreWanted (requests : List Asked) (wants : Wants) : Type 0 where
   pub major : wants.major ≡ some_wants wants_major requests
   pub blocks : wants.blocks ≡ some_wants wants_blocks requests
   pub needs : wants.needs.items ≡ needs_of requests
+  pub sizes : wants.sizes.items ≡ sizes_of requests
 
 -- the mutators have no buffers behind a minor pause, and else are as they were
 abbrev pub HaveBuffersBy : Option MinorReport → List Mutating → List Mutating → Type 0

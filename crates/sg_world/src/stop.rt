@@ -1,14 +1,17 @@
 // What a stop does before it answers: the owed sweep, a minor pause, a major one behind it, and the owed sweep again.
+ghost use Rattle.std.specs.List.{AllByRecursion};
 ghost use Rattle.std.specs.Prelude.{◌≡◌, ◌≢◌, ℕ, ◌≤◌, ◌++◌, ◌⊎◌, ◌↔◌, true, false, Some, List as Sequence, [], length, IfOk, IsTrue, is_some};
+ghost use Rattle.sg_words.specs.Blocks.{IsSizeClass};
 ghost use Rattle.sg_words.specs.Lists.{Pairwise};
 ghost use Rattle.sg_program.specs.declared.program.Program.{Program as AnyProgram};
 ghost use Rattle.sg_graph.specs.declared.reports.MinorReport.{MinorReport as AnyReport};
 ghost use Rattle.sg_graph.specs.Graph.{Graph};
 ghost use Rattle.sg_graph.specs.Book.{Book, swept_out};
 ghost use Rattle.sg_graph.specs.Invariants.{IsPlain};
-ghost use Rattle.sg_graph.specs.Laws.{AreAsking, LacksWords};
+ghost use Rattle.sg_graph.specs.Laws.{AreAsking, LacksWords, LacksSlots};
 ghost use Rattle.sg_graph.specs.Stop.{Asked};
 ghost use Rattle.sg_space.specs.Space.{IsContents};
+ghost use Rattle.sg_space.specs.Standing.{block_in, used_in};
 ghost use Rattle.sg_heap.specs.Holding.{HoldsHeap, OwesNothing};
 ghost use Rattle.sg_minor.specs.Parts.{HoldsSome};
 ghost use Rattle.sg_major.specs.Parts.{HasNoBuffer};
@@ -21,7 +24,7 @@ ghost use Rattle.sg_world.specs.Steps.{HoldsAny, HasMadeMinor, HasMadeMajor, Has
 use crate::wants::Wants;
 use sg_actor::Mutator;
 use sg_finish::finish;
-use sg_graph::{MajorReport, MinorReport, places_by_words};
+use sg_graph::{MajorReport, MinorReport, places_by_room, places_by_words};
 use sg_heap::sweep_law;
 use sg_major::major;
 use sg_minor::{found_in, minor};
@@ -104,15 +107,23 @@ fn sweep_out(space: &mut Space)
     finish(space);
 }
 
-/// Whether something is wanted: it is given that it is, or the fragments have no room for these words. Linear in the fragments for each number.
+/// Whether something is wanted: it is given that it is, or the fragments have no room for these words, or the blocks none for these slots. Linear in
+/// the fragments for each number of words, and in the blocks for each slot.
 fn is_wanted(alloc: Global, space: &Space, given: bool, wants: &Wants) -> Result<bool, AllocError>
+    requires classes { AllByRecursion IsSizeClass wants.now.sizes.items }
     ensures { IfOk result (λ wanted. (p : AnyProgram) (g : Graph) (b : Book) → HoldsHeap p space.now g b →
-        (wanted ≡ true) ↔ (IsTrue given ⊎ LacksWords b.fragments b.limit b.next wants.now.needs.items)) }
+        (wanted ≡ true) ↔ (IsTrue given ⊎ (LacksWords b.fragments b.limit b.next wants.now.needs.items
+        ⊎ LacksSlots p.config.blocks (block_in space.now) (used_in space.now) wants.now.sizes.items))) }
 {
     if given {
         return Ok(true);
     }
-    let lacks = lacks_room(alloc, space, wants.needs.as_slice())?;
+    let lacks = lacks_room(
+        alloc,
+        space,
+        wants.needs.as_slice(),
+        wants.sizes.as_slice(),
+    )?;
     Ok(lacks)
 }
 
@@ -124,12 +135,13 @@ fn minor_pause(
     wants: &Wants,
 ) -> Result<(Space, Option<MinorReport>), AllocError>
     requires some { HoldsSome space }
+    requires classes { AllByRecursion IsSizeClass wants.now.sizes.items }
     ensures made { IfOk result (λ r. (p : AnyProgram) (g : Graph) (b : Book) (requests : Sequence Asked) → HoldsHeap p space g b → OwesNothing p b → IsPlain p g →
         AreAsking p g requests → AreWanted requests wants.now → HasMadeMinor p g b words.now requests r.1 r.0) }
     ensures stop { IfOk result (λ r. r.0.stop ≡ space.stop) }
 {
     // The law that it rests on: this call does nothing.
-    places_by_words();
+    places_by_room();
     if !is_wanted(alloc, &space, wants.minor, wants)? {
         return Ok((space, None));
     }
@@ -148,13 +160,14 @@ fn major_pause(
 ) -> Result<(Space, Option<MajorReport>), AllocError>
     requires some { (p : AnyProgram) × (g : Graph) × (b : Book) × HoldsHeap p space g b × OwesNothing p b × IsPlain p g
         × ((report : AnyReport) → minor.now ≡ Some report → HasNoBuffer b) }
+    requires classes { AllByRecursion IsSizeClass wants.now.sizes.items }
     ensures made { IfOk result (λ r. (p : AnyProgram) (g : Graph) (b : Book) (requests : Sequence Asked) → HoldsHeap p space g b → OwesNothing p b → IsPlain p g →
         ((report : AnyReport) → minor.now ≡ Some report → HasNoBuffer b) → AreAsking p g requests → AreWanted requests wants.now →
         HasMadeMajor p g b words.now requests minor.now r.1 r.0) }
     ensures stop { IfOk result (λ r. r.0.stop ≡ space.stop) }
 {
     // The law that it rests on: this call does nothing.
-    places_by_words();
+    places_by_room();
     let Some(minor) = minor else {
         return Ok((space, None));
     };
@@ -192,6 +205,7 @@ fn make_room(
     major: bool,
 ) -> Result<Room, AllocError>
     requires some { HoldsAny space.old }
+    requires classes { AllByRecursion IsSizeClass wants.now.sizes.items }
     ensures made { IfOk result (λ room. (p : AnyProgram) (g : Graph) (b : Book) (requests : Sequence Asked) → HoldsHeap p space.old g b →
         (major ≡ false → OwesNothing p b) → AreAsking p g requests → AreWanted requests wants.now → HasMadeRoom p g b requests major room space.new) }
     ensures stop { space.new.stop ≡ space.old.stop }

@@ -18,9 +18,11 @@ pub(crate) struct Wants {
     pub(crate) blocks: bool,
     /// The words for which they ask, in order.
     pub(crate) needs: Vec<u32>,
+    /// The words of the slots for which they ask, in order.
+    pub(crate) sizes: Vec<u32>,
 }
 
-/// What the requests of these mutators want. Takes memory for the words for which they ask.
+/// What the requests of these mutators want. Takes memory for the words and the slots for which they ask.
 pub(crate) fn wants_of(alloc: Global, mutators: &[Mutator<'_>]) -> Result<Wants, AllocError>
     ensures { IfOk result (AreWanted (requests_of mutators.now)) }
 {
@@ -29,6 +31,7 @@ pub(crate) fn wants_of(alloc: Global, mutators: &[Mutator<'_>]) -> Result<Wants,
         major: false,
         blocks: false,
         needs: Vec::new(alloc),
+        sizes: Vec::new(alloc),
     };
     for k in 0..mutators.len() {
         add(&mut wants, &mutators[k])?;
@@ -54,7 +57,10 @@ fn add(wants: &mut Wants, mutator: &Mutator<'_>) -> Result<(), AllocError>
             wants.minor = true;
             wants.major = true;
         }
-        Request::Slot { .. } => wants.blocks = true,
+        Request::Slot { size } => {
+            wants.blocks = true;
+            wants.sizes.push(size)?;
+        }
         Request::Sections => wants.blocks = true,
     }
     Ok(())
