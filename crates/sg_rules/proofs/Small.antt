@@ -33,7 +33,7 @@ small_class p c all = small_at p.classes c all
 pub small_made : (p : Program) (s : Statement) → AllByRecursion IsSmallClass p.classes → IsBuilt p s → made_fields p s ≤ 62
 small_made p (New r class) all run = small_class p class all
 small_made p (NewV r class count) all run = run
-small_made p (Mature r class) all run = absurd run
+small_made p (Mature r class) all run = small_class p class all
 small_made p (Put r i s) all run = zero-le
 small_made p (Get d r i) all run = zero-le
 small_made p (PutD r i s) all run = zero-le

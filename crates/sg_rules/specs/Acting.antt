@@ -1,17 +1,18 @@
 -- A mutator as an actor over any port, and its turns.
-use Rattle.std.specs.Prelude.{◌≡◌, Bool, List, ◌∷◌}
+use Rattle.std.specs.Prelude.{◌≡◌, Bool, true, false, List, ◌∷◌}
 use Rattle.sg_words.specs.declared.steps.Step.{Step}
 use Rattle.sg_words.specs.declared.steps.Call.{Call}
 use Rattle.sg_words.specs.Programs.{FollowsBy, Guides, Goes}
 use Rattle.sg_program.specs.declared.program.Program.{Program}
-use Rattle.sg_rules.specs.Rules.{Constants, Mid, Idle, TestTag, TestLength, Access, MarkCard, AccessGlobal, Look, Claim, StoreLength, StoreTag, HideLength, Ask, Left, Yielded, Actor, Comes}
+use Rattle.sg_rules.specs.Rules.{Constants, Mid, Idle, TestTag, TestLength, Access, MarkCard, AccessGlobal, Look, Claim, StoreLength, StoreTag, HideLength, Ask, Left, Yielded}
+use Rattle.sg_rules.specs.Rules.{SeeBlock, TakeBlock, SeeUsed, TakeSlot, TakeOver, StoreOccupancy, ClearSlots, ClearWords, Retired, Actor, NextStep}
 use Rattle.sg_rules.specs.Sane.{IsSane}
 
 -- this step comes next, whether it decides the statement or not
 abbrev pub Acts : Program → Constants → Actor → Step → Actor → Type 0
-Acts p lay a step b = (decides : Bool) × Comes p lay a step decides b
+Acts p lay a step b = (decides : Bool) × NextStep p lay a step decides b
 
--- A turn ends here: between two statements, right before an exchange, or with leaving.
+-- A turn ends here: between two statements, right before an exchange, around the sweep of a block, or with leaving.
 abbrev pub RestsAt : Mid → Type 0
 RestsAt Idle = Unit {0}
 RestsAt (TestTag s test) = ⊥
@@ -24,9 +25,19 @@ RestsAt (Claim s f seen) = Unit {0}
 RestsAt (StoreLength s x) = ⊥
 RestsAt (StoreTag s x) = ⊥
 RestsAt (HideLength d s offset) = ⊥
+RestsAt (SeeBlock t true c) = Unit {0}
+RestsAt (SeeBlock t false c) = ⊥
+RestsAt (TakeBlock s c) = Unit {0}
+RestsAt (SeeUsed s c) = ⊥
+RestsAt (TakeSlot s c i) = Unit {0}
+RestsAt (TakeOver t c z) = Unit {0}
+RestsAt (StoreOccupancy t c z) = Unit {0}
+RestsAt (ClearSlots t c z i) = ⊥
+RestsAt (ClearWords t c z i f) = ⊥
 RestsAt (Ask s) = ⊥
 RestsAt (Left s) = Unit {0}
 RestsAt Yielded = Unit {0}
+RestsAt Retired = Unit {0}
 
 -- a step that comes next where no turn ends
 abbrev pub ActsOn : Program → Constants → Actor → Step → Actor → Type 0

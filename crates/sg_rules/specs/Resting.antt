@@ -2,7 +2,7 @@
 use Rattle.std.specs.Prelude.{ℕ, ◌≤◌, Option, Some, None, List}
 use Rattle.sg_words.specs.Words.{put}
 use Rattle.sg_program.specs.declared.program.Statement.{Statement}
-use Rattle.sg_program.specs.declared.program.Statement.TheVariants.{New, NewV, Collect, Sections}
+use Rattle.sg_program.specs.declared.program.Statement.TheVariants.{New, NewV, Mature, Collect, Sections}
 use Rattle.sg_program.specs.declared.program.Program.{Program}
 use Rattle.sg_program.specs.declared.answers.Answer.{Answer}
 use Rattle.sg_program.specs.declared.answers.Answer.TheVariants.{At, Fine, Full}
@@ -20,6 +20,7 @@ pub record IsRunnable (p : Program) (s : Statement) : Type 0 where
 abbrev pub answered_register : Statement → Option ℕ
 answered_register (New r class) = Some r
 answered_register (NewV r class count) = Some r
+answered_register (Mature r class) = Some r
 answered_register s = None
 
 -- the word of the object in an answer, or 0 where it has none
@@ -42,6 +43,8 @@ IsServiceOf (New r class) (At a) = Unit {0}
 IsServiceOf (New r class) Full = Unit {0}
 IsServiceOf (NewV r class count) (At a) = Unit {0}
 IsServiceOf (NewV r class count) Full = Unit {0}
+IsServiceOf (Mature r class) (At a) = Unit {0}
+IsServiceOf (Mature r class) Full = Unit {0}
 IsServiceOf (Collect major) Fine = Unit {0}
 IsServiceOf Sections Fine = Unit {0}
 IsServiceOf s answer = ⊥

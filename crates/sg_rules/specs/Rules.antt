@@ -1,15 +1,20 @@
 -- The private state of a mutator, and its program: which atomic step comes next, whether that step decides the statement,
 -- and what the mutator is after it.
+use Rattle.std.specs.Int.{bit_at}
 use Rattle.std.specs.Prelude.{◌≡◌, ◌≢◌, ℕ, ◌+◌, ◌-◌, ◌%◌, ◌^◌, ◌<◌, ◌≤◌, ◌==◌, ◌⊎◌, if◌then◌else◌, nat_lt, min, max, Bool, true, false, Some, List, [], ◌∷◌, ◌++◌, length}
 use Rattle.sg_words.specs.Address.{byte_at, word_at}
 use Rattle.sg_words.specs.Tags.{plain_word}
 use Rattle.sg_words.specs.declared.steps.Place.TheVariants.{Stop, Next, Word, Card}
 use Rattle.sg_words.specs.declared.steps.Step.{Step}
-use Rattle.sg_words.specs.declared.steps.Step.TheVariants.{Load, Store, Won, Lost}
+use Rattle.sg_words.specs.declared.steps.Step.TheVariants.{Load, Store, Won, Lost, OnBlock}
+use Rattle.sg_words.specs.declared.steps.BlockWord.{BlockWord}
+use Rattle.sg_words.specs.declared.steps.BlockWord.TheVariants.{Free, Swept, Need, Sweeping}
+use Rattle.sg_words.specs.declared.steps.BlockStep.TheVariants.{LoadBlock, WonBlock, LostBlock, StoreBlock, LoadUsed, OrUsed, StoreUsed, Zero}
 use Rattle.sg_words.specs.declared.steps.Tick.{Tick}
 use Rattle.sg_words.specs.Words.{put, Words, after, Legal}
 use Rattle.sg_words.specs.Sections.{nursery_base, large_base, globals_base}
-use Rattle.sg_words.specs.Blocks.{card_of, HasCard}
+use Rattle.sg_words.specs.Blocks.{IsSizeClass, slots, slot_base, card_of, HasCard}
+use Rattle.sg_words.specs.Sweeps.{swept_word}
 use Rattle.sg_words.specs.declared.layout.Layout.{Layout}
 use Rattle.sg_program.specs.declared.program.Statement.{Statement}
 use Rattle.sg_program.specs.declared.program.Statement.TheVariants.{Put, Get, PutD, GetD, Num, Move, Hide, Unhide, Drop, Push, Pop, GPut, GGet, Same}
@@ -18,13 +23,14 @@ use Rattle.sg_program.specs.declared.answers.Request.{Request}
 use Rattle.sg_program.specs.declared.answers.Answer.{Answer}
 use Rattle.sg_program.specs.declared.answers.Answer.TheVariants.{At, Nil, Null, Number, Fine, Yes, No, Field}
 use Rattle.sg_desc.specs.Shapes.{has_field}
-use Rattle.sg_program.specs.Scripts.{kind_of, words_for, IsMaking, IsCollecting, made_in, made_class, made_fields, made_words}
+use Rattle.sg_program.specs.Scripts.{kind_of, words_for, IsMaking, IsMature, IsCollecting, made_in, made_class, made_fields, made_words, made_slot}
 use Rattle.sg_program.specs.Tests.{Test, test_of}
 
--- What is constant in an epoch: how many fragments there are, and before which word each ends.
+-- What is constant in an epoch: how many fragments there are, before which word each ends, and the marks of each block.
 pub record Constants : Type 0 where
   pub fragments : ℕ
   pub limit : ℕ → ℕ
+  pub marks : ℕ → ℕ
 
 -- the sizes of the sections that a program's settings make
 abbrev pub sections_of : Program → Layout
@@ -54,7 +60,12 @@ IsGlobal (GPut x r) = Unit {0}
 IsGlobal (GGet r x) = Unit {0}
 IsGlobal s = ⊥
 
--- Where in a statement a mutator stands: what its next step is for.
+-- For what an actor goes through the blocks: for a slot for the object of this statement, or to sweep what is owed.
+pub data Task : Type 0 where
+  Search : (s : Statement) → Task
+  Roam : Task
+
+-- Where in a statement a mutator stands: what its next step is for. The background sweeper stands at points of a sweep alone.
 pub data Mid : Type 0 where
   -- between two statements
   Idle : Mid
@@ -75,12 +86,28 @@ pub data Mid : Type 0 where
   StoreTag : (s : Statement) (x : ℕ) → Mid
   -- the byte with this offset of the object of register s is to be hidden: next comes the load of the object's length
   HideLength : (d s offset : ℕ) → Mid
+  -- next comes the load of the word of block c; where the sweeper's turn begins, that of the stop word comes before it
+  SeeBlock : (t : Task) (begins : Bool) (c : ℕ) → Mid
+  -- block c was seen free: next comes the exchange by which it gets slots for the object
+  TakeBlock : (s : Statement) (c : ℕ) → Mid
+  -- it was seen swept, with such slots: next comes the load of its occupancy, or the claim of its slot i, whose bit was seen clear
+  SeeUsed : (s : Statement) (c : ℕ) → Mid
+  TakeSlot : (s : Statement) (c i : ℕ) → Mid
+  -- it was seen owed, with slots of z words: next comes the exchange by which the actor takes its sweep over
+  TakeOver : (t : Task) (c z : ℕ) → Mid
+  -- the actor sweeps it: next comes the store of its occupancy
+  StoreOccupancy : (t : Task) (c z : ℕ) → Mid
+  -- its unmarked slots below i are zero, and the first f words of slot i
+  ClearSlots : (t : Task) (c z i : ℕ) → Mid
+  ClearWords : (t : Task) (c z i f : ℕ) → Mid
   -- the statement needs a stop: next comes the store of the stop word
   Ask : (s : Statement) → Mid
   -- the mutator has left the epoch, and this statement waits for its answer
   Left : (s : Statement) → Mid
   -- it has left, since another one asked for a stop
   Yielded : Mid
+  -- the sweeper has ended
+  Retired : Mid
 
 -- a place of the stack: its word, and the offset that stands beside it where the word is an address inside an object
 pub record StackWord : Type 0 where
@@ -152,6 +179,32 @@ unhidden a s = if a.reg s == 0 then 0 else a.reg s - a.offset s
 -- where a mutator stands that looks for a fragment with room from f on: there is one more, or it asks for a stop
 abbrev pub looking : Constants → Statement → ℕ → Mid
 looking lay s f = if nat_lt f lay.fragments then Look s f else Ask s
+
+-- where an actor stands that goes through the blocks from c on: there is one more; or a search asks for a stop, and the sweeper ends
+abbrev pub ends_at : Task → Mid
+ends_at (Search s) = Ask s
+ends_at Roam = Retired
+
+abbrev pub onward : Program → Task → ℕ → Mid
+onward p t c = if nat_lt c p.config.blocks then SeeBlock t false c else ends_at t
+
+-- the next step is the load of a block's word: always in a search, and for the sweeper where its turn has begun
+abbrev pub MaySee : Task → Bool → Type 0
+MaySee (Search s) begins = Unit {0}
+MaySee Roam true = ⊥
+MaySee Roam false = Unit {0}
+
+-- the word with number f of slot i of z words of block c
+abbrev pub slot_word : Program → ℕ → ℕ → ℕ → ℕ → ℕ
+slot_word p c z i f = slot_base (sections_of p) c z i + f
+
+-- the slots of block c from i to before j are marked
+abbrev pub AreMarked : Constants → ℕ → ℕ → ℕ → Type 0
+AreMarked lay c i j = (k : ℕ) → i ≤ k → k < j → bit_at (lay.marks c) k ≡ 1
+
+-- each of the first n bits is set
+abbrev pub AreTaken : ℕ → ℕ → Type 0
+AreTaken used n = (i : ℕ) → i < n → bit_at used i ≡ 1
 
 -- This step comes next, it decides the statement or not, and then the mutator is so. The rules say of a load what can be seen: a
 -- header's words are those of an object, and a field or a global for references holds the address of one or nothing.
@@ -249,10 +302,71 @@ pub data Comes (p : Program) (lay : Constants) : Actor → Step → Bool → Act
       Comes p lay (within a rest (StoreTag s x)) (Store (Word x) (plain_word (made_class s))) false
       (over a rest (put a.reg (made_in s) (byte_at x)) (At (byte_at x)))
 
--- these steps are the next ones of a mutator, which is `last` after them
+-- The same of steps on blocks: of a search for a slot, and of a sweep, be it a mutator's or the background sweeper's.
+pub data BlockComes (p : Program) (lay : Constants) : Actor → Step → Bool → Actor → Type 0 where
+  -- an object in the major heap: a search goes through the blocks
+  mature_begins : (a : Actor) (s : Statement) (rest : List Statement) → IsMature s →
+      BlockComes p lay (before a s rest) (Load Stop 0) false (within a rest (onward p (Search s) 0))
+  -- a free block gets slots for the object; won or lost, the search looks at the block again
+  sees_free : (a : Actor) (s : Statement) (rest : List Statement) (begins : Bool) (c : ℕ) →
+      BlockComes p lay (within a rest (SeeBlock (Search s) begins c)) (OnBlock (LoadBlock c Free)) false (within a rest (TakeBlock s c))
+  takes_block : (a : Actor) (s : Statement) (rest : List Statement) (c : ℕ) →
+      BlockComes p lay (within a rest (TakeBlock s c)) (OnBlock (WonBlock c Free (Swept (made_slot p s)))) false (within a rest (SeeBlock (Search s) false c))
+  misses_block : (a : Actor) (s : Statement) (rest : List Statement) (c : ℕ) (found : BlockWord) →
+      BlockComes p lay (within a rest (TakeBlock s c)) (OnBlock (LostBlock c Free (Swept (made_slot p s)) found)) false
+      (within a rest (SeeBlock (Search s) false c))
+  -- in a swept block with such slots the lowest one is claimed that was seen free; if it was taken meanwhile, the search looks again
+  sees_size : (a : Actor) (s : Statement) (rest : List Statement) (begins : Bool) (c : ℕ) →
+      BlockComes p lay (within a rest (SeeBlock (Search s) begins c)) (OnBlock (LoadBlock c (Swept (made_slot p s)))) false (within a rest (SeeUsed s c))
+  sees_full : (a : Actor) (s : Statement) (rest : List Statement) (c saw : ℕ) → AreTaken saw (slots (made_slot p s)) →
+      BlockComes p lay (within a rest (SeeUsed s c)) (OnBlock (LoadUsed c saw)) false (within a rest (onward p (Search s) (c + 1)))
+  sees_slot : (a : Actor) (s : Statement) (rest : List Statement) (c i saw : ℕ) → i < slots (made_slot p s) → bit_at saw i ≡ 0 → AreTaken saw i →
+      BlockComes p lay (within a rest (SeeUsed s c)) (OnBlock (LoadUsed c saw)) false (within a rest (TakeSlot s c i))
+  takes_slot : (a : Actor) (s : Statement) (rest : List Statement) (c i found : ℕ) → bit_at found i ≡ 0 →
+      BlockComes p lay (within a rest (TakeSlot s c i)) (OnBlock (OrUsed c i found)) true (within a rest (StoreLength s (slot_word p c (made_slot p s) i 0)))
+  misses_slot : (a : Actor) (s : Statement) (rest : List Statement) (c i found : ℕ) → bit_at found i ≡ 1 →
+      BlockComes p lay (within a rest (TakeSlot s c i)) (OnBlock (OrUsed c i found)) false (within a rest (SeeBlock (Search s) false c))
+  -- a swept block with other slots, and one that somebody sweeps, are passed over
+  sees_other : (a : Actor) (s : Statement) (rest : List Statement) (begins : Bool) (c z : ℕ) → z ≢ made_slot p s →
+      BlockComes p lay (within a rest (SeeBlock (Search s) begins c)) (OnBlock (LoadBlock c (Swept z))) false (within a rest (onward p (Search s) (c + 1)))
+  sees_sweeping : (a : Actor) (t : Task) (rest : List Statement) (begins : Bool) (c z : ℕ) → MaySee t begins →
+      BlockComes p lay (within a rest (SeeBlock t begins c)) (OnBlock (LoadBlock c (Sweeping z))) false (within a rest (onward p t (c + 1)))
+  -- an owed block is swept by who takes it over; who lost it looks at it again
+  sees_need : (a : Actor) (t : Task) (rest : List Statement) (begins : Bool) (c z : ℕ) → MaySee t begins → IsSizeClass z →
+      BlockComes p lay (within a rest (SeeBlock t begins c)) (OnBlock (LoadBlock c (Need z))) false (within a rest (TakeOver t c z))
+  takes_over : (a : Actor) (t : Task) (rest : List Statement) (c z : ℕ) →
+      BlockComes p lay (within a rest (TakeOver t c z)) (OnBlock (WonBlock c (Need z) (Sweeping z))) false (within a rest (StoreOccupancy t c z))
+  misses_sweep : (a : Actor) (t : Task) (rest : List Statement) (c z : ℕ) (found : BlockWord) →
+      BlockComes p lay (within a rest (TakeOver t c z)) (OnBlock (LostBlock c (Need z) (Sweeping z) found)) false (within a rest (SeeBlock t false c))
+  -- the sweep: the occupancy becomes the marks, the words of the slots that aren't marked become zero, in order, and then the block is swept or free
+  stores_occupancy : (a : Actor) (t : Task) (rest : List Statement) (c z : ℕ) →
+      BlockComes p lay (within a rest (StoreOccupancy t c z)) (OnBlock (StoreUsed c (lay.marks c))) false (within a rest (ClearSlots t c z 0))
+  clears_first : (a : Actor) (t : Task) (rest : List Statement) (c z i j : ℕ) → i ≤ j → j < slots z → AreMarked lay c i j → bit_at (lay.marks c) j ≡ 0 → 1 < z →
+      BlockComes p lay (within a rest (ClearSlots t c z i)) (OnBlock (Zero (slot_word p c z j 0))) false (within a rest (ClearWords t c z j 1))
+  clears_next : (a : Actor) (t : Task) (rest : List Statement) (c z i f : ℕ) → f + 1 < z →
+      BlockComes p lay (within a rest (ClearWords t c z i f)) (OnBlock (Zero (slot_word p c z i f))) false (within a rest (ClearWords t c z i (f + 1)))
+  clears_last : (a : Actor) (t : Task) (rest : List Statement) (c z i f : ℕ) → f + 1 ≡ z →
+      BlockComes p lay (within a rest (ClearWords t c z i f)) (OnBlock (Zero (slot_word p c z i f))) false (within a rest (ClearSlots t c z (i + 1)))
+  ends_sweep : (a : Actor) (t : Task) (rest : List Statement) (c z i : ℕ) → AreMarked lay c i (slots z) →
+      BlockComes p lay (within a rest (ClearSlots t c z i)) (OnBlock (StoreBlock c (swept_word (Need z) (lay.marks c)))) false (within a rest (SeeBlock t true c))
+  -- the background sweeper: it looks at the stop word as its turn begins, passes over what isn't owed, and ends behind the last block
+  roams_on : (a : Actor) (rest : List Statement) (c : ℕ) →
+      BlockComes p lay (within a rest (SeeBlock Roam true c)) (Load Stop 0) false (within a rest (onward p Roam c))
+  retires : (a : Actor) (rest : List Statement) (c saw : ℕ) → saw ≢ 0 →
+      BlockComes p lay (within a rest (SeeBlock Roam true c)) (Load Stop saw) false (within a rest Retired)
+  roams_free : (a : Actor) (rest : List Statement) (c : ℕ) →
+      BlockComes p lay (within a rest (SeeBlock Roam false c)) (OnBlock (LoadBlock c Free)) false (within a rest (onward p Roam (c + 1)))
+  roams_swept : (a : Actor) (rest : List Statement) (c z : ℕ) →
+      BlockComes p lay (within a rest (SeeBlock Roam false c)) (OnBlock (LoadBlock c (Swept z))) false (within a rest (onward p Roam (c + 1)))
+
+-- an actor's next step, of either sort
+abbrev pub NextStep : Program → Constants → Actor → Step → Bool → Actor → Type 0
+NextStep p lay a step decides b = Comes p lay a step decides b ⊎ BlockComes p lay a step decides b
+
+-- these steps are the next ones of an actor, which is `last` after them
 abbrev pub Follows : Program → Constants → Actor → List Tick → Actor → Type 0
 Follows p lay a [] last = last ≡ a
-Follows p lay a (t ∷ ts) last = (mid : Actor) × Comes p lay a t.step t.decides mid × Follows p lay mid ts last
+Follows p lay a (t ∷ ts) last = (mid : Actor) × NextStep p lay a t.step t.decides mid × Follows p lay mid ts last
 
 -- a, on the words w, takes next steps of its program, and so becomes b and leaves the words v
 pub record Went (p : Program) (lay : Constants) (a : Actor) (w : Words) (b : Actor) (v : Words) : Type 0 where

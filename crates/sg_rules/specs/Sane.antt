@@ -1,13 +1,17 @@
 -- What is true of a mutator by itself, whatever stands in the words: what its code rests on, as that its registers hold addresses in
 -- range where the next step goes by them.
-use Rattle.std.specs.Prelude.{◌≡◌, ◌≢◌, ℕ, ◌+◌, ◌-◌, ◌*◌, ◌<◌, ◌≤◌, Some, List, ◌∷◌, length}
+use Rattle.std.specs.Int.{bit_at}
+use Rattle.std.specs.Prelude.{◌≡◌, ◌≢◌, ℕ, ◌+◌, ◌-◌, ◌*◌, ◌<◌, ◌≤◌, true, false, Some, List, ◌∷◌, length}
 use Rattle.sg_words.specs.Sections.{nursery_base, old_base, large_base}
+use Rattle.sg_words.specs.Blocks.{IsSizeClass, slots}
 use Rattle.sg_program.specs.declared.program.Statement.{Statement}
 use Rattle.sg_program.specs.declared.program.Statement.TheVariants.{New, NewV, Put, Get, PutD, GetD, Hide, Unhide, Push, Pop}
 use Rattle.sg_program.specs.declared.program.Program.{Program}
-use Rattle.sg_program.specs.Scripts.{IsMaking, made_words}
+use Rattle.sg_program.specs.Scripts.{IsMaking, IsMature, MakesObject, made_words, made_slot}
 use Rattle.sg_program.specs.Tests.{Test, test_of}
-use Rattle.sg_rules.specs.Rules.{Constants, Mid, Idle, TestTag, TestLength, Access, MarkCard, AccessGlobal, Look, Claim, StoreLength, StoreTag, HideLength, Ask, Left, Yielded, Actor, sections_of, IsInHeap, IsReference, IsGlobal, object_in}
+use Rattle.sg_rules.specs.Rules.{Constants, Mid, Idle, TestTag, TestLength, Access, MarkCard, AccessGlobal, Look, Claim, StoreLength, StoreTag, HideLength, Ask, Left, Yielded}
+use Rattle.sg_rules.specs.Rules.{Task, Search, Roam, SeeBlock, TakeBlock, SeeUsed, TakeSlot, TakeOver, StoreOccupancy, ClearSlots, ClearWords, Retired}
+use Rattle.sg_rules.specs.Rules.{Actor, sections_of, IsInHeap, IsReference, IsGlobal, object_in}
 use Rattle.sg_rules.specs.Resting.{IsRunnable}
 
 -- the mutator's buffer lies in the nursery
@@ -66,11 +70,36 @@ pub record IsClaiming (p : Program) (lay : Constants) (s : Statement) (f seen : 
   pub room : seen + made_words p s ≤ lay.limit f
   pub inside : lay.limit f ≤ old_base (sections_of p)
 
--- the new object has its place in the nursery
+-- the new object has its place, in the nursery or in the major heap
 pub record IsHeading (p : Program) (s : Statement) (x : ℕ) : Type 0 where
-  pub maker : IsMaker p s
+  pub runnable : IsRunnable p s
+  pub makes : MakesObject s
   pub from : nursery_base ≤ x
-  pub inside : x + made_words p s ≤ old_base (sections_of p)
+  pub inside : x + made_words p s ≤ large_base (sections_of p)
+
+-- it looks for a slot of block c, for an object that it makes
+pub record IsSearching (p : Program) (s : Statement) (c : ℕ) : Type 0 where
+  pub runnable : IsRunnable p s
+  pub makes : IsMature s
+  pub there : c < p.config.blocks
+
+-- a search is one for a statement that is run; the sweeper rests on nothing
+abbrev pub IsOnTask : Program → Task → ℕ → Type 0
+IsOnTask p (Search s) c = IsSearching p s c
+IsOnTask p Roam c = c < p.config.blocks
+
+-- it sweeps block c, of slots of z words, or is about to take that over
+pub record IsSweeping (p : Program) (t : Task) (c z : ℕ) : Type 0 where
+  pub task : IsOnTask p t c
+  pub there : c < p.config.blocks
+  pub class : IsSizeClass z
+
+-- it zeroes slot i, which isn't marked, from word f on
+pub record IsClearing (p : Program) (lay : Constants) (t : Task) (c z i f : ℕ) : Type 0 where
+  pub sweeping : IsSweeping p t c z
+  pub fits : i < slots z
+  pub word : f < z
+  pub unmarked : bit_at (lay.marks c) i ≡ 0
 
 abbrev pub IsSaneAt : Program → Constants → Actor → Mid → Type 0
 IsSaneAt p lay a Idle = (s : Statement) (rest : List Statement) → a.script ≡ s ∷ rest → MayBegin p a s
@@ -84,9 +113,20 @@ IsSaneAt p lay a (Claim s f seen) = IsClaiming p lay s f seen
 IsSaneAt p lay a (StoreLength s x) = IsHeading p s x
 IsSaneAt p lay a (StoreTag s x) = IsHeading p s x
 IsSaneAt p lay a (HideLength d s offset) = IsInHeap p (a.reg s)
+IsSaneAt p lay a (SeeBlock (Search s) begins c) = IsSearching p s c
+IsSaneAt p lay a (SeeBlock Roam true c) = Unit {0}
+IsSaneAt p lay a (SeeBlock Roam false c) = c < p.config.blocks
+IsSaneAt p lay a (TakeBlock s c) = IsSearching p s c
+IsSaneAt p lay a (SeeUsed s c) = IsSearching p s c
+IsSaneAt p lay a (TakeSlot s c i) = IsSearching p s c × (i < slots (made_slot p s))
+IsSaneAt p lay a (TakeOver t c z) = IsSweeping p t c z
+IsSaneAt p lay a (StoreOccupancy t c z) = IsSweeping p t c z
+IsSaneAt p lay a (ClearSlots t c z i) = IsSweeping p t c z × (i ≤ slots z)
+IsSaneAt p lay a (ClearWords t c z i f) = IsClearing p lay t c z i f
 IsSaneAt p lay a (Ask s) = Unit {0}
 IsSaneAt p lay a (Left s) = Unit {0}
 IsSaneAt p lay a Yielded = Unit {0}
+IsSaneAt p lay a Retired = Unit {0}
 
 -- what is true of a mutator by itself, by where it stands
 abbrev pub IsSane : Program → Constants → Actor → Type 0
