@@ -3,7 +3,7 @@ use Rattle.std.specs.Prelude.{◌≡◌, ℕ, ◌<◌, false, length}
 use Rattle.sg_words.specs.Words.{Words}
 use Rattle.sg_program.specs.declared.program.Program.{Program}
 use Rattle.sg_program.specs.declared.program.Statement.{Statement}
-use Rattle.sg_program.specs.Scripts.{kind_of, IsSizeOf, IsMaking, made_class, made_fields}
+use Rattle.sg_program.specs.Scripts.{kind_of, IsSizeOf, MakesObject, made_class, made_fields}
 use Rattle.sg_graph.specs.Graph.{Mutator, Graph}
 use Rattle.sg_graph.specs.Book.{Book, IsSoundBook}
 use Rattle.sg_graph.specs.Pause.{is_pair}
@@ -29,4 +29,4 @@ pub record MakesSmall (p : Program) (s : Statement) : Type 0 where
 
 -- a statement that is run now and makes an object makes such a one
 abbrev pub RunnableMakes : Type 0
-RunnableMakes = (p : Program) (s : Statement) → IsMaking s → IsRunnable p s → MakesSmall p s
+RunnableMakes = (p : Program) (s : Statement) → MakesObject s → IsRunnable p s → MakesSmall p s

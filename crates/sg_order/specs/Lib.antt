@@ -3,3 +3,5 @@ pub mod Rest
 pub mod OneOrder
 pub mod Serving
 pub mod Held
+pub mod Sweep
+pub mod Knowing

@@ -1,20 +1,26 @@
 -- The law of one order: what the atomic steps of any number of mutators, in any legal list, say of whole statements.
-use Rattle.std.specs.Prelude.{◌≡◌, ℕ, ◌<◌, ◌≤◌, List, ◌∷◌, map}
+use Rattle.std.specs.Prelude.{◌≡◌, ℕ, ◌+◌, ◌<◌, ◌≤◌, ◌⊎◌, List, ◌∷◌, map}
 use Rattle.sg_words.specs.Address.{byte_at}
 use Rattle.sg_words.specs.declared.steps.Step.{Step}
 use Rattle.sg_words.specs.Calls.{call_of}
 use Rattle.sg_words.specs.Words.{put, Words, Saw, after, Legal}
 use Rattle.sg_words.specs.Events.{Event, ticks, part, order_of}
+use Rattle.sg_words.specs.declared.steps.BlockWord.TheVariants.{Swept, Sweeping}
 use Rattle.sg_program.specs.declared.program.Statement.{Statement}
+use Rattle.sg_program.specs.declared.program.Statement.TheVariants.{Mature}
 use Rattle.sg_program.specs.declared.program.Program.{Program}
 use Rattle.sg_graph.specs.Graph.{Graph}
-use Rattle.sg_program.specs.Scripts.{IsMaking, made_words}
-use Rattle.sg_graph.specs.Book.{Book, IsShort, LacksRoom, HasNoPlace, IsApart}
-use Rattle.sg_graph.specs.Epoch.{Said, Explains, answers_of, by_address}
+use Rattle.sg_program.specs.Scripts.{IsMaking, IsMature, made_words, made_slot}
+use Rattle.sg_graph.specs.Book.{Book, IsShort, LacksRoom, HasNoPlace, IsApart, IsClosed, block_at, slot_words, swept_in}
+use Rattle.sg_graph.specs.Blocks.{AreBlocks}
+use Rattle.sg_graph.specs.Epoch.{Said, Explains, IsNewOld, answers_of, by_address}
+use Rattle.sg_graph.specs.Heap.{Owner}
 use Rattle.sg_rules.specs.Rules.{Constants, Actor, Claim, Left, Yielded, Follows, Went}
 use Rattle.sg_rules.specs.Sane.{IsSane}
 use Rattle.sg_rules.specs.Acting.{Acts}
-use Rattle.sg_order.specs.Rest.{IsReady, IsHeld, IsEpochOpening, before_it, IsOver, IsWanted}
+use Rattle.sg_order.specs.Rest.{IsReady, IsHeld, IsEpochOpening, before_it, IsOver, AreOver, IsWanted}
+use Rattle.sg_order.specs.Sweep.{no_winner, winners, Runs, IsSweep, swept_of}
+use Rattle.sg_order.specs.Knowing.{HasObject, KnowsAt, IsInSweep, IsInSearch, Seeks}
 
 -- Mutator k, which is a, has prepared the exchange of the next word of fragment f, which it saw: the statement s makes an object, for
 -- which its buffer and the fragments below f are too short.
@@ -26,12 +32,35 @@ pub record HasPrepared (p : Program) (g : Graph) (b : Book) (k : ℕ) (a : Actor
   pub below : (j : ℕ) → j < f → LacksRoom b (made_words p s) j
   pub behind : seen ≤ b.next f
 
--- Whole statements, in the order of the deciding steps of the list, lead to a graph and a book; the standing objects are apart, and
--- the fragments of the words v, to which the list led, are the book's. A mutator that is between two statements, or has left, has the
--- answers of the graph, read through the book, and stands where the graph's mutator stands; who left with a new object had no room in
--- its buffer and in no fragment, and who left without a statement did so since another one asked for a stop. Where all are so, the
--- words v hold the graph by the book.
-pub record IsOneOrder (p : Program) (lay : Constants) (g : Graph) (b : Book) (es : List Event) (v : Words) (last : ℕ → Actor) : Type 0 where
+-- Mutator k, which is a, looks for a slot for the object of the statement s, which is its next one.
+pub record IsSeeking (g : Graph) (k : ℕ) (a : Actor) (s : Statement) : Type 0 where
+  pub makes : IsMature s
+  pub script : (g.mutator k).script ≡ s ∷ a.script
+
+-- How the blocks stand in the midst of an epoch, behind these events: their own words say where old objects stand; each that is being swept has one
+-- sweeper; each swept one has an object, or somebody's search for a slot is at it; and what each actor knows of them.
+pub record AreBlocksSoFar (p : Program) (lay : Constants) (g : Graph) (b : Book) (es : List Event) (v : Words) (last : ℕ → Actor) : Type 0 where
+  pub owner : ℕ → Owner
+  pub blocks : AreBlocks p lay.marks v.block v.used v.word g.size b.stands b.address b.section b.owed owner
+  pub marks : v.marks ≡ lay.marks
+  pub swept_by : (c z : ℕ) → c < p.config.blocks → v.block c ≡ Sweeping z → IsInSweep c z (last (winners no_winner es c)).mid
+  pub one_sweeper : (j k c y z : ℕ) → IsInSweep c y (last j).mid → IsInSweep c z (last k).mid → j ≡ k
+  pub inhabited : (c z : ℕ) → c < p.config.blocks → v.block c ≡ Swept z → HasObject p b.stands b.address c ⊎ ((k : ℕ) × IsInSearch p c z (last k).mid)
+  pub known : (k : ℕ) → KnowsAt p lay v b.owed (winners no_winner es) k (last k).mid
+  pub seeking : (k : ℕ) (s : Statement) → Seeks s (last k).mid → IsSeeking g k (last k) s
+
+-- Where all actors are over, the words hold the graph by the book in which what was swept isn't owed any more; by that book no block has a place for
+-- who left since it found no slot, and no block below a new object of the major heap has one for it.
+pub record IsAtEnd (p : Program) (lay : Constants) (count : ℕ) (b : Book) (graph : Graph) (c : Book) (v : Words) (last : ℕ → Actor) : Type 0 where
+  pub held : IsHeld p lay v graph c
+  pub searched : (k r class j : ℕ) → (last k).mid ≡ Left (Mature r class) → j < p.config.blocks → IsClosed p b.owed graph c j (made_slot p (Mature r class))
+  pub lowest : (n j : ℕ) → IsNewOld count c n → block_at p j + 256 ≤ c.address n → IsClosed p b.owed graph c j (slot_words (graph.size n))
+
+-- Whole statements, in the order of the deciding steps of the list, lead to a graph and a book; each step is lawful, and does no harm; the standing
+-- objects are apart, and the fragments and the blocks of the words v, to which the list led from w, are the book's. A mutator that is between two
+-- statements, or has left, has the answers of the graph, read through the book, and stands where the graph's mutator stands; who left with a new object
+-- had no room in its buffer and in no fragment, and who left without a statement did so since another one asked for a stop.
+pub record IsOneOrder (p : Program) (lay : Constants) (w : Words) (g : Graph) (b : Book) (es : List Event) (v : Words) (last : ℕ → Actor) : Type 0 where
   pub order : List Said
   pub graph : Graph
   pub book : Book
@@ -46,14 +75,18 @@ pub record IsOneOrder (p : Program) (lay : Constants) (g : Graph) (b : Book) (es
   pub tight : (k : ℕ) (s : Statement) → IsMaking s → (last k).mid ≡ Left s → HasNoPlace book k (made_words p s)
   pub prepared : (k : ℕ) (s : Statement) (f seen : ℕ) → (last k).mid ≡ Claim s f seen → HasPrepared p graph book k (last k) s f seen
   pub yielded : (k : ℕ) → (last k).mid ≡ Yielded → IsWanted last
-  pub held : ((k : ℕ) → IsOver (last k).mid) → IsHeld p lay v graph book
+  pub owed : book.owed ≡ b.owed
+  pub runs : Runs p lay w no_winner g b es graph book
+  pub sweep : IsSweep p lay w b.owed es
+  pub blocks : AreBlocksSoFar p lay graph book es v last
+  pub ended : AreOver last → IsAtEnd p lay g.count b graph (swept_in book (swept_of es)) v last
 
 -- every legal list of steps of mutators that follow their programs from an epoch's opening on has one order
 abbrev pub OneOrder : Type 0
 OneOrder =
     (p : Program) (lay : Constants) (w : Words) (g : Graph) (b : Book) (es : List Event) (actors last : ℕ → Actor) →
     IsEpochOpening p lay w g b actors → Legal w (ticks es) → ((k : ℕ) → Follows p lay (actors k) (part k es) (last k)) →
-    IsOneOrder p lay g b es (after w (ticks es)) last
+    IsOneOrder p lay w g b es (after w (ticks es)) last
 
 -- An epoch in its midst: a legal list of steps of mutators that follow their programs has led from its opening, with g and b, to
 -- the words w and to these mutators.
@@ -81,7 +114,7 @@ GoesSoFar =
 abbrev pub OrdersSoFar : Type 0
 OrdersSoFar =
     (p : Program) (lay : Constants) (g : Graph) (b : Book) (w : Words) (actors : ℕ → Actor) → (so : IsSoFar p lay g b w actors) →
-    IsOneOrder p lay g b so.events w actors
+    IsOneOrder p lay so.opened g b so.events w actors
 
 -- In the midst of an epoch each mutator is sane, and whatever a call for a next step of it sees then, a step comes next.
 pub record AreGoing (p : Program) (lay : Constants) (w : Words) (actors : ℕ → Actor) : Type 0 where

@@ -15,10 +15,11 @@ use Rattle.sg_rules.specs.Rules.{Constants, fresh}
 use Rattle.sg_rules.specs.Resting.{IsRunnable}
 use Rattle.sg_order.specs.Rest.{IsEpochOpening}
 
--- the whole nursery is one fragment
-pub record AreFirstConstants (p : Program) (lay : Constants) : Type 0 where
+-- the whole nursery is one fragment, and the marks are those of the words
+pub record AreFirstConstants (p : Program) (lay : Constants) (w : Words) : Type 0 where
   pub fragments : lay.fragments ≡ 1
   pub limit : lay.limit 0 ≡ nursery_end p
+  pub marks : w.marks ≡ lay.marks
 
 -- all words are zero, all blocks are free, and nothing of the fragment was given away
 pub record AreFirstWords (w : Words) : Type 0 where
@@ -37,5 +38,5 @@ pub record AreFirstScripts (p : Program) : Type 0 where
 -- from these the first epoch of a program opens, with no object
 abbrev pub FirstOpening : Type 0
 FirstOpening =
-    (p : Program) (lay : Constants) (w : Words) → AreFirstScripts p → AreFirstConstants p lay → AreFirstWords w →
+    (p : Program) (lay : Constants) (w : Words) → AreFirstScripts p → AreFirstConstants p lay w → AreFirstWords w →
     IsEpochOpening p lay w (no_objects p) (empty_book p) (λ k. fresh (script_of p k))

@@ -1,5 +1,5 @@
 -- How the mutators and the words stand to the graph and the book between two epochs.
-use Rattle.std.specs.Prelude.{◌≡◌, ◌≢◌, ℕ, ◌<◌, ◌⊎◌, true, List, [], ◌∷◌, map}
+use Rattle.std.specs.Prelude.{◌≡◌, ◌≢◌, ℕ, ◌<◌, ◌⊎◌, Bool, true, List, [], ◌∷◌, map}
 use Rattle.std.specs.List.{AllByRecursion}
 use Rattle.sg_words.specs.Address.{byte_at}
 use Rattle.sg_words.specs.Words.{Words}
@@ -14,7 +14,7 @@ use Rattle.sg_words.specs.Lists.{Pairwise}
 use Rattle.sg_graph.specs.Invariants.{IsPlain}
 use Rattle.sg_graph.specs.Heap.{Owner, IsHeap}
 use Rattle.sg_graph.specs.Blocks.{AreSettled}
-use Rattle.sg_rules.specs.Rules.{Constants, StackWord, Actor, Mid, Idle, Left, Yielded}
+use Rattle.sg_rules.specs.Rules.{Constants, StackWord, Actor, Mid, Idle, Left, Yielded, Roam, SeeBlock, Retired}
 use Rattle.sg_rules.specs.Resting.{IsRunnable}
 
 abbrev pub kind_of_entry : Entry → Kind
@@ -51,7 +51,7 @@ pub record IsReady (p : Program) (g : Graph) (b : Book) (k : ℕ) (a : Actor) (s
   pub kinds : FindKinds (kinds_in (g.mutator k)) script
   pub runnable : AllByRecursion (IsRunnable p) script
 
--- the words hold the graph, blocks and cards are as they are between two phases, and the fragments are the book's
+-- the words hold the graph, blocks and cards are as they are between two phases, the fragments are the book's, and the marks are the constants'
 pub record IsHeld (p : Program) (lay : Constants) (w : Words) (g : Graph) (b : Book) : Type 0 where
   pub owner : ℕ → Owner
   pub heap : IsHeap p w.word g b owner
@@ -60,12 +60,17 @@ pub record IsHeld (p : Program) (lay : Constants) (w : Words) (g : Graph) (b : B
   pub number : b.fragments ≡ lay.fragments
   pub limits : (f : ℕ) → f < b.fragments → b.limit f ≡ lay.limit f
   pub nexts : (f : ℕ) → f < b.fragments → w.next f ≡ byte_at (b.next f)
+  pub marks : w.marks ≡ lay.marks
+
+-- the actor is between two statements, or it is the sweeper, before its first turn
+abbrev pub IsFirst : Mid → Type 0
+IsFirst mid = (mid ≡ Idle) ⊎ (mid ≡ SeeBlock Roam true 0)
 
 -- how an epoch opens: no mutator has an answer in it yet
 pub record IsEpochOpening (p : Program) (lay : Constants) (w : Words) (g : Graph) (b : Book) (actors : ℕ → Actor) : Type 0 where
   pub held : IsHeld p lay w g b
   pub ready : (k : ℕ) → IsReady p g b k (actors k) (actors k).script
-  pub idle : (k : ℕ) → (actors k).mid ≡ Idle
+  pub idle : (k : ℕ) → IsFirst (actors k).mid
   pub going : w.stop ≡ 0
   pub untold : (k : ℕ) → (actors k).told ≡ []
 
@@ -74,9 +79,17 @@ abbrev pub before_it : Mid → List Statement → List Statement
 before_it (Left s) script = s ∷ script
 before_it mid script = script
 
--- the mutator is between two statements, or has left with one or without
+-- the sweeper has ended, or is in no block
+abbrev pub IsAside : Mid → Type 0
+IsAside mid = (mid ≡ Retired) ⊎ ((begins : Bool) × (c : ℕ) × (mid ≡ SeeBlock Roam begins c))
+
+-- the mutator is between two statements, or has left with one or without; or it is the sweeper, which is in no block
 abbrev pub IsOver : Mid → Type 0
-IsOver mid = (mid ≡ Idle) ⊎ (((s : Statement) × (mid ≡ Left s)) ⊎ (mid ≡ Yielded))
+IsOver mid = (mid ≡ Idle) ⊎ (((s : Statement) × (mid ≡ Left s)) ⊎ ((mid ≡ Yielded) ⊎ IsAside mid))
+
+-- and so are all
+abbrev pub AreOver : (ℕ → Actor) → Type 0
+AreOver actors = (k : ℕ) → IsOver (actors k).mid
 
 -- some mutator has left with a statement, and waits for its answer
 abbrev pub IsWanted : (ℕ → Actor) → Type 0

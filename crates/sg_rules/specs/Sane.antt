@@ -1,7 +1,7 @@
 -- What is true of a mutator by itself, whatever stands in the words: what its code rests on, as that its registers hold addresses in
 -- range where the next step goes by them.
 use Rattle.std.specs.Int.{bit_at}
-use Rattle.std.specs.Prelude.{◌≡◌, ◌≢◌, ℕ, ◌+◌, ◌-◌, ◌*◌, ◌<◌, ◌≤◌, true, false, Some, List, ◌∷◌, length}
+use Rattle.std.specs.Prelude.{◌≡◌, ◌≢◌, ℕ, ◌+◌, ◌-◌, ◌*◌, ◌<◌, ◌≤◌, Some, List, ◌∷◌, length}
 use Rattle.sg_words.specs.Sections.{nursery_base, old_base, large_base}
 use Rattle.sg_words.specs.Blocks.{IsSizeClass, slots}
 use Rattle.sg_program.specs.declared.program.Statement.{Statement}
@@ -11,7 +11,7 @@ use Rattle.sg_program.specs.Scripts.{IsMaking, IsMature, MakesObject, made_words
 use Rattle.sg_program.specs.Tests.{Test, test_of}
 use Rattle.sg_rules.specs.Rules.{Constants, Mid, Idle, TestTag, TestLength, Access, MarkCard, AccessGlobal, Look, Claim, StoreLength, StoreTag, HideLength, Ask, Left, Yielded}
 use Rattle.sg_rules.specs.Rules.{Task, Search, Roam, SeeBlock, TakeBlock, SeeUsed, TakeSlot, TakeOver, StoreOccupancy, ClearSlots, ClearWords, Retired}
-use Rattle.sg_rules.specs.Rules.{Actor, sections_of, IsInHeap, IsReference, IsGlobal, object_in}
+use Rattle.sg_rules.specs.Rules.{Actor, sections_of, IsInHeap, IsReference, IsGlobal, MaySee, object_in}
 use Rattle.sg_rules.specs.Resting.{IsRunnable}
 
 -- the mutator's buffer lies in the nursery
@@ -83,7 +83,7 @@ pub record IsSearching (p : Program) (s : Statement) (c : ℕ) : Type 0 where
   pub makes : IsMature s
   pub there : c < p.config.blocks
 
--- a search is one for a statement that is run; the sweeper rests on nothing
+-- a search for a statement that is run, or the sweeper, is at this block
 abbrev pub IsOnTask : Program → Task → ℕ → Type 0
 IsOnTask p (Search s) c = IsSearching p s c
 IsOnTask p Roam c = c < p.config.blocks
@@ -113,9 +113,7 @@ IsSaneAt p lay a (Claim s f seen) = IsClaiming p lay s f seen
 IsSaneAt p lay a (StoreLength s x) = IsHeading p s x
 IsSaneAt p lay a (StoreTag s x) = IsHeading p s x
 IsSaneAt p lay a (HideLength d s offset) = IsInHeap p (a.reg s)
-IsSaneAt p lay a (SeeBlock (Search s) begins c) = IsSearching p s c
-IsSaneAt p lay a (SeeBlock Roam true c) = Unit {0}
-IsSaneAt p lay a (SeeBlock Roam false c) = c < p.config.blocks
+IsSaneAt p lay a (SeeBlock t begins c) = MaySee t begins → IsOnTask p t c
 IsSaneAt p lay a (TakeBlock s c) = IsSearching p s c
 IsSaneAt p lay a (SeeUsed s c) = IsSearching p s c
 IsSaneAt p lay a (TakeSlot s c i) = IsSearching p s c × (i < slots (made_slot p s))
