@@ -17,7 +17,7 @@ use Rattle.sg_graph.specs.Run.{Phase, Epoch, Stop}
 -- an epoch whose whole statements stand in the order of the turns that the schedule gives; behind it the schedule is another one
 pub record IsEpochBy (p : Program) (e : ℕ) (g : Graph) (b : Book) (s : Schedule) (order : List Said) (swept : List ℕ) (report : EpochReport) (h : Graph) (c : Book) (t : Schedule) : Type 0 where
   pub is : IsEpoch p e g b order swept report h c
-  pub follows : FollowsEpoch p g b s order report.parts t
+  pub follows : FollowsEpoch p g b s order report.parts c t
 
 -- a stop whose minor pause, where one is made, copies in order
 pub record IsStopInOrder (p : Program) (e : ℕ) (g : Graph) (b : Book) (epoch : EpochReport) (report : StopReport) (h : Graph) (c : Book) : Type 0 where

@@ -188,8 +188,10 @@ pub data Plays (p : Program) (actors : List ℕ) : Schedule → Board → List S
   Goes : (s t u : Schedule) (x y z : Board) (i k : ℕ) (said order : List Said) → Gives (length actors) (ActorLeft x actors) s i t → slice_get actors i ≡ Some k →
       TakesTurn p x k said y → Plays p actors t y order u z → Plays p actors s x (said ++ order) u z
 
--- an epoch from g and b on follows the schedule: this is the order of its whole statements, and these parts say how each mutator left
-pub record FollowsEpoch (p : Program) (g : Graph) (b : Book) (s : Schedule) (order : List Said) (parts : List Part) (t : Schedule) : Type 0 where
+-- An epoch from g and b on follows the schedule: this is the order of its whole statements, these parts say how each mutator left, and c is the book
+-- then, by which exactly the blocks are owed that nobody took over.
+pub record FollowsEpoch (p : Program) (g : Graph) (b : Book) (s : Schedule) (order : List Said) (parts : List Part) (c : Book) (t : Schedule) : Type 0 where
   pub last : Board
   pub plays : Plays p (running p g) (begun s) (opening g b) order t last
   pub leaves : Pairwise (λ (k : ℕ) (part : Part). last.position k ≡ HasLeft part.leave) (running p g) parts
+  pub book : c ≡ record last.book { owed = last.owed }
