@@ -17,11 +17,11 @@ use Rattle.sg_actor.specs.declared.mutator.Stage.{Stage}
 use Rattle.sg_actor.specs.declared.mutator.Stage.TheVariants.{Between, Ended}
 use Rattle.sg_actor.specs.State.{Mutating, actor_of, leave_of, IsSameMutator}
 use Rattle.sg_actor.specs.Turning.{IsResting}
-use Rattle.sg_mutate.specs.Boards.{IsBoarded}
+use Rattle.sg_mutate.specs.Boards.{IsBoarded, OccupiesSlots}
 
--- how many fragments a space has, and before which word each ends
+-- how many fragments a space has, before which word each ends, and the marks of each block
 abbrev pub constants_of : Contents → Constants
-constants_of s = record { fragments = length s.ends; limit = λ f. word_at (slice_index s.ends f) }
+constants_of s = record { fragments = length s.ends; limit = λ f. word_at (slice_index s.ends f); marks = λ c. slice_index s.marks c }
 
 -- who has ended in an earlier epoch has nothing in its hands that anybody looks at, but for the rest of a buffer
 abbrev pub parted : Mutating → Actor
@@ -62,6 +62,7 @@ pub record IsOpened (p : Program) (g : Graph) (b : Book) (s : Contents) (mutator
   pub limits : IsWithinLimits p
   pub opening : IsEpochOpening p (constants_of s) (words_of s) g b (actors_in mutators)
   pub space : IsSpaceFor p s
+  pub fits : OccupiesSlots p (words_of s)
   pub are : AreMutatorsOf p mutators
   pub stages : (k : ℕ) (m : Mutating) → slice_get mutators k ≡ Some m → IsReadyStage g k m.stage
   pub going : ¬ AllEnded p g
@@ -75,12 +76,6 @@ pub record HasLeftAs (p : Program) (x : Board) (k : ℕ) (m n : Mutating) (a : A
   pub position : x.position k ≡ HasLeft leave
   pub fits : (n.stage ≡ Ended) ⊎ IsResting p n.stage
 
--- no slot was claimed, no block's word changed, and no ready entry was taken
-pub record LeavesBlocks (s t : Contents) : Type 0 where
-  pub block : (words_of t).block ≡ (words_of s).block
-  pub used : (words_of t).used ≡ (words_of s).used
-  pub head : t.head ≡ s.head
-
 -- The epoch that opened with g and b over the space s, with these mutators, is over: by the turns that the schedule gave, it led to this
 -- space and these mutators, each of which has left, and to another schedule.
 pub record IsOver (p : Program) (g : Graph) (b : Book) (s : Contents) (mutators : List Mutating) (schedule : Schedule) (t : Contents)
@@ -91,7 +86,8 @@ pub record IsOver (p : Program) (g : Graph) (b : Book) (s : Contents) (mutators 
   pub boarded : IsBoarded p (constants_of s) g b order board (words_of t) actors
   pub plays : Plays p (running p g) (begun schedule) (opening g b) order next board
   pub keeps : KeepsSections s t
-  pub leaves : LeavesBlocks s t
+  -- no ready entry was taken
+  pub head : t.head ≡ s.head
   pub are : AreMutatorsOf p after
   pub left : (k : ℕ) (m n : Mutating) → slice_get mutators k ≡ Some m → slice_get after k ≡ Some n → (g.mutator k).ended ≡ false →
       HasLeftAs p board k m n (actors k)

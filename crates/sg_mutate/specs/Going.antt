@@ -5,7 +5,8 @@ use Rattle.sg_program.specs.declared.program.Program.{Program}
 use Rattle.sg_graph.specs.Epoch.{numbers_below}
 use Rattle.sg_space.specs.Space.{Contents, words_of}
 use Rattle.sg_frag.specs.Plain.{Led, MayCall}
-use Rattle.sg_frag.specs.Leading.{limit_of}
+use Rattle.sg_frag.specs.Leading.{limit_of, marks_of}
+use Rattle.sg_words.specs.Sections.{old_base}
 use Rattle.sg_rules.specs.Rules.{Constants, Actor}
 use Rattle.sg_actor.specs.declared.mutator.Stage.{Stage}
 use Rattle.sg_actor.specs.declared.mutator.Stage.TheVariants.{Ended}
@@ -39,4 +40,6 @@ AreActors mutators actors = AreActorsBelow mutators (length mutators) actors
 
 -- a mutator of the program, which is a, may make each next step on the space from here on
 abbrev pub IsOnSpace : Program → Constants → Contents → Actor → Type 0
-IsOnSpace p lay s a = IsOnPort p lay Led MayCall (λ t step. Saw (words_of t) step) (λ t. length t.ends) (λ t. limit_of t.ends) s a
+IsOnSpace p lay s a =
+    IsOnPort p lay Led MayCall (λ t step. Saw (words_of t) step) (λ t. length t.ends) (λ t. limit_of t.ends) (λ t. length t.blocks) (λ t. old_base t.layout)
+    (λ t. marks_of t.marks) s a
