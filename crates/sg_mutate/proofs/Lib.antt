@@ -1,9 +1,3 @@
-mod Events
-mod Ends
-mod Explained
-mod Standing
-mod Taking
-mod OwedLess
 mod Listed
 mod Numbered
 mod Calls

@@ -24,7 +24,7 @@ use Rattle.sg_actor.specs.declared.mutator.Stage.TheVariants.{Between, Within, C
 use Rattle.sg_actor.specs.State.{Mutating, mid_of, actor_of, leave_of, IsSameMutator}
 use Rattle.sg_actor.specs.Turning.{IsResting, IsBehindTurn, EndsNow, TakesTurn}
 use Rattle.sg_rules.specs.Acting.{HasTurned}
-use Rattle.sg_mutate.specs.Boards.{IsAt, IsBoarded, HasTaken, HasEnded, TurnsAreTaken, EndsAreTaken}
+use Rattle.sg_boards.specs.Boards.{IsAt, IsBoarded, HasTaken, HasEnded, TurnsAreTaken, EndsAreTaken}
 use Rattle.sg_mutate.proofs.Midst.{IsPlacedAt}
 
 -- a turn moves nobody else on the board

@@ -12,7 +12,7 @@ use Rattle.sg_actor.specs.declared.mutator.Stage.{Stage}
 use Rattle.sg_actor.specs.declared.mutator.Stage.TheVariants.{Between, Within, Claiming, Ended, Asking, Yielded}
 use Rattle.sg_actor.specs.State.{Mutating, actor_of, mid_of, leave_of}
 use Rattle.sg_actor.specs.Turning.{TakesTurn}
-use Rattle.sg_mutate.specs.Boards.{owed, owed_at, TurnsOweLess}
+use Rattle.sg_boards.specs.Boards.{owed, owed_at, TurnsOweLess}
 
 -- who has left owes nothing
 abbrev pub still : Stage → ℕ → ℕ

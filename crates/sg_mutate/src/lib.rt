@@ -1,9 +1,6 @@
-//! An epoch: the mutators take turns over a lent space until each has left; and the laws of turns: a turn of a mutator by atomic steps
-//! is a turn over graph and book.
+//! An epoch: the mutators take turns over a lent space until each has left.
 #![tactic(auto)]
 
 mod epochs;
-mod laws;
 
 pub use epochs::{EpochEnd, epoch};
-pub use laws::{ends_are_taken, opens_boarded, turns_are_taken, turns_owe_less};

@@ -10,7 +10,7 @@ use Rattle.sg_rules.specs.Rules.{Constants, Mid, Idle, TestTag, TestLength, Acce
 use Rattle.sg_rules.specs.Rules.Comes.{test_null, test_begins, loads_tag, loads_length, test_fails, put_stores, put_stores_old, marks_card, putd_stores, get_loads, getd_loads, global_begins, gput_stores, gget_loads, num_sets, drop_clears, move_sets, push_sets, pop_sets, hide_null, hide_begins, hide_fits, hide_misses, unhide_sets, same_tells, new_bumps, new_looks, look_finds, look_goes_on, stop_asks, asks, yields, claim_wins, claim_moves, claim_goes_on, stores_length, stores_tag}
 use Rattle.sg_rules.specs.Sane.{IsSaneAt}
 use Rattle.sg_rules.specs.Acting.{ActsOn, RestsAt}
-use Rattle.sg_mutate.specs.Boards.{owed_at, owed, TurnsOweLess}
+use Rattle.sg_boards.specs.Boards.{owed_at, owed, TurnsOweLess}
 
 -- 1 where a turn ends
 abbrev ending : Mid → ℕ

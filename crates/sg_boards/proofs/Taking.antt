@@ -21,11 +21,11 @@ use Rattle.sg_graph.specs.Turns.TakesTurn.{Ends, Yields, Collects, Does, Prepare
 use Rattle.sg_rules.specs.Rules.{Constants, Mid, Idle, TestTag, TestLength, Access, MarkCard, AccessGlobal, Look, Claim, StoreLength, StoreTag, HideLength, Ask, Left, Yielded, Actor}
 use Rattle.sg_order.specs.Rest.{IsReady, before_it}
 use Rattle.sg_order.specs.OneOrder.{HasPrepared, IsSoFar, IsOneOrder, OrdersSoFar}
-use Rattle.sg_mutate.specs.Boards.{IsAt, IsBoarded, HasTaken, OpensBoarded, TurnsAreTaken, EndsAreTaken}
-use Rattle.sg_mutate.proofs.Events.{order_more, so_more}
-use Rattle.sg_mutate.proofs.Ends.{Searched, Turned, GivesWay, IsDone, Gathers, Looks, Wins, Loses, HasRun, runs}
-use Rattle.sg_mutate.proofs.Explained.{GoesBehind, goes_behind}
-use Rattle.sg_mutate.proofs.Standing.{at_rest, at_idle, at_claim, request_of, collects, none_by, OneMore, one_by, Reads, AreFragments, found, none}
+use Rattle.sg_boards.specs.Boards.{IsAt, IsBoarded, HasTaken, OpensBoarded, TurnsAreTaken, EndsAreTaken}
+use Rattle.sg_boards.proofs.Events.{order_more, so_more}
+use Rattle.sg_boards.proofs.Ends.{Searched, Turned, GivesWay, IsDone, Gathers, Looks, Wins, Loses, HasRun, runs}
+use Rattle.sg_boards.proofs.Explained.{GoesBehind, goes_behind}
+use Rattle.sg_boards.proofs.Standing.{at_rest, at_idle, at_claim, request_of, collects, none_by, OneMore, one_by, Reads, AreFragments, found, none}
 
 -- as an epoch opens
 pub opens_boarded : OrdersSoFar → OpensBoarded

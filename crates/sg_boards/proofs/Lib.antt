@@ -1,0 +1,6 @@
+mod Events
+mod Ends
+mod Explained
+mod Standing
+mod Taking
+mod OwedLess
