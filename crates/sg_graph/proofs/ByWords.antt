@@ -1,5 +1,5 @@
 -- Whether placing the requests by fragments leaves one without a place is told by the words for which they ask.
-use Rattle.std.proofs.Common.{◌≡◌, ◌≢◌, ℕ, suc, ◌+◌, ◌<◌, ◌≤◌, ◌⊎◌, inl, inr, true, false, List, [], ◌∷◌, map, sym, refl, ap, ◌∙◌, subst}
+use Rattle.std.proofs.Common.{◌≡◌, ◌≢◌, ℕ, suc, ◌+◌, ◌<◌, ◌≤◌, ◌⊎◌, inl, inr, true, false, List, [], ◌∷◌, length, map, sym, refl, ap, ◌∙◌, subst, arith}
 use Rattle.std.specs.List.{AllByRecursion}
 use Rattle.sg_words.specs.Words.{put}
 use Rattle.sg_words.specs.Reach.{IsFreshIn}
@@ -10,13 +10,13 @@ use Rattle.sg_program.specs.declared.program.Program.{Program}
 use Rattle.sg_program.specs.declared.answers.Answer.{Answer}
 use Rattle.sg_program.specs.declared.answers.Answer.TheVariants.{At, Fine, Full}
 use Rattle.sg_program.specs.declared.answers.Request.{Request}
-use Rattle.sg_program.specs.declared.answers.Request.TheVariants.{Need, Minor, Major, Sections as AllSections}
+use Rattle.sg_program.specs.declared.answers.Request.TheVariants.{Need, Slot, Minor, Major, Sections as AllSections}
 use Rattle.sg_program.specs.Scripts.{words_for, fields_of, made_words, IsSmall, IsRequestOf}
 use Rattle.sg_graph.specs.Graph.{Graph, Mutator, advanced}
 use Rattle.sg_graph.specs.Statements.{Answers, heap_after, hands_after}
 use Rattle.sg_graph.specs.Book.{Book, placed}
 use Rattle.sg_graph.specs.Stop.{Asked, InFragments, Takes, HasNoFragment, Places, IsAnswered, LacksOne, ThisOne, OneBehind}
-use Rattle.sg_graph.specs.Laws.{LacksWords, NoRoom, RoomBefore, needed_by, needs_of, IsAsking, AreAsking, PlacesByWords}
+use Rattle.sg_graph.specs.Laws.{LacksWords, NoRoom, RoomBefore, needed_by, needs_of, AsksNoSlot, IsAsking, AreAsking, PlacesByWords}
 
 -- what finding no room means, by the first of the words
 abbrev LacksBy : ℕ → (ℕ → ℕ) → (ℕ → ℕ) → List ℕ → Type 0
@@ -88,30 +88,35 @@ module _ (p : Program) (g : Graph) (b : Book) where
       (RoomBefore b.next n needs f takes.there takes.room takes.lowest (subst (λ (z : Book). LacksIn z needs) takes.after later))
 
   -- a statement that asks, and is answered so, takes what its request says from the fragments
-  none_here : (s : Statement) (q : Request) (c : Book) (needs : List ℕ) → IsRequestOf p s q → Places p InFragments g b s Full c → LacksIn b (needed_by q needs)
-  none_here (New r class) (Need words) c needs e x = no_room (words_for (fields_of p class)) words needs e x.1
-  none_here (NewV r class count) (Need words) c needs e x = no_room (words_for count) words needs e x.1
-  none_here (Collect false) Minor c needs e x = absurd x
-  none_here (Collect true) Major c needs e x = absurd x
-  none_here Sections AllSections c needs e x = absurd x
-  none_here s q c needs e x = absurd e
+  none_here : (s : Statement) (q : Request) (c : Book) (needs : List ℕ) → IsRequestOf p s q → ((size : ℕ) → q ≢ Slot size) →
+      Places p InFragments g b s Full c → LacksIn b (needed_by q needs)
+  none_here (New r class) (Need words) c needs e u x = no_room (words_for (fields_of p class)) words needs e x.1
+  none_here (NewV r class count) (Need words) c needs e u x = no_room (words_for count) words needs e x.1
+  none_here (Collect false) Minor c needs e u x = absurd x
+  none_here (Collect true) Major c needs e u x = absurd x
+  none_here Sections AllSections c needs e u x = absurd x
+  none_here (Mature r class) (Slot size) c needs e u x = absurd (u size refl)
+  none_here (Mature r class) q c needs e u x = absurd e
+  none_here s q c needs e u x = absurd e
 
-  none_behind : (s : Statement) (q : Request) (a : Answer) (c : Book) (needs : List ℕ) → IsRequestOf p s q → Places p InFragments g b s a c →
-      LacksIn c needs → LacksIn b (needed_by q needs)
-  none_behind (New r class) (Need words) (At name) c needs e (small, (f, takes)) later =
+  none_behind : (s : Statement) (q : Request) (a : Answer) (c : Book) (needs : List ℕ) → IsRequestOf p s q → ((size : ℕ) → q ≢ Slot size) →
+      Places p InFragments g b s a c → LacksIn c needs → LacksIn b (needed_by q needs)
+  none_behind (New r class) (Need words) (At name) c needs e u (small, (f, takes)) later =
       room_before (words_for (fields_of p class)) words name f c needs e takes later
-  none_behind (New r class) (Need words) Full c needs e x later = no_room (words_for (fields_of p class)) words needs e x.1
-  none_behind (New r class) (Need words) a c needs e x later = absurd x
-  none_behind (NewV r class count) (Need words) (At name) c needs e (small, (f, takes)) later = room_before (words_for count) words name f c needs e takes later
-  none_behind (NewV r class count) (Need words) Full c needs e x later = no_room (words_for count) words needs e x.1
-  none_behind (NewV r class count) (Need words) a c needs e x later = absurd x
-  none_behind (Collect false) Minor Fine c needs e x later = subst (λ (z : Book). LacksIn z needs) x later
-  none_behind (Collect false) Minor a c needs e x later = absurd x
-  none_behind (Collect true) Major Fine c needs e x later = subst (λ (z : Book). LacksIn z needs) x later
-  none_behind (Collect true) Major a c needs e x later = absurd x
-  none_behind Sections AllSections Fine c needs e x later = subst (λ (z : Book). LacksIn z needs) x later
-  none_behind Sections AllSections a c needs e x later = absurd x
-  none_behind s q a c needs e x later = absurd e
+  none_behind (New r class) (Need words) Full c needs e u x later = no_room (words_for (fields_of p class)) words needs e x.1
+  none_behind (New r class) (Need words) a c needs e u x later = absurd x
+  none_behind (NewV r class count) (Need words) (At name) c needs e u (small, (f, takes)) later = room_before (words_for count) words name f c needs e takes later
+  none_behind (NewV r class count) (Need words) Full c needs e u x later = no_room (words_for count) words needs e x.1
+  none_behind (NewV r class count) (Need words) a c needs e u x later = absurd x
+  none_behind (Collect false) Minor Fine c needs e u x later = subst (λ (z : Book). LacksIn z needs) x later
+  none_behind (Collect false) Minor a c needs e u x later = absurd x
+  none_behind (Collect true) Major Fine c needs e u x later = subst (λ (z : Book). LacksIn z needs) x later
+  none_behind (Collect true) Major a c needs e u x later = absurd x
+  none_behind Sections AllSections Fine c needs e u x later = subst (λ (z : Book). LacksIn z needs) x later
+  none_behind Sections AllSections a c needs e u x later = absurd x
+  none_behind (Mature r class) (Slot size) a c needs e u x later = absurd (u size refl)
+  none_behind (Mature r class) q a c needs e u x later = absurd e
+  none_behind s q a c needs e u x later = absurd e
 
 -- the statement that is answered is the one that asks
 same_statement : (p : Program) (g : Graph) (b : Book) (asked : Asked) (a : Answer) (h : Graph) (c : Book) (asks : IsAsking p g asked)
@@ -122,15 +127,22 @@ places_there : (p : Program) (g : Graph) (b : Book) (asked : Asked) (a : Answer)
     (x : IsAnswered p InFragments g b asked a h c) → Places p InFragments g b asks.statement a c
 places_there p g b asked a h c asks x = subst (λ s. Places p InFragments g b s a c) (same_statement p g b asked a h c asks x) x.places
 
-to_words : (p : Program) (g : Graph) (b : Book) (requests : List Asked) → AreAsking p g requests → LacksOne p InFragments g b requests →
+-- no slot is asked for, behind the first request either
+none_first : (asked : Asked) (more : List Asked) → AsksNoSlot (asked ∷ more) → (size : ℕ) → asked.request ≢ Slot size
+none_first asked more unslotted size = unslotted asked size (0, omega arith, refl)
+
+none_later : (asked : Asked) (more : List Asked) → AsksNoSlot (asked ∷ more) → AsksNoSlot more
+none_later asked more unslotted other size there = unslotted other size (suc there.0, (let q = there.1 in omega arith), there.2)
+
+to_words : (p : Program) (g : Graph) (b : Book) (requests : List Asked) → AreAsking p g requests → AsksNoSlot requests → LacksOne p InFragments g b requests →
     LacksIn b (needs_of requests)
-to_words p _ _ _ asking (ThisOne g b asked more h c x) =
+to_words p _ _ _ asking unslotted (ThisOne g b asked more h c x) =
     let asks = asking.each.0 in
-    none_here p g b asks.statement asked.request c (needs_of more) asks.asks (places_there p g b asked Full h c asks x)
-to_words p _ _ _ asking (OneBehind g b asked more a h c x later) =
+    none_here p g b asks.statement asked.request c (needs_of more) asks.asks (none_first asked more unslotted) (places_there p g b asked Full h c asks x)
+to_words p _ _ _ asking unslotted (OneBehind g b asked more a h c x later) =
     let asks = asking.each.0 in
-    none_behind p g b asks.statement asked.request a c (needs_of more) asks.asks (places_there p g b asked a h c asks x)
-    (to_words p h c more (still p g asked more x.statement x.rest a h x.does.1 asking) later)
+    none_behind p g b asks.statement asked.request a c (needs_of more) asks.asks (none_first asked more unslotted) (places_there p g b asked a h c asks x)
+    (to_words p h c more (still p g asked more x.statement x.rest a h x.does.1 asking) (none_later asked more unslotted) later)
 
 -- What follows for a statement that asks, where the fragments have no room for its request and those behind it: it has no place itself, or is
 -- answered and leaves no room for those.
@@ -140,9 +152,10 @@ Follows p g b m s needs =
     ⊎ ((a : Answer) × (c : Book) × Answers p g m s a × Places p InFragments g b s a c × LacksIn c needs)
 
 module _ (p : Program) (g : Graph) (b : Book) (m : Mutator) where
-  follows : (s : Statement) (q : Request) (needs : List ℕ) → IsRequestOf p s q → IsSmall (made_words p s) → LacksIn b (needed_by q needs) →
+  follows : (s : Statement) (q : Request) (needs : List ℕ) → IsRequestOf p s q → ((size : ℕ) → q ≢ Slot size) → IsSmall (made_words p s) →
+      LacksIn b (needed_by q needs) →
       Follows p g b m s needs
-  follows (New r class) (Need words) needs e small x =
+  follows (New r class) (Need words) needs e u small x =
       let n = words_for (fields_of p class) in
       elim (by_first b.fragments b.limit b.next (n ∷ needs) (subst (λ z. LacksIn b (z ∷ needs)) e x)) [
         | inl none ↦ inl (tt, (small, record { none = none }, refl))
@@ -150,7 +163,7 @@ module _ (p : Program) (g : Graph) (b : Book) (m : Mutator) where
             let c : Book = record (placed b (suc g.count) (b.next f)) { next = put b.next f (b.next f + n) } in
             inr (At (suc g.count), c, refl, (small, (f, record { there = there; room = room; lowest = lowest; after = refl })), later)
       ]
-  follows (NewV r class count) (Need words) needs e small x =
+  follows (NewV r class count) (Need words) needs e u small x =
       let n = words_for count in
       elim (by_first b.fragments b.limit b.next (n ∷ needs) (subst (λ z. LacksIn b (z ∷ needs)) e x)) [
         | inl none ↦ inl (tt, (small, record { none = none }, refl))
@@ -158,26 +171,28 @@ module _ (p : Program) (g : Graph) (b : Book) (m : Mutator) where
             let c : Book = record (placed b (suc g.count) (b.next f)) { next = put b.next f (b.next f + n) } in
             inr (At (suc g.count), c, refl, (small, (f, record { there = there; room = room; lowest = lowest; after = refl })), later)
       ]
-  follows (Collect false) Minor needs e small x = inr (Fine, b, tt, refl, x)
-  follows (Collect true) Major needs e small x = inr (Fine, b, tt, refl, x)
-  follows Sections AllSections needs e small x = inr (Fine, b, tt, refl, x)
-  follows s q needs e small x = absurd e
+  follows (Collect false) Minor needs e u small x = inr (Fine, b, tt, refl, x)
+  follows (Collect true) Major needs e u small x = inr (Fine, b, tt, refl, x)
+  follows Sections AllSections needs e u small x = inr (Fine, b, tt, refl, x)
+  follows (Mature r class) (Slot size) needs e u small x = absurd (u size refl)
+  follows (Mature r class) q needs e u small x = absurd e
+  follows s q needs e u small x = absurd e
 
-from_words : (p : Program) (requests : List Asked) (g : Graph) (b : Book) → AreAsking p g requests → LacksIn b (needs_of requests) →
+from_words : (p : Program) (requests : List Asked) (g : Graph) (b : Book) → AreAsking p g requests → AsksNoSlot requests → LacksIn b (needs_of requests) →
     LacksOne p InFragments g b requests
-from_words p [] g b asking x = absurd (by_first b.fragments b.limit b.next [] x)
-from_words p (asked ∷ more) g b asking x =
+from_words p [] g b asking unslotted x = absurd (by_first b.fragments b.limit b.next [] x)
+from_words p (asked ∷ more) g b asking unslotted x =
     let asks = asking.each.0 in
     let m = g.mutator asked.by in
-    elim (follows p g b m asks.statement asked.request (needs_of more) asks.asks asks.small x) [
+    elim (follows p g b m asks.statement asked.request (needs_of more) asks.asks (none_first asked more unslotted) asks.small x) [
       | inl (answers, places) ↦
           ThisOne g b asked more (behind p g asked.by asks.statement asks.rest Full) b
           (record { statement = asks.statement; rest = asks.rest; next = asks.next; does = (answers, refl); places = places })
       | inr (a, c, answers, places, later) ↦
           let h = behind p g asked.by asks.statement asks.rest a in
           OneBehind g b asked more a h c (record { statement = asks.statement; rest = asks.rest; next = asks.next; does = (answers, refl); places = places })
-          (from_words p more h c (still p g asked more asks.statement asks.rest a h refl asking) later)
+          (from_words p more h c (still p g asked more asks.statement asks.rest a h refl asking) (none_later asked more unslotted) later)
     ]
 
 pub places_by_words : PlacesByWords
-places_by_words p g b requests asking = (to_words p g b requests asking, from_words p requests g b asking)
+places_by_words p g b requests asking unslotted = (to_words p g b requests asking unslotted, from_words p requests g b asking unslotted)
