@@ -76,7 +76,7 @@ pub record IsOneOrder (p : Program) (lay : Constants) (w : Words) (g : Graph) (b
   pub prepared : (k : ℕ) (s : Statement) (f seen : ℕ) → (last k).mid ≡ Claim s f seen → HasPrepared p graph book k (last k) s f seen
   pub yielded : (k : ℕ) → (last k).mid ≡ Yielded → IsWanted last
   pub owed : book.owed ≡ b.owed
-  pub runs : Runs p lay w no_winner g b es graph book
+  pub runs : Runs p lay w no_winner g b es order graph book
   pub sweep : IsSweep p lay w b.owed es
   pub blocks : AreBlocksSoFar p lay graph book es v last
   pub ended : AreOver last → IsAtEnd p lay g.count b graph (swept_in book (swept_of es)) v last

@@ -16,7 +16,7 @@ use Rattle.sg_program.specs.declared.program.Program.{Program}
 use Rattle.sg_program.specs.declared.answers.Answer.{Answer}
 use Rattle.sg_graph.specs.Graph.{Graph}
 use Rattle.sg_graph.specs.Book.{Book, IsWordOf, slot_at}
-use Rattle.sg_graph.specs.Epoch.{Turn}
+use Rattle.sg_graph.specs.Epoch.{Said, Turn, IsNewOld}
 use Rattle.sg_rules.specs.Rules.{Constants}
 
 -- who won the last exchange of a block's word: while the block is being swept, its sweeper
@@ -76,17 +76,31 @@ abbrev pub IsHarmless : Program → Constants → Words → Graph → Book → S
 IsHarmless p lay w g b (OnBlock step) = IsHarmlessOn p lay w g b step
 IsHarmless p lay w g b step = Unit {0}
 
--- a deciding step of actor k is a whole statement, and any other one changes neither graph nor book
-abbrev pub IsMove : Program → Graph → Book → ℕ → Bool → Graph → Book → Type 0
-IsMove p g b k true h c = (answer : Answer) × Turn p g b (record { by = k; answer = answer }) h c
-IsMove p g b k false h c = (h ≡ g) × (c ≡ b)
+-- the new object of the major heap with this name stands, by the book c, in the slot that the step claims
+pub record IsClaimedBy (p : Program) (w : Words) (step : Step) (c : Book) (name : ℕ) : Type 0 where
+  pub block : ℕ
+  pub slot : ℕ
+  pub size : ℕ
+  pub found : ℕ
+  pub claims : step ≡ OnBlock (OrUsed block slot found)
+  pub word : w.block block ≡ Swept size
+  pub at : c.address name ≡ slot_at p block size slot
+
+-- A deciding step of actor k is the whole statement that comes next in the order, with `rest` behind it, and an object that it makes in the major heap
+-- stands in the slot that the step claims. Any other step changes neither graph nor book.
+abbrev pub IsMove : Program → Words → Graph → Book → ℕ → Step → Bool → List Said → Graph → Book → List Said → Type 0
+IsMove p w g b k step true order h c rest =
+    (answer : Answer) × (order ≡ record { by = k; answer = answer } ∷ rest) × Turn p g b (record { by = k; answer = answer }) h c
+    × ((name : ℕ) → IsNewOld g.count c name → IsClaimedBy p w step c name)
+IsMove p w g b k step false order h c rest = (rest ≡ order) × (h ≡ g) × (c ≡ b)
 
 -- the events in order, with the graph and the book before and after each: each step is lawful by who won the blocks, and harmless
-abbrev pub Runs : Program → Constants → Words → (ℕ → ℕ) → Graph → Book → List Event → Graph → Book → Type 0
-Runs p lay w by g b [] h c = (h ≡ g) × (c ≡ b)
-Runs p lay w by g b (e ∷ es) h c =
-    (h1 : Graph) × (c1 : Book) × IsMove p g b e.by e.tick.decides h1 c1 × IsLawful p lay w by e.by e.tick.step × IsHarmless p lay w g b e.tick.step
-    × Runs p lay (after_step w e.tick.step) (winner_after by e.by e.tick.step) h1 c1 es h c
+abbrev pub Runs : Program → Constants → Words → (ℕ → ℕ) → Graph → Book → List Event → List Said → Graph → Book → Type 0
+Runs p lay w by g b [] order h c = (order ≡ []) × (h ≡ g) × (c ≡ b)
+Runs p lay w by g b (e ∷ es) order h c =
+    (h1 : Graph) × (c1 : Book) × (rest : List Said) × IsMove p w g b e.by e.tick.step e.tick.decides order h1 c1 rest
+    × IsLawful p lay w by e.by e.tick.step × IsHarmless p lay w g b e.tick.step
+    × Runs p lay (after_step w e.tick.step) (winner_after by e.by e.tick.step) h1 c1 es rest h c
 
 -- the block whose sweep a step took over, before these
 abbrev pub taken_over : Step → List ℕ → List ℕ
