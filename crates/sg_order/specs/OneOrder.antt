@@ -75,6 +75,8 @@ pub record IsOneOrder (p : Program) (lay : Constants) (w : Words) (g : Graph) (b
   pub tight : (k : ℕ) (s : Statement) → IsMaking s → (last k).mid ≡ Left s → HasNoPlace book k (made_words p s)
   pub prepared : (k : ℕ) (s : Statement) (f seen : ℕ) → (last k).mid ≡ Claim s f seen → HasPrepared p graph book k (last k) s f seen
   pub yielded : (k : ℕ) → (last k).mid ≡ Yielded → IsWanted last
+  -- what stands has one of the graph's names; and no turn changes which blocks are owed
+  pub given : (name : ℕ) → book.stands name ≡ true → name ≤ graph.count
   pub owed : book.owed ≡ b.owed
   pub runs : Runs p lay w no_winner g b es order graph book
   pub sweep : IsSweep p lay w b.owed es
