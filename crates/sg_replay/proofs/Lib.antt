@@ -1,5 +1,6 @@
 pub mod Rising
 pub mod Giving
+pub mod Fitting
 pub mod Turning
 pub mod Playing
 pub mod Keeping

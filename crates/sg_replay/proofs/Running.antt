@@ -1,6 +1,7 @@
--- Two whole runs that follow one list of turns are one run.
+-- Two whole runs that follow one list of turns have one text.
 use Rattle.std.proofs.Common.{◌≡◌, ℕ, zero, suc, ◌<◌, inl, inr, List, [], ◌∷◌, ◌++◌, sym, refl, ap, ◌∙◌, subst, arith}
 use Rattle.std.proofs.lemmas.Bool.{cases_lt}
+use Rattle.std.proofs.lemmas.Grind.{flat_map-append}
 use Rattle.sg_words.specs.Schedule.{Schedule}
 use Rattle.sg_program.specs.declared.program.Program.{Program}
 use Rattle.sg_graph.specs.declared.reports.EpochReport.{EpochReport}
@@ -10,8 +11,8 @@ use Rattle.sg_graph.specs.Book.{Book, empty_book}
 use Rattle.sg_graph.specs.Epoch.{Said, AllEnded}
 use Rattle.sg_graph.specs.Run.{Phase, Epoch, Stop}
 use Rattle.sg_graph.specs.Follows.{IsEpochBy, IsStopInOrder, FollowsTo, Begins, GoesOn, IsWholeRunBy, whole_schedule}
-use Rattle.sg_graph.specs.Laws.{HasOneTurn, HasOneReport}
-use Rattle.sg_trace.specs.Trace.{text}
+use Rattle.sg_graph.specs.Laws.{HasOneTurn, HasOneSearch, HasOneReport}
+use Rattle.sg_trace.specs.Trace.{phase_text, epoch_text, stop_text, text}
 use Rattle.sg_replay.specs.OneText.{HasOneText}
 use Rattle.sg_replay.proofs.Playing as playing
 use Rattle.sg_replay.proofs.Stopping as stopping
@@ -39,6 +40,10 @@ record IsStopped (p : Program) (turns : List ℕ) (n : ℕ) (phases : List Phase
   pub stops : IsStopInOrder p n first.last_graph first.last_book first.report stop g b
   pub phases_are : phases ≡ first.before ++ Epoch first.report first.order first.swept ∷ Stop stop ∷ []
   pub schedule_is : s ≡ first.last_schedule
+
+-- the text of phases and of those behind them
+joined : (xs ys : List Phase) → text (xs ++ ys) ≡ text xs ++ text ys
+joined xs ys = flat_map-append phase_text xs ys
 
 module _ (p : Program) (turns : List ℕ) where
   -- where a run stands, by the number of its epochs
@@ -100,10 +105,10 @@ module _ (p : Program) (turns : List ℕ) where
     epoch = subst (λ z. IsEpochBy p z x.graph x.book x.schedule x.order x.swept x.report x.last_graph x.last_book x.last_schedule) e x.epoch;
   }
 
-module _ (one : HasOneTurn) (reports : HasOneReport) (p : Program) (turns : List ℕ) where
-  -- two runs stand alike
+module _ (one : HasOneTurn) (search : HasOneSearch) (reports : HasOneReport) (p : Program) (turns : List ℕ) where
+  -- two runs stand alike, and have one text so far
   abbrev Alike : List Phase → List Phase → Graph → Graph → Book → Book → Schedule → Schedule → Type 0
-  Alike phases phases' g g' b b' s s' = (phases ≡ phases') × (g ≡ g') × (b ≡ b') × (s ≡ s')
+  Alike phases phases' g g' b b' s s' = (text phases ≡ text phases') × (g ≡ g') × (b ≡ b') × (s ≡ s')
 
   -- two epochs behind as many others are one, where those led to the same
   module _ (n : ℕ) (x y : LaterEpoch p turns n) (alike : Alike x.before y.before x.graph y.graph x.book y.book x.schedule y.schedule) where
@@ -114,13 +119,14 @@ module _ (one : HasOneTurn) (reports : HasOneReport) (p : Program) (turns : List
         let schedule = λ (z : Schedule). IsEpochBy p n y.graph y.book z y.order y.swept y.report y.last_graph y.last_book y.last_schedule in
         subst graph (sym alike.1) (subst book (sym alike.2) (subst schedule (sym alike.3) y.epoch))
 
-    same : playing.IsOne x.order y.order x.swept y.swept x.report y.report x.last_graph y.last_graph x.last_book y.last_book x.last_schedule y.last_schedule
+    same : playing.IsOne x.order y.order x.report y.report x.last_graph y.last_graph x.last_book y.last_book x.last_schedule y.last_schedule
     same =
-        playing.one_epoch one reports p n x.graph x.book x.schedule x.order y.order x.swept y.swept x.report y.report x.last_graph y.last_graph x.last_book
+        playing.one_epoch one search reports p n x.graph x.book x.schedule x.order y.order x.swept y.swept x.report y.report x.last_graph y.last_graph x.last_book
         y.last_book x.last_schedule y.last_schedule x.epoch there
 
-    phase : Epoch x.report x.order x.swept ≡ Epoch y.report y.order y.swept
-    phase = λ j. Epoch (same.same_report j) (same.same_order j) (same.same_swept j)
+    -- what is told of them is the same
+    epoch : epoch_text x.report ≡ epoch_text y.report
+    epoch = ap (λ (r : EpochReport). epoch_text r) same.same_report
 
   -- and so are the stops behind two such epochs
   module _ (n : ℕ) (phases phases' : List Phase) (g g' : Graph) (b b' : Book) (s s' : Schedule) (x : IsStopped p turns n phases g b s)
@@ -144,11 +150,13 @@ module _ (one : HasOneTurn) (reports : HasOneReport) (p : Program) (turns : List
 
     followed : Alike phases phases' g g' b b' s s'
     followed = (
-      x.phases_are
-          ∙ ap (λ (l : List Phase). l ++ Epoch v.report v.order v.swept ∷ Stop x.stop ∷ []) alike.0
-          ∙ ap (λ (z : Phase). w.before ++ z ∷ Stop x.stop ∷ []) (phase n v w alike)
-          ∙ ap (λ (z : StopReport). w.before ++ Epoch w.report w.order w.swept ∷ Stop z ∷ []) stop
-          ∙ sym y.phases_are,
+      ap (λ l. text l) x.phases_are
+          ∙ joined v.before (Epoch v.report v.order v.swept ∷ Stop x.stop ∷ [])
+          ∙ ap (λ t. t ++ (epoch_text v.report ++ (stop_text x.stop ++ []))) alike.0
+          ∙ ap (λ t. text w.before ++ (t ++ (stop_text x.stop ++ []))) (epoch n v w alike)
+          ∙ ap (λ (z : StopReport). text w.before ++ (epoch_text w.report ++ (stop_text z ++ []))) stop
+          ∙ sym (joined w.before (Epoch w.report w.order w.swept ∷ Stop y.stop ∷ []))
+          ∙ sym (ap (λ l. text l) y.phases_are),
       stopping.one_graph p n v.last_graph v.last_book v.epoch.is.sound v.report x.stop y.stop g g' b b' x.stops stops,
       stopping.one_book p n v.last_graph v.last_book v.epoch.is.sound v.report x.stop y.stop g g' b b' x.stops stops,
       x.schedule_is ∙ (same n v w alike).same_schedule ∙ sym y.schedule_is,
@@ -160,7 +168,7 @@ module _ (one : HasOneTurn) (reports : HasOneReport) (p : Program) (turns : List
   one_standing zero phases phases' g g' b b' s s' x y =
       let v = by_number p turns zero phases g b s x in
       let w = by_number p turns zero phases' g' b' s' y in
-      (v.0 ∙ sym w.0, v.1 ∙ sym w.1, v.2 ∙ sym w.2, v.3 ∙ sym w.3)
+      (ap (λ l. text l) (v.0 ∙ sym w.0), v.1 ∙ sym w.1, v.2 ∙ sym w.2, v.3 ∙ sym w.3)
   one_standing (suc n) phases phases' g g' b b' s s' x y =
       let a = by_number p turns (suc n) phases g b s x in
       let c = by_number p turns (suc n) phases' g' b' s' y in
@@ -198,12 +206,14 @@ module _ (one : HasOneTurn) (reports : HasOneReport) (p : Program) (turns : List
     alike : Alike x.before y.before x.graph y.graph x.book y.book x.schedule y.schedule
     alike = alike_before x.number this that
 
-    one_run : phases ≡ phases'
+    one_run : text phases ≡ text phases'
     one_run =
-        x.phases_are
-        ∙ ap (λ (l : List Phase). l ++ Epoch x.report x.order x.swept ∷ []) alike.0
-        ∙ ap (λ (z : Phase). y.before ++ z ∷ []) (phase x.number this that alike)
-        ∙ sym y.phases_are
+        ap (λ l. text l) x.phases_are
+        ∙ joined x.before (Epoch x.report x.order x.swept ∷ [])
+        ∙ ap (λ t. t ++ (epoch_text x.report ++ [])) alike.0
+        ∙ ap (λ t. text y.before ++ (t ++ [])) (epoch x.number this that alike)
+        ∙ sym (joined y.before (Epoch y.report y.order y.swept ∷ []))
+        ∙ sym (ap (λ l. text l) y.phases_are)
 
-pub has_one_text : HasOneTurn → HasOneReport → HasOneText
-has_one_text one reports p turns phases phases' x y = ap (λ (l : List Phase). text l) (one_run one reports p turns phases phases' x y)
+pub has_one_text : HasOneTurn → HasOneSearch → HasOneReport → HasOneText
+has_one_text one search reports p turns phases phases' x y = one_run one search reports p turns phases phases' x y

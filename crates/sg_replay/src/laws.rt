@@ -1,6 +1,6 @@
 ghost use Rattle.sg_replay.specs.OneText.{HasOneText};
 
-use sg_graph::{one_report, one_turn};
+use sg_graph::{one_report, one_search, one_turn};
 
 /// The law of one text: two whole runs of a program that follow one list of turns have one text. It does nothing; its
 /// contract is the law.
@@ -8,5 +8,6 @@ pub fn one_text()
     ensures { HasOneText }
 {
     one_turn();
+    one_search();
     one_report();
 }
