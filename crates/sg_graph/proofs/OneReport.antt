@@ -20,7 +20,7 @@ use Rattle.sg_graph.specs.Graph.{Graph, Mutator, advanced}
 use Rattle.sg_graph.specs.Statements.{Answers, heap_after, hands_after}
 use Rattle.sg_graph.specs.Book.{Book, Section, Old, placed_in, swept_in, slot_at, slot_words, Claims, IsPlaced, IsSlotted, words_of_class, Books}
 use Rattle.sg_graph.specs.Epoch.{Said, Turn, Explains, answers_of, by_address, Asks, Leaves, IsPart, running, left, AllEnded, IsNewOld, IsEpoch}
-use Rattle.sg_graph.specs.Laws.{AgreeOnNew, HasOneReport, leaves_of}
+use Rattle.sg_graph.specs.Laws.{AgreeOnNew, HasOneReport, TurnsKeepOld, leaves_of}
 
 -- the lowest fragment with room is one
 one_claim : (p : Program) (b : Book) (k n name f e : ℕ) (c d : Book) → Claims p b k n name f c → Claims p b k n name e d → f ≡ e
@@ -150,6 +150,17 @@ order_stays p g b (said ∷ order) h c n (h1, c1, t, x) l =
     let r = order_stays p h1 c1 order h c n x (let up = turn_counts p g b said h1 c1 t in omega arith) in
     (r.0 ∙ q.0, r.1 ∙ q.1, r.2 ∙ q.2)
 
+pub turns_keep_old : TurnsKeepOld
+turns_keep_old p g b said h c t = record {
+  counts = turn_counts p g b said h c t;
+  stands = λ name l. (stays name l).0;
+  section = λ name l. (stays name l).1;
+  address = λ name l. (stays name l).2;
+}
+  where
+    stays : (name : ℕ) → name ≤ g.count → StandsSame b c name
+    stays name l = statement_stays p g b said.by (g.mutator said.by) t.statement said.answer c name t.does.0 t.books l
+
 -- what a statement that makes an object in the major heap leaves: one object more, which stands there
 pub record MadeOld (g : Graph) (h : Graph) (c : Book) : Type 0 where
   pub grows : h.count ≡ suc g.count
@@ -174,7 +185,8 @@ one_order : (p : Program) (g : Graph) (b : Book) (order : List Said) (h i : Grap
 one_order p g b [] h i c d x y agree = x.1 ∙ sym y.1
 one_order p g b (said ∷ order) h i c d (h1, c1, t, x) (i1, d1, u, y) agree =
     one_order p h1 c1 order h i c d x (subst (λ z. Explains p h1 z order i d) (sym book) there)
-    (λ name o. agree name (record { new = (let up = turn_counts p g b said h1 c1 t in let new = o.new in omega arith); stands = o.stands; old = o.old }))
+    (λ name o o'. agree name (record { new = (let up = turn_counts p g b said h1 c1 t in let new = o.new in omega arith); stands = o.stands; old = o.old })
+    (record { new = (let up = turn_counts p g b said h1 c1 t in let new = o'.new in omega arith); stands = o'.stands; old = o'.old }))
   where
     graph : h1 ≡ i1
     graph = turn_graph p g b b said h1 i1 c1 d1 t u
@@ -185,11 +197,14 @@ one_order p g b (said ∷ order) h i c d (h1, c1, t, x) (i1, d1, u, y) agree =
     here : AgreesAt g t.statement c1 d1
     here mature =
         let made = made_old p g b said.by (g.mutator said.by) t.statement said.answer c1 mature t.does.0 t.books in
+        let made' = made_old p g b said.by (g.mutator said.by) u.statement said.answer d1
+        (subst IsMature (same_statement p g b b said h1 i1 c1 d1 t u).0 mature) u.does.0 u.books in
         let grows : h1.count ≡ suc g.count = ap (λ (z : Graph). z.count) t.does.1 ∙ made.grows in
         let later = order_stays p h1 c1 order h c (suc g.count) x (omega arith) in
         let later' = order_stays p h1 d1 order i d (suc g.count) there (omega arith) in
         sym later.2
         ∙ agree (suc g.count) (record { new = omega arith; stands = later.0 ∙ made.stands; old = later.1 ∙ made.old })
+        (record { new = omega arith; stands = later'.0 ∙ made'.stands; old = later'.1 ∙ made'.old })
         ∙ later'.2
 
     book : c1 ≡ d1
@@ -291,12 +306,16 @@ module _ (p : Program) (e : ℕ) (g : Graph) (b : Book) (order : List Said) (swe
 
   module _ (agree : AgreeOnNew g.count c d) where
     book_before : x.book ≡ y.book
-    book_before = one_order p g b order x.last y.last x.book y.book x.explains y.explains (λ name o.
+    book_before = one_order p g b order x.last y.last x.book y.book x.explains y.explains (λ name o o'.
         sym (ap (λ (w : Book). w.address name) this)
         ∙ agree name (record {
           new = o.new;
           stands = ap (λ (w : Book). w.stands name) this ∙ o.stands;
           old = ap (λ (w : Book). w.section name) this ∙ o.old;
+        }) (record {
+          new = o'.new;
+          stands = ap (λ (w : Book). w.stands name) that ∙ o'.stands;
+          old = ap (λ (w : Book). w.section name) that ∙ o'.old;
         })
         ∙ ap (λ (w : Book). w.address name) that)
 

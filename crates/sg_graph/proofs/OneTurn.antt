@@ -52,7 +52,12 @@ has_one_turn p g b said said' h h' c c' t u e agree =
     there : Turn p g b said h' c'
     there = subst (λ (z : Said). Turn p g b z h' c') (sym same) u
 
+    same_next : t.statement ≡ there.statement
+    same_next = let q : (t.statement ∷ t.rest) ≡ (there.statement ∷ there.rest) = sym t.next ∙ there.next in cc q
+
     here : IsMature t.statement → c.address (suc g.count) ≡ c'.address (suc g.count)
     here mature =
         let made = made_old p g b said.by (g.mutator said.by) t.statement said.answer c mature t.does.0 t.books in
+        let made' = made_old p g b said.by (g.mutator said.by) there.statement said.answer c' (subst IsMature same_next mature) there.does.0 there.books in
         agree (suc g.count) (record { new = omega arith; stands = made.stands; old = made.old })
+        (record { new = omega arith; stands = made'.stands; old = made'.old })

@@ -47,9 +47,9 @@ pub record EndsBehindLast : Type 0 where
 abbrev pub leaves_of : EpochReport → List Leave
 leaves_of report = map (λ (part : Part). part.leave) report.parts
 
--- the old objects behind the first `count` names have the same addresses in both books
+-- an object behind the first `count` names that is an old one by both books has the same address in them
 abbrev pub AgreeOnNew : ℕ → Book → Book → Type 0
-AgreeOnNew count c d = (name : ℕ) → IsNewOld count c name → c.address name ≡ d.address name
+AgreeOnNew count c d = (name : ℕ) → IsNewOld count c name → IsNewOld count d name → c.address name ≡ d.address name
 
 -- One order of whole statements, from one graph and one book on, leads to one graph; with the same places for the new objects of the major heap
 -- and the same blocks swept it leads to one book; and then it has one report, where the mutators leave in one way.
@@ -193,6 +193,17 @@ pub record QuietPause : Type 0 where
 abbrev pub HasOneTurn : Type 0
 HasOneTurn = (p : Program) (g : Graph) (b : Book) (said said' : Said) (h h' : Graph) (c c' : Book) → Turn p g b said h c → Turn p g b said' h' c' →
     said.by ≡ said'.by → AgreeOnNew g.count c c' → (said ≡ said') × (h ≡ h') × (c ≡ c')
+
+-- from g and b to h and c the graph only grows, and the objects that there were stand as they stood
+pub record KeepsOld (g h : Graph) (b c : Book) : Type 0 where
+  pub counts : g.count ≤ h.count
+  pub stands : (name : ℕ) → name ≤ g.count → c.stands name ≡ b.stands name
+  pub section : (name : ℕ) → name ≤ g.count → c.section name ≡ b.section name
+  pub address : (name : ℕ) → name ≤ g.count → c.address name ≡ b.address name
+
+-- a whole statement lets the objects that there were stand as they stood
+abbrev pub TurnsKeepOld : Type 0
+TurnsKeepOld = (p : Program) (g : Graph) (b : Book) (said : Said) (h : Graph) (c : Book) → Turn p g b said h c → KeepsOld g h b c
 
 -- a search for a slot of a size class stops in one way
 abbrev pub HasOneSearch : Type 0

@@ -1,4 +1,4 @@
-ghost use Rattle.sg_graph.specs.Laws.{BlocksAreSwept, BlocksGo, EndsBehindLast, FullIsLast, HasOneReport, HasOneSearch, HasOneTurn, KeepsInMajor, KeepsPointedInto, PlacesByRoom, PlacesByWords, QuietPause, RunsByTurns};
+ghost use Rattle.sg_graph.specs.Laws.{BlocksAreSwept, BlocksGo, EndsBehindLast, FullIsLast, HasOneReport, HasOneSearch, HasOneTurn, KeepsInMajor, KeepsPointedInto, PlacesByRoom, PlacesByWords, QuietPause, RunsByTurns, TurnsKeepOld};
 
 /// The law of the end: a run ends behind the epoch that is told to be the last one. It does nothing; its contract is the
 /// law.
@@ -46,6 +46,12 @@ pub fn quiet_pause()
 /// of the major heap to one book. It does nothing; its contract is the law.
 pub fn one_turn()
     ensures { HasOneTurn }
+{}
+
+/// The law of what there was: a whole statement lets the objects that there were stand as they stood. It does nothing; its contract is
+/// the law.
+pub fn turns_keep_old()
+    ensures { TurnsKeepOld }
 {}
 
 /// The law of one search: a search for a slot stops in one way. It does nothing; its contract is the law.

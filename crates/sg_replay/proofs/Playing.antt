@@ -130,7 +130,7 @@ module _ (one : HasOneTurn) (search : HasOneSearch) (reports : HasOneReport) (p 
   book = x.follows.book ∙ ap (λ (w : Board). record w.book { owed = w.owed }) played.2 ∙ sym y.follows.book
 
   agree : AgreeOnNew g.count c c'
-  agree name o = ap (λ (w : Book). w.address name) book
+  agree name o o' = ap (λ (w : Book). w.address name) book
 
   pub one_epoch : IsOne order order' r r' h h' c c' t t'
   one_epoch = record {
