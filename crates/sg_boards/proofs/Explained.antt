@@ -37,7 +37,7 @@ module _ (p : Program) (one : HasOneTurn) (w : Words) (g : Graph) (b : Book) (k 
       IsMove p w g b k step decides order h c rest → IsMove p w g b k step decides order' h' c' rest' → IsSameMove order h h' c c' rest order' rest'
   same_move true order order' h h' c c' rest rest' m m' =
       let t = one p g b (record { by = k; answer = m.0 }) (record { by = k; answer = m'.0 }) h h' c c' m.2 m'.2 refl
-      (λ name new. same_claim c c' p w step name (m.3 name new) (m'.3 name (old_too name new))) in
+      (λ name new new'. same_claim c c' p w step name (m.3 name new) (m'.3 name new')) in
       record {
         graph = t.1;
         book = t.2;
@@ -45,9 +45,6 @@ module _ (p : Program) (one : HasOneTurn) (w : Words) (g : Graph) (b : Book) (k 
         first = m.1;
         second = m'.1 ∙ ap (λ (said : Said). said ∷ rest') (sym t.0);
       }
-    where
-      old_too : (name : ℕ) → IsNewOld g.count c name → IsNewOld g.count c' name
-      old_too name new = ?
   same_move false order order' h h' c c' rest rest' m m' = record {
     graph = m.1 ∙ sym m'.1;
     book = m.2 ∙ sym m'.2;
@@ -55,3 +52,33 @@ module _ (p : Program) (one : HasOneTurn) (w : Words) (g : Graph) (b : Book) (k 
     first = sym m.0;
     second = sym m'.0;
   }
+
+-- these statements and these steps come behind
+pub record GoesBehind (p : Program) (lay : Constants) (w : Words) (by : ℕ → ℕ) (es : List Event) (order order' : List Said) (h : Graph) (c : Book) (fs : List Event)
+    (h' : Graph) (c' : Book) : Type 0 where
+  pub rest : List Said
+  pub order_is : order' ≡ order ++ rest
+  pub runs : Runs p lay (after w (ticks es)) (winners by es) h c fs rest h' c'
+
+append_again : (xs ys zs : List Said) → (xs ++ ys) ++ zs ≡ xs ++ (ys ++ zs)
+append_again [] ys zs = refl
+append_again (x ∷ xs) ys zs = ap (λ us. x ∷ us) (append_again xs ys zs)
+
+module _ (p : Program) (lay : Constants) (one : HasOneTurn) where
+  pub goes_behind : (es fs : List Event) (w : Words) (by : ℕ → ℕ) (g : Graph) (b : Book) (order order' : List Said) (h h' : Graph) (c c' : Book) →
+      Runs p lay w by g b es order h c → Runs p lay w by g b (es ++ fs) order' h' c' → GoesBehind p lay w by es order order' h c fs h' c'
+  goes_behind [] fs w by g b order order' h h' c c' r r' = record {
+    rest = order';
+    order_is = ap (λ xs. xs ++ order') (sym r.0);
+    runs = subst (λ (x : Book). Runs p lay w by h x fs order' h' c') (sym r.2) (subst (λ (x : Graph). Runs p lay w by x b fs order' h' c') (sym r.1) r');
+  }
+  goes_behind (e ∷ es) fs w by g b order order' h h' c c' (h1, c1, more, move, lawful, harmless, r) (h2, c2, more', move', lawful', harmless', r') =
+      let same = same_move p one w g b e.by e.tick.step e.tick.decides order order' h1 h2 c1 c2 more more' move move' in
+      let on = goes_behind es fs (after_step w e.tick.step) (winner_after by e.by e.tick.step) h1 c1 more more' h h' c c' r
+      (subst (λ (x : Book). Runs p lay (after_step w e.tick.step) (winner_after by e.by e.tick.step) h1 x (es ++ fs) more' h' c') (sym same.book)
+      (subst (λ (x : Graph). Runs p lay (after_step w e.tick.step) (winner_after by e.by e.tick.step) x c2 (es ++ fs) more' h' c') (sym same.graph) r')) in
+      record {
+        rest = on.rest;
+        order_is = same.second ∙ ap (λ xs. same.more ++ xs) on.order_is ∙ sym (append_again same.more more on.rest) ∙ ap (λ xs. xs ++ on.rest) (sym same.first);
+        runs = on.runs;
+      }

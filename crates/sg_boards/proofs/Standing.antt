@@ -3,19 +3,20 @@ use Rattle.std.proofs.Common.{◌≡◌, ℕ, ◌<◌, ◌≤◌, true, false, L
 use Rattle.sg_words.specs.Address.{byte_at}
 use Rattle.sg_words.specs.Words.{Words}
 use Rattle.sg_program.specs.declared.program.Statement.{Statement}
-use Rattle.sg_program.specs.declared.program.Statement.TheVariants.{New, NewV, Collect, Sections}
+use Rattle.sg_program.specs.declared.program.Statement.TheVariants.{New, NewV, Mature, Collect, Sections}
 use Rattle.sg_program.specs.declared.program.Program.{Program}
 use Rattle.sg_program.specs.declared.answers.Request.{Request}
-use Rattle.sg_program.specs.declared.answers.Request.TheVariants.{Need, Minor, Major, Sections as AllSections}
-use Rattle.sg_program.specs.Scripts.{IsMaking, IsCollecting, made_words, IsRequestOf}
+use Rattle.sg_program.specs.declared.answers.Request.TheVariants.{Need, Slot, Minor, Major, Sections as AllSections}
+use Rattle.sg_program.specs.Scripts.{IsMaking, IsMature, IsCollecting, made_words, made_slot, IsRequestOf}
 use Rattle.sg_graph.specs.Graph.{Graph}
 use Rattle.sg_graph.specs.Book.{Book, LacksRoom}
 use Rattle.sg_graph.specs.Epoch.{Said, Turn, Explains}
-use Rattle.sg_graph.specs.Turns.{Position, Between, Claiming, HasLeft, HasGone, IsLowestFrom, HasNoneFrom}
+use Rattle.sg_graph.specs.Turns.{Position, Between, Claiming, OpeningBlock, TakingSlot, TakingOver, SweepingBlock, BehindSweep, HasLeft, HasGone, IsLowestFrom, HasNoneFrom}
 use Rattle.sg_rules.specs.Rules.{Constants, Mid, Idle, TestTag, TestLength, Access, MarkCard, AccessGlobal, Look, Claim, StoreLength, StoreTag, HideLength, Ask, Left, Yielded, Actor}
+use Rattle.sg_rules.specs.Rules.{Task, Search, Roam, SeeBlock, TakeBlock, SeeUsed, TakeSlot, TakeOver, StoreOccupancy, ClearSlots, ClearWords, Retired}
 use Rattle.sg_rules.specs.Acting.{RestsAt}
 use Rattle.sg_boards.specs.Boards.{IsAt}
-use Rattle.sg_boards.proofs.Ends.{Lacks, Finds}
+use Rattle.sg_boards.proofs.Ends.{Lacks, Finds, IsRoaming}
 
 -- who stands on a board is between two turns
 pub at_rest : (p : Program) (script : List Statement) (mid : Mid) (position : Position) → IsAt p script mid position → RestsAt mid
@@ -30,6 +31,16 @@ at_rest p script (Claim s f seen) position h = tt
 at_rest p script (StoreLength s x) position h = absurd h
 at_rest p script (StoreTag s x) position h = absurd h
 at_rest p script (HideLength d s offset) position h = absurd h
+at_rest p script (SeeBlock t true c) position h = tt
+at_rest p script (SeeBlock t false c) position h = absurd h
+at_rest p script (TakeBlock s c) position h = tt
+at_rest p script (SeeUsed s c) position h = absurd h
+at_rest p script (TakeSlot s c i) position h = tt
+at_rest p script (TakeOver t c z) position h = tt
+at_rest p script (StoreOccupancy t c z) position h = tt
+at_rest p script (ClearSlots t c z i) position h = absurd h
+at_rest p script (ClearWords t c z i f) position h = absurd h
+at_rest p script Retired position h = absurd h
 at_rest p script (Ask s) position h = absurd h
 at_rest p script (Left s) position h = tt
 at_rest p script Yielded position h = tt
@@ -41,6 +52,11 @@ at_idle p script mid position h e stays = go position (subst (λ (m : Mid). IsAt
     go : (q : Position) → IsAt p script Idle q → ¬ HasGone q → q ≡ Between
     go Between h stays = refl
     go (Claiming f seen) h stays = absurd h
+    go (OpeningBlock c) h stays = absurd h
+    go (TakingSlot c i) h stays = absurd h
+    go (TakingOver c) h stays = absurd h
+    go (SweepingBlock c) h stays = absurd h
+    go (BehindSweep c) h stays = absurd h
     go (HasLeft leave) h stays = absurd (stays tt)
 
 pub at_claim : (p : Program) (script : List Statement) (mid : Mid) (position : Position) (s : Statement) (f seen : ℕ) → IsAt p script mid position →
@@ -51,13 +67,104 @@ at_claim p script mid position s f seen h e = go position (subst (λ (m : Mid). 
     go : (q : Position) → IsAt p script (Claim s f seen) q → q ≡ Claiming f seen
     go Between h = absurd h
     go (Claiming fragment found) h = let one = h.0 in let two = h.1 in cc
+    go (OpeningBlock c) h = absurd h
+    go (TakingSlot c i) h = absurd h
+    go (TakingOver c) h = absurd h
+    go (SweepingBlock c) h = absurd h
+    go (BehindSweep c) h = absurd h
     go (HasLeft leave) h = absurd h
+
+pub at_opening : (p : Program) (script : List Statement) (mid : Mid) (position : Position) (s : Statement) (c : ℕ) → IsAt p script mid position → mid ≡ TakeBlock s c → position ≡ OpeningBlock c
+at_opening p script mid position s c h e = go position (subst (λ (m : Mid). IsAt p script m position) e h)
+  where
+    go : (q : Position) → IsAt p script (TakeBlock s c) q → q ≡ OpeningBlock c
+    go Between h = absurd h
+    go (Claiming f seen) h = absurd h
+    go (OpeningBlock d) h = ap OpeningBlock h
+    go (TakingSlot d x) h = absurd h
+    go (TakingOver d) h = absurd h
+    go (SweepingBlock d) h = absurd h
+    go (BehindSweep d) h = absurd h
+    go (HasLeft leave) h = absurd h
+
+pub at_slot : (p : Program) (script : List Statement) (mid : Mid) (position : Position) (s : Statement) (c i : ℕ) → IsAt p script mid position → mid ≡ TakeSlot s c i → position ≡ TakingSlot c i
+at_slot p script mid position s c i h e = go position (subst (λ (m : Mid). IsAt p script m position) e h)
+  where
+    go : (q : Position) → IsAt p script (TakeSlot s c i) q → q ≡ TakingSlot c i
+    go Between h = absurd h
+    go (Claiming f seen) h = absurd h
+    go (OpeningBlock d) h = absurd h
+    go (TakingSlot d x) h = let one = h.0 in let two = h.1 in cc
+    go (TakingOver d) h = absurd h
+    go (SweepingBlock d) h = absurd h
+    go (BehindSweep d) h = absurd h
+    go (HasLeft leave) h = absurd h
+
+pub at_taking_over : (p : Program) (script : List Statement) (mid : Mid) (position : Position) (s : Statement) (c z : ℕ) → IsAt p script mid position → mid ≡ TakeOver (Search s) c z → position ≡ TakingOver c
+at_taking_over p script mid position s c z h e = go position (subst (λ (m : Mid). IsAt p script m position) e h)
+  where
+    go : (q : Position) → IsAt p script (TakeOver (Search s) c z) q → q ≡ TakingOver c
+    go Between h = absurd h
+    go (Claiming f seen) h = absurd h
+    go (OpeningBlock d) h = absurd h
+    go (TakingSlot d x) h = absurd h
+    go (TakingOver d) h = ap TakingOver h
+    go (SweepingBlock d) h = absurd h
+    go (BehindSweep d) h = absurd h
+    go (HasLeft leave) h = absurd h
+
+pub at_sweeping : (p : Program) (script : List Statement) (mid : Mid) (position : Position) (s : Statement) (c z : ℕ) → IsAt p script mid position → mid ≡ StoreOccupancy (Search s) c z → position ≡ SweepingBlock c
+at_sweeping p script mid position s c z h e = go position (subst (λ (m : Mid). IsAt p script m position) e h)
+  where
+    go : (q : Position) → IsAt p script (StoreOccupancy (Search s) c z) q → q ≡ SweepingBlock c
+    go Between h = absurd h
+    go (Claiming f seen) h = absurd h
+    go (OpeningBlock d) h = absurd h
+    go (TakingSlot d x) h = absurd h
+    go (TakingOver d) h = absurd h
+    go (SweepingBlock d) h = ap SweepingBlock h
+    go (BehindSweep d) h = absurd h
+    go (HasLeft leave) h = absurd h
+
+pub at_behind : (p : Program) (script : List Statement) (mid : Mid) (position : Position) (s : Statement) (c : ℕ) → IsAt p script mid position → mid ≡ SeeBlock (Search s) true c → position ≡ BehindSweep c
+at_behind p script mid position s c h e = go position (subst (λ (m : Mid). IsAt p script m position) e h)
+  where
+    go : (q : Position) → IsAt p script (SeeBlock (Search s) true c) q → q ≡ BehindSweep c
+    go Between h = absurd h
+    go (Claiming f seen) h = absurd h
+    go (OpeningBlock d) h = absurd h
+    go (TakingSlot d x) h = absurd h
+    go (TakingOver d) h = absurd h
+    go (SweepingBlock d) h = absurd h
+    go (BehindSweep d) h = ap BehindSweep h
+    go (HasLeft leave) h = absurd h
+
+-- who stands before the sweep of a block sweeps it
+pub swept_at : (p : Program) (script : List Statement) (mid : Mid) (c : ℕ) → IsAt p script mid (SweepingBlock c) → (s : Statement) × (z : ℕ) × (mid ≡ StoreOccupancy (Search s) c z)
+swept_at p script (StoreOccupancy (Search s) d z) c h = (s, z, ap (λ x. StoreOccupancy (Search s) x z) (sym h))
+swept_at p script (StoreOccupancy Roam d z) c h = absurd h
+swept_at p script Idle c h = absurd h
+swept_at p script mid c h = absurd h
+
+-- and no sweeper stands on a board
+pub no_sweeper : (p : Program) (script : List Statement) (mid : Mid) (position : Position) → IsAt p script mid position → IsRoaming mid → ⊥
+no_sweeper p script (SeeBlock Roam true c) position h r = h
+no_sweeper p script (SeeBlock Roam false c) position h r = h
+no_sweeper p script (TakeOver Roam c z) position h r = h
+no_sweeper p script (StoreOccupancy Roam c z) position h r = h
+no_sweeper p script Retired position h r = h
+no_sweeper p script mid position h r = r
 
 -- an object that finds no room is asked for
 pub request_of : (p : Program) (s : Statement) → IsMaking s → IsRequestOf p s (Need (made_words p s))
 request_of p (New r class) m = refl
 request_of p (NewV r class count) m = refl
 request_of p s m = absurd m
+
+-- one that finds no slot is asked for
+pub slot_request_of : (p : Program) (s : Statement) → IsMature s → IsRequestOf p s (Slot (made_slot p s))
+slot_request_of p (Mature r class) m = refl
+slot_request_of p s m = absurd m
 
 -- and what a statement asks for in any case is its request
 pub collects : (p : Program) (s : Statement) (request : Request) → IsCollecting s request → IsRequestOf p s request

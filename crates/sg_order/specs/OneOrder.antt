@@ -11,7 +11,7 @@ use Rattle.sg_program.specs.declared.program.Statement.TheVariants.{Mature}
 use Rattle.sg_program.specs.declared.program.Program.{Program}
 use Rattle.sg_graph.specs.Graph.{Graph}
 use Rattle.sg_program.specs.Scripts.{IsMaking, IsMature, made_words, made_slot}
-use Rattle.sg_graph.specs.Book.{Book, IsShort, LacksRoom, HasNoPlace, IsApart, IsClosed, block_at, slot_words, swept_in}
+use Rattle.sg_graph.specs.Book.{Book, Old, IsShort, LacksRoom, HasNoPlace, IsApart, IsWordOf, nursery_end, old_end, IsClosed, block_at, slot_words, swept_in}
 use Rattle.sg_graph.specs.Blocks.{AreBlocks}
 use Rattle.sg_graph.specs.Epoch.{Said, Explains, IsNewOld, answers_of, by_address}
 use Rattle.sg_graph.specs.Heap.{Owner}
@@ -75,8 +75,9 @@ pub record IsOneOrder (p : Program) (lay : Constants) (w : Words) (g : Graph) (b
   pub tight : (k : ℕ) (s : Statement) → IsMaking s → (last k).mid ≡ Left s → HasNoPlace book k (made_words p s)
   pub prepared : (k : ℕ) (s : Statement) (f seen : ℕ) → (last k).mid ≡ Claim s f seen → HasPrepared p graph book k (last k) s f seen
   pub yielded : (k : ℕ) → (last k).mid ≡ Yielded → IsWanted last
-  -- what stands has one of the graph's names; and no turn changes which blocks are owed
+  -- what stands has one of the graph's names, and is an old object where it has a word in a block; and no turn changes which blocks are owed
   pub given : (name : ℕ) → book.stands name ≡ true → name ≤ graph.count
+  pub housed : (name x : ℕ) → IsWordOf graph book name x → nursery_end p ≤ x → x < old_end p → book.section name ≡ Old
   pub owed : book.owed ≡ b.owed
   pub runs : Runs p lay w no_winner g b es order graph book
   pub sweep : IsSweep p lay w b.owed es
