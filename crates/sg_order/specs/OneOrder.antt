@@ -5,13 +5,14 @@ use Rattle.sg_words.specs.declared.steps.Step.{Step}
 use Rattle.sg_words.specs.Calls.{call_of}
 use Rattle.sg_words.specs.Words.{put, Words, Saw, after, Legal}
 use Rattle.sg_words.specs.Events.{Event, ticks, part, order_of}
+use Rattle.sg_words.specs.Blocks.{slots, IsOf, is_taken}
 use Rattle.sg_words.specs.declared.steps.BlockWord.TheVariants.{Swept, Sweeping}
 use Rattle.sg_program.specs.declared.program.Statement.{Statement}
 use Rattle.sg_program.specs.declared.program.Statement.TheVariants.{Mature}
 use Rattle.sg_program.specs.declared.program.Program.{Program}
 use Rattle.sg_graph.specs.Graph.{Graph}
 use Rattle.sg_program.specs.Scripts.{IsMaking, IsMature, made_words, made_slot}
-use Rattle.sg_graph.specs.Book.{Book, Old, IsShort, LacksRoom, HasNoPlace, IsApart, IsWordOf, nursery_end, old_end, IsClosed, block_at, slot_words, swept_in}
+use Rattle.sg_graph.specs.Book.{Book, IsShort, LacksRoom, HasNoPlace, IsApart, IsWordOf, slot_at, IsClosed, block_at, slot_words, swept_in}
 use Rattle.sg_graph.specs.Blocks.{AreBlocks}
 use Rattle.sg_graph.specs.Epoch.{Said, Explains, IsNewOld, answers_of, by_address}
 use Rattle.sg_graph.specs.Heap.{Owner}
@@ -43,6 +44,9 @@ pub record AreBlocksSoFar (p : Program) (lay : Constants) (g : Graph) (b : Book)
   pub owner : ℕ → Owner
   pub blocks : AreBlocks p lay.marks v.block v.used v.word g.size b.stands b.address b.section b.owed owner
   pub marks : v.marks ≡ lay.marks
+  -- an object has a word in a slot only where the slot's bit is set
+  pub in_slot : (c z i name x : ℕ) → i < slots z → IsOf (v.block c) z → IsWordOf g b name x → slot_at p c z i ≤ x → x < slot_at p c z i + z →
+      is_taken (v.block c) (v.used c) (lay.marks c) i ≡ 1
   pub swept_by : (c z : ℕ) → c < p.config.blocks → v.block c ≡ Sweeping z → IsInSweep c z (last (winners no_winner es c)).mid
   pub one_sweeper : (j k c y z : ℕ) → IsInSweep c y (last j).mid → IsInSweep c z (last k).mid → j ≡ k
   pub inhabited : (c z : ℕ) → c < p.config.blocks → v.block c ≡ Swept z → HasObject p b.stands b.address c ⊎ ((k : ℕ) × IsInSearch p c z (last k).mid)
@@ -75,9 +79,8 @@ pub record IsOneOrder (p : Program) (lay : Constants) (w : Words) (g : Graph) (b
   pub tight : (k : ℕ) (s : Statement) → IsMaking s → (last k).mid ≡ Left s → HasNoPlace book k (made_words p s)
   pub prepared : (k : ℕ) (s : Statement) (f seen : ℕ) → (last k).mid ≡ Claim s f seen → HasPrepared p graph book k (last k) s f seen
   pub yielded : (k : ℕ) → (last k).mid ≡ Yielded → IsWanted last
-  -- what stands has one of the graph's names, and is an old object where it has a word in a block; and no turn changes which blocks are owed
+  -- what stands has one of the graph's names; and no turn changes which blocks are owed
   pub given : (name : ℕ) → book.stands name ≡ true → name ≤ graph.count
-  pub housed : (name x : ℕ) → IsWordOf graph book name x → nursery_end p ≤ x → x < old_end p → book.section name ≡ Old
   pub owed : book.owed ≡ b.owed
   pub runs : Runs p lay w no_winner g b es order graph book
   pub sweep : IsSweep p lay w b.owed es
