@@ -6,6 +6,7 @@ use Rattle.sg_words.specs.Calls.{call_of}
 use Rattle.sg_words.specs.Words.{put, Words, Saw, after, Legal}
 use Rattle.sg_words.specs.Events.{Event, ticks, part, order_of}
 use Rattle.sg_words.specs.Blocks.{slots, IsOf, is_taken}
+use Rattle.sg_words.specs.declared.steps.BlockWord.{BlockWord}
 use Rattle.sg_words.specs.declared.steps.BlockWord.TheVariants.{Swept, Sweeping}
 use Rattle.sg_program.specs.declared.program.Statement.{Statement}
 use Rattle.sg_program.specs.declared.program.Statement.TheVariants.{Mature}
@@ -38,15 +39,25 @@ pub record IsSeeking (g : Graph) (k : ℕ) (a : Actor) (s : Statement) : Type 0 
   pub makes : IsMature s
   pub script : (g.mutator k).script ≡ s ∷ a.script
 
+-- the word x is one of a slot of block c whose bit is set, by the block's word and its occupancy
+pub record IsHoused (p : Program) (lay : Constants) (state : BlockWord) (used c x : ℕ) : Type 0 where
+  pub size : ℕ
+  pub slot : ℕ
+  pub of : IsOf state size
+  pub fits : slot < slots size
+  pub from : slot_at p c size slot ≤ x
+  pub to : x < slot_at p c size slot + size
+  pub taken : is_taken state used (lay.marks c) slot ≡ 1
+
 -- How the blocks stand in the midst of an epoch, behind these events: their own words say where old objects stand; each that is being swept has one
 -- sweeper; each swept one has an object, or somebody's search for a slot is at it; and what each actor knows of them.
 pub record AreBlocksSoFar (p : Program) (lay : Constants) (g : Graph) (b : Book) (es : List Event) (v : Words) (last : ℕ → Actor) : Type 0 where
   pub owner : ℕ → Owner
   pub blocks : AreBlocks p lay.marks v.block v.used v.word g.size b.stands b.address b.section b.owed owner
   pub marks : v.marks ≡ lay.marks
-  -- an object has a word in a slot only where the slot's bit is set
-  pub in_slot : (c z i name x : ℕ) → i < slots z → IsOf (v.block c) z → IsWordOf g b name x → slot_at p c z i ≤ x → x < slot_at p c z i + z →
-      is_taken (v.block c) (v.used c) (lay.marks c) i ≡ 1
+  -- an object that has a word in a block has it in a slot whose bit is set
+  pub housed : (c name x : ℕ) → c < p.config.blocks → IsWordOf g b name x → block_at p c ≤ x → x < block_at p c + 256 →
+      IsHoused p lay (v.block c) (v.used c) c x
   pub swept_by : (c z : ℕ) → c < p.config.blocks → v.block c ≡ Sweeping z → IsInSweep c z (last (winners no_winner es c)).mid
   pub one_sweeper : (j k c y z : ℕ) → IsInSweep c y (last j).mid → IsInSweep c z (last k).mid → j ≡ k
   pub inhabited : (c z : ℕ) → c < p.config.blocks → v.block c ≡ Swept z → HasObject p b.stands b.address c ⊎ ((k : ℕ) × IsInSearch p c z (last k).mid)
