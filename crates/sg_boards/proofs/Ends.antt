@@ -4,6 +4,7 @@ use Rattle.std.proofs.lemmas.Bool.{cases_eq, cases_lt, cond-true, cond-false, lt
 use Rattle.sg_words.specs.Address.{byte_at}
 use Rattle.sg_words.specs.declared.steps.Step.{Step}
 use Rattle.sg_words.specs.declared.steps.Step.TheVariants.{Load, Store, Won, Lost, OnBlock}
+use Rattle.sg_words.specs.declared.steps.BlockStep.TheVariants.{OrUsed}
 use Rattle.sg_words.specs.declared.steps.Place.{Place}
 use Rattle.sg_words.specs.declared.steps.Place.TheVariants.{Stop, Next, Word, Card, Head, Cell}
 use Rattle.sg_words.specs.declared.steps.Tick.{Tick}
@@ -133,38 +134,39 @@ claimed w c i = record w { used = put w.used c (bit_or (w.used c) (2 ^ i)) }
 abbrev pub owned : Words → ℕ → ℕ → Words
 owned w c z = record w { block = put w.block c (Sweeping z) }
 
--- a whole turn of mutator k, which was a; `swept` are the blocks whose sweep it took over
-pub data Turned (p : Program) (lay : Constants) (k : ℕ) (w : Words) (a : Actor) (ks swept : List ℕ) (m : Mid) (v : Words) : Type 0 where
+-- a whole turn of mutator k, which was a, whose first step is t; `swept` are the blocks whose sweep it took over
+pub data Turned (p : Program) (lay : Constants) (k : ℕ) (w : Words) (a : Actor) (t : Step) (d : Bool) (ks swept : List ℕ) (m : Mid) (v : Words) : Type 0 where
   GivesWay : (s : Statement) (rest : List Statement) → a.mid ≡ Idle → a.script ≡ s ∷ rest → w.stop ≢ 0 → ks ≡ [] → m ≡ Yielded → v.stop ≡ w.stop →
-      Kept w v swept → Turned p lay k w a ks swept m v
+      Kept w v swept → Turned p lay k w a t d ks swept m v
   IsDone : (s : Statement) (rest : List Statement) → a.mid ≡ Idle → a.script ≡ s ∷ rest → w.stop ≡ 0 → (IsMaking s → a.from + made_words p s ≤ a.to) →
-      ¬ IsMature s → Decides k w ks m v → Kept w v swept → Turned p lay k w a ks swept m v
+      ¬ IsMature s → Decides k w ks m v → Kept w v swept → Turned p lay k w a t d ks swept m v
   Gathers : (s : Statement) (rest : List Statement) (request : Request) → IsCollecting s request → a.mid ≡ Idle → a.script ≡ s ∷ rest → w.stop ≡ 0 → ks ≡ [] →
-      m ≡ Left s → v.stop ≢ 0 → Kept w v swept → Turned p lay k w a ks swept m v
+      m ≡ Left s → v.stop ≢ 0 → Kept w v swept → Turned p lay k w a t d ks swept m v
   Looks : (s : Statement) (rest : List Statement) → a.mid ≡ Idle → a.script ≡ s ∷ rest → w.stop ≡ 0 → IsMaking s → a.to < a.from + made_words p s → ks ≡ [] →
-      Searched p lay w s 0 m v → Kept w v swept → Turned p lay k w a ks swept m v
-  Wins : (s : Statement) (f seen : ℕ) → a.mid ≡ Claim s f seen → w.next f ≡ byte_at seen → Decides k w ks m v → Kept w v swept → Turned p lay k w a ks swept m v
+      Searched p lay w s 0 m v → Kept w v swept → Turned p lay k w a t d ks swept m v
+  Wins : (s : Statement) (f seen : ℕ) → a.mid ≡ Claim s f seen → w.next f ≡ byte_at seen → Decides k w ks m v → Kept w v swept → Turned p lay k w a t d ks swept m v
   Loses : (s : Statement) (f seen : ℕ) → a.mid ≡ Claim s f seen → w.next f ≢ byte_at seen → ks ≡ [] → (f < lay.fragments → Searched p lay w s f m v) →
-      Kept w v swept → Turned p lay k w a ks swept m v
+      Kept w v swept → Turned p lay k w a t d ks swept m v
   Matures : (s : Statement) (rest : List Statement) → a.mid ≡ Idle → a.script ≡ s ∷ rest → w.stop ≡ 0 → IsMature s → ks ≡ [] → SearchedBlocks p w s 0 m v →
-      Kept w v swept → Turned p lay k w a ks swept m v
+      Kept w v swept → Turned p lay k w a t d ks swept m v
   WinsBlock : (s : Statement) (c : ℕ) → a.mid ≡ TakeBlock s c → w.block c ≡ Free →
-      (c < p.config.blocks → (ks ≡ []) × SearchedBlocks p (opened p w s c) s c m v) → Kept (opened p w s c) v swept → Turned p lay k w a ks swept m v
+      (c < p.config.blocks → (ks ≡ []) × SearchedBlocks p (opened p w s c) s c m v) → Kept (opened p w s c) v swept → Turned p lay k w a t d ks swept m v
   LosesBlock : (s : Statement) (c : ℕ) → a.mid ≡ TakeBlock s c → w.block c ≢ Free → (c < p.config.blocks → (ks ≡ []) × SearchedBlocks p w s c m v) →
-      Kept w v swept → Turned p lay k w a ks swept m v
-  WinsSlot : (s : Statement) (c i : ℕ) → a.mid ≡ TakeSlot s c i → bit_at (w.used c) i ≡ 0 → Decides k w ks m v → Kept (claimed w c i) v swept →
-      Turned p lay k w a ks swept m v
+      Kept w v swept → Turned p lay k w a t d ks swept m v
+  WinsSlot : (s : Statement) (c i found : ℕ) → a.mid ≡ TakeSlot s c i → t ≡ OnBlock (OrUsed c i found) → d ≡ true → bit_at (w.used c) i ≡ 0 → Decides k w ks m v →
+      Kept (claimed w c i) v swept →
+      Turned p lay k w a t d ks swept m v
   LosesSlot : (s : Statement) (c i : ℕ) → a.mid ≡ TakeSlot s c i → bit_at (w.used c) i ≡ 1 →
-      (c < p.config.blocks → (ks ≡ []) × SearchedBlocks p (claimed w c i) s c m v) → Kept (claimed w c i) v swept → Turned p lay k w a ks swept m v
+      (c < p.config.blocks → (ks ≡ []) × SearchedBlocks p (claimed w c i) s c m v) → Kept (claimed w c i) v swept → Turned p lay k w a t d ks swept m v
   WinsSweep : (s : Statement) (c z : ℕ) (more : List ℕ) → a.mid ≡ TakeOver (Search s) c z → w.block c ≡ Need z → ks ≡ [] →
-      m ≡ StoreOccupancy (Search s) c z → v.stop ≡ w.stop → swept ≡ c ∷ more → Kept (owned w c z) v more → Turned p lay k w a ks swept m v
+      m ≡ StoreOccupancy (Search s) c z → v.stop ≡ w.stop → swept ≡ c ∷ more → Kept (owned w c z) v more → Turned p lay k w a t d ks swept m v
   LosesSweep : (s : Statement) (c z : ℕ) → a.mid ≡ TakeOver (Search s) c z → w.block c ≢ Need z →
-      (c < p.config.blocks → (ks ≡ []) × SearchedBlocks p w s c m v) → Kept w v swept → Turned p lay k w a ks swept m v
+      (c < p.config.blocks → (ks ≡ []) × SearchedBlocks p w s c m v) → Kept w v swept → Turned p lay k w a t d ks swept m v
   SweepsOne : (s : Statement) (c z : ℕ) → a.mid ≡ StoreOccupancy (Search s) c z → ks ≡ [] → m ≡ SeeBlock (Search s) true c → v.stop ≡ w.stop →
-      v.block ≡ put w.block c (swept_word (Need z) (lay.marks c)) → v.used ≡ put w.used c (lay.marks c) → swept ≡ [] → Turned p lay k w a ks swept m v
+      v.block ≡ put w.block c (swept_word (Need z) (lay.marks c)) → v.used ≡ put w.used c (lay.marks c) → swept ≡ [] → Turned p lay k w a t d ks swept m v
   GoesOn : (s : Statement) (c : ℕ) → a.mid ≡ SeeBlock (Search s) true c → (c < p.config.blocks → (ks ≡ []) × SearchedBlocks p w s c m v) → Kept w v swept →
-      Turned p lay k w a ks swept m v
-  Roams : IsRoaming a.mid → Turned p lay k w a ks swept m v
+      Turned p lay k w a t d ks swept m v
+  Roams : IsRoaming a.mid → Turned p lay k w a t d ks swept m v
 
 -- the actor is in the midst of the stores of the sweep of block c, of slots of z words
 abbrev IsClearingAt : ℕ → ℕ → Mid → Type 0
@@ -441,7 +443,7 @@ module _ (p : Program) (lay : Constants) (k : ℕ) where
   -- the first step of a turn
   begins : (w : Words) (ks swept : List ℕ) (m : Mid) (v : Words) (a : Actor) (t : Step) (d : Bool) (b : Actor) → Comes p lay a t d b → RestsAt a.mid → Saw w t →
       Ends p lay k (after_step w t) b.mid ks m v →
-      Effect lay (after_step w t) b.mid swept v → Turned p lay k w a (cond d (k ∷ ks) ks) (taken_over t swept) m v
+      Effect lay (after_step w t) b.mid swept v → Turned p lay k w a t d (cond d (k ∷ ks) ks) (taken_over t swept) m v
   begins w ks swept m v _ _ _ _ (test_null a s rest test e z) r saw h e' = IsDone s rest refl refl saw (λ n. absurd (no_test s test e n)) (no_test_mature s test e) (decided w ks m v h) (e'.kept (λ c z q. q))
   begins w ks swept m v _ _ _ _ (test_begins a s rest test e z) r saw h e' = IsDone s rest refl refl saw (λ n. absurd (no_test s test e n)) (no_test_mature s test e) h (e'.kept (λ c z q. q))
   begins w ks swept m v _ _ _ _ (loads_tag a s rest test class there) r saw h e' = absurd r
@@ -487,7 +489,7 @@ module _ (p : Program) (lay : Constants) (k : ℕ) where
 
   -- and where it is one on blocks
   begins_block : (w : Words) (ks swept : List ℕ) (m : Mid) (v : Words) (a : Actor) (t : Step) (d : Bool) (b : Actor) → BlockComes p lay a t d b → RestsAt a.mid → Saw w t →
-      Ends p lay k (after_step w t) b.mid ks m v → Effect lay (after_step w t) b.mid swept v → Turned p lay k w a (cond d (k ∷ ks) ks) (taken_over t swept) m v
+      Ends p lay k (after_step w t) b.mid ks m v → Effect lay (after_step w t) b.mid swept v → Turned p lay k w a t d (cond d (k ∷ ks) ks) (taken_over t swept) m v
   begins_block w ks swept m v _ _ _ _ (mature_begins a s rest is) r saw h e' =
       let on = searching_blocks w ks m v s 0 h in
       Matures s rest refl refl saw is on.0 on.1 (e'.kept (out_onward (Search s) 0))
@@ -502,7 +504,7 @@ module _ (p : Program) (lay : Constants) (k : ℕ) where
   begins_block w ks swept m v _ _ _ _ (sees_full a s rest c seen full) r saw h e' = absurd r
   begins_block w ks swept m v _ _ _ _ (sees_slot a s rest c i seen fits clear taken) r saw h e' = absurd r
   begins_block w ks swept m v _ _ _ _ (takes_slot a s rest c i found clear) r saw h e' =
-      WinsSlot s c i refl (ap (λ u. bit_at u i) saw ∙ clear) (decided w ks m v h) (e'.kept (λ d z q. q))
+      WinsSlot s c i found refl refl refl (ap (λ u. bit_at u i) saw ∙ clear) (decided w ks m v h) (e'.kept (λ d z q. q))
   begins_block w ks swept m v _ _ _ _ (misses_slot a s rest c i found set) r saw h e' =
       LosesSlot s c i refl (ap (λ u. bit_at u i) saw ∙ set) h (e'.kept (λ d z q. q))
   begins_block w ks swept m v _ _ _ _ (sees_other a s rest true c z differs) r saw h e' =
@@ -634,7 +636,7 @@ module _ (p : Program) (lay : Constants) (k : ℕ) where
   effect_step w swept v a t d b (inr comes) r e = effect_block w swept v a t d b comes r e
 
   begins_step : (w : Words) (ks swept : List ℕ) (m : Mid) (v : Words) (a : Actor) (t : Step) (d : Bool) (b : Actor) → NextStep p lay a t d b → RestsAt a.mid → Saw w t →
-      Ends p lay k (after_step w t) b.mid ks m v → Effect lay (after_step w t) b.mid swept v → Turned p lay k w a (cond d (k ∷ ks) ks) (taken_over t swept) m v
+      Ends p lay k (after_step w t) b.mid ks m v → Effect lay (after_step w t) b.mid swept v → Turned p lay k w a t d (cond d (k ∷ ks) ks) (taken_over t swept) m v
   begins_step w ks swept m v a t d b (inl comes) r saw h e = begins w ks swept m v a t d b comes r saw h e
   begins_step w ks swept m v a t d b (inr comes) r saw h e = begins_block w ks swept m v a t d b comes r saw h e
 
@@ -661,9 +663,13 @@ module _ (p : Program) (lay : Constants) (k : ℕ) where
   -- the steps of a turn, with marks
   pub record HasRun (w : Words) (a : Actor) (steps : List Step) (b : Actor) : Type 0 where
     pub ticks : List Tick
+    pub first : Step
+    pub decides : Bool
+    pub more : List Tick
+    pub ticks_are : ticks ≡ record { step = first; decides = decides } ∷ more
     pub steps_are : steps_of ticks ≡ steps
     pub follows : Follows p lay a ticks b
-    pub turned : Turned p lay k w a (order_of (by_one k ticks)) (swept_of (by_one k ticks)) b.mid (replayed w steps)
+    pub turned : Turned p lay k w a first decides (order_of (by_one k ticks)) (swept_of (by_one k ticks)) b.mid (replayed w steps)
 
   pub runs : (w : Words) (a : Actor) (steps : List Step) (b : Actor) → RestsAt a.mid → IsTurn p lay a steps b → IsLegal w steps → HasRun w a steps b
   runs w a steps b rests turn legal = subst (λ ss. HasRun w a ss b) (sym turn.steps_are) whole
@@ -680,6 +686,10 @@ module _ (p : Program) (lay : Constants) (k : ℕ) where
       whole : HasRun w a (turn.first ∷ turn.more) b
       whole = record {
         ticks = record { step = turn.first; decides = turn.begins.0 } ∷ more.ticks;
+        first = turn.first;
+        decides = turn.begins.0;
+        more = more.ticks;
+        ticks_are = refl;
         steps_are = ap (λ ss. turn.first ∷ ss) more.steps_are;
         follows = (turn.then, turn.begins.1, more.follows);
         turned = begins_step w (order_of (by_one k more.ticks)) (swept_of (by_one k more.ticks)) b.mid (replayed (after_step w turn.first) turn.more) a turn.first

@@ -1,11 +1,11 @@
 -- A longer list of steps leads on from where a shorter one led, since a mutator's next statement has one answer, and a claimed object one place.
-use Rattle.std.proofs.Common.{◌≡◌, ℕ, Bool, true, false, List, [], ◌∷◌, ◌++◌, map, refl, sym, ap, ◌∙◌, subst}
+use Rattle.std.proofs.Common.{◌≡◌, ℕ, Bool, true, false, List, [], ◌∷◌, ◌++◌, map, cond, refl, sym, ap, ◌∙◌, subst}
 use Rattle.sg_words.specs.declared.steps.Step.{Step}
 use Rattle.sg_words.specs.declared.steps.Step.TheVariants.{OnBlock}
 use Rattle.sg_words.specs.declared.steps.BlockStep.TheVariants.{OrUsed}
 use Rattle.sg_words.specs.declared.steps.BlockWord.TheVariants.{Swept}
 use Rattle.sg_words.specs.Words.{Words, after_step, after}
-use Rattle.sg_words.specs.Events.{Event, ticks}
+use Rattle.sg_words.specs.Events.{Event, ticks, order_of}
 use Rattle.sg_program.specs.declared.program.Program.{Program}
 use Rattle.sg_graph.specs.Graph.{Graph}
 use Rattle.sg_graph.specs.Book.{Book, slot_at}
@@ -82,3 +82,44 @@ module _ (p : Program) (lay : Constants) (one : HasOneTurn) where
         order_is = same.second ∙ ap (λ xs. same.more ++ xs) on.order_is ∙ sym (append_again same.more more on.rest) ∙ ap (λ xs. xs ++ on.rest) (sym same.first);
         runs = on.runs;
       }
+
+  pub explained : (es : List Event) (w : Words) (by : ℕ → ℕ) (g : Graph) (b : Book) (order : List Said) (h : Graph) (c : Book) →
+      Runs p lay w by g b es order h c → Explains p g b order h c
+  explained [] w by g b order h c r = subst (λ ss. Explains p g b ss h c) (sym r.0) (r.1, r.2)
+  explained (e ∷ es) w by g b order h c (h1, c1, more, move, lawful, harmless, r) =
+      moved e.tick.decides move
+    where
+      rest : Explains p h1 c1 more h c
+      rest = explained es (after_step w e.tick.step) (winner_after by e.by e.tick.step) h1 c1 more h c r
+
+      moved : (decides : Bool) → IsMove p w g b e.by e.tick.step decides order h1 c1 more → Explains p g b order h c
+      moved true m = subst (λ ss. Explains p g b ss h c) (sym m.1) (h1, c1, m.2, rest)
+      moved false m = subst (λ (x : Book). Explains p g x order h c) m.2 (subst (λ (x : Graph). Explains p x c1 order h c) m.1
+          (subst (λ ss. Explains p h1 c1 ss h c) m.0 rest))
+
+  pub ordered : (es : List Event) (w : Words) (by : ℕ → ℕ) (g : Graph) (b : Book) (order : List Said) (h : Graph) (c : Book) →
+      Runs p lay w by g b es order h c → map (λ (s : Said). s.by) order ≡ order_of es
+  ordered [] w by g b order h c r = ap (map (λ (s : Said). s.by)) r.0
+  ordered (e ∷ es) w by g b order h c (h1, c1, more, move, lawful, harmless, r) = by_cases e.tick.decides move
+    where
+      rest : map (λ (s : Said). s.by) more ≡ order_of es
+      rest = ordered es (after_step w e.tick.step) (winner_after by e.by e.tick.step) h1 c1 more h c r
+
+      by_cases : (decides : Bool) → IsMove p w g b e.by e.tick.step decides order h1 c1 more →
+          map (λ (s : Said). s.by) order ≡ cond decides (e.by ∷ order_of es) (order_of es)
+      by_cases true m = ap (map (λ (s : Said). s.by)) m.1 ∙ ap (λ ks. e.by ∷ ks) rest
+      by_cases false m = ap (map (λ (s : Said). s.by)) (sym m.0) ∙ rest
+
+  -- where the first step decides, and no other one, an object that its statement makes in the major heap stands in the slot that the step claims
+  pub claimed_by : (e : Event) (es : List Event) (w : Words) (by : ℕ → ℕ) (g : Graph) (b : Book) (order : List Said) (h : Graph) (c : Book) →
+      Runs p lay w by g b (e ∷ es) order h c → e.tick.decides ≡ true → order_of es ≡ [] → (name : ℕ) → IsNewOld g.count c name →
+      IsClaimedBy p w e.tick.step c name
+  claimed_by e es w by g b order h c (h1, c1, more, move, lawful, harmless, r) decides none name new =
+      let m = subst (λ (d : Bool). IsMove p w g b e.by e.tick.step d order h1 c1 more) decides move in
+      let same : c ≡ c1 = (subst (λ ss. Explains p h1 c1 ss h c) (no_said more (ordered es (after_step w e.tick.step) (winner_after by e.by e.tick.step)
+      h1 c1 more h c r ∙ none)) (explained es (after_step w e.tick.step) (winner_after by e.by e.tick.step) h1 c1 more h c r)).1 in
+      subst (λ (d : Book). IsClaimedBy p w e.tick.step d name) (sym same) (m.3 name (subst (λ (d : Book). IsNewOld g.count d name) same new))
+    where
+      no_said : (said : List Said) → map (λ (s : Said). s.by) said ≡ [] → said ≡ []
+      no_said [] q = refl
+      no_said (s ∷ said) q = cc

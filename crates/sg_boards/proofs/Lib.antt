@@ -4,3 +4,4 @@ mod Explained
 mod Standing
 mod Taking
 mod OwedLess
+mod Seen

@@ -1,5 +1,6 @@
 -- Who stands where on a board, and what the words say of the book's fragments.
-use Rattle.std.proofs.Common.{◌≡◌, ℕ, ◌<◌, ◌≤◌, true, false, List, [], ◌∷◌, map, refl, subst, arith}
+use Rattle.std.proofs.Common.{◌≡◌, ℕ, ◌<◌, ◌≤◌, true, false, List, [], ◌∷◌, map, refl, ap, sym, ◌∙◌, subst, arith}
+use Rattle.sg_order.specs.Knowing.{IsInSweep}
 use Rattle.sg_words.specs.Address.{byte_at}
 use Rattle.sg_words.specs.Words.{Words}
 use Rattle.sg_program.specs.declared.program.Statement.{Statement}
@@ -31,8 +32,9 @@ at_rest p script (Claim s f seen) position h = tt
 at_rest p script (StoreLength s x) position h = absurd h
 at_rest p script (StoreTag s x) position h = absurd h
 at_rest p script (HideLength d s offset) position h = absurd h
-at_rest p script (SeeBlock t true c) position h = tt
-at_rest p script (SeeBlock t false c) position h = absurd h
+at_rest p script (SeeBlock (Search s) true c) position h = tt
+at_rest p script (SeeBlock (Search s) false c) position h = absurd h
+at_rest p script (SeeBlock Roam begins c) position h = absurd h
 at_rest p script (TakeBlock s c) position h = tt
 at_rest p script (SeeUsed s c) position h = absurd h
 at_rest p script (TakeSlot s c i) position h = tt
@@ -143,8 +145,22 @@ at_behind p script mid position s c h e = go position (subst (λ (m : Mid). IsAt
 pub swept_at : (p : Program) (script : List Statement) (mid : Mid) (c : ℕ) → IsAt p script mid (SweepingBlock c) → (s : Statement) × (z : ℕ) × (mid ≡ StoreOccupancy (Search s) c z)
 swept_at p script (StoreOccupancy (Search s) d z) c h = (s, z, ap (λ x. StoreOccupancy (Search s) x z) (sym h))
 swept_at p script (StoreOccupancy Roam d z) c h = absurd h
-swept_at p script Idle c h = absurd h
+swept_at p script (SeeBlock (Search s) true d) c h = absurd h
+swept_at p script (SeeBlock (Search s) false d) c h = absurd h
+swept_at p script (SeeBlock Roam begins d) c h = absurd h
+swept_at p script (TakeOver (Search s) d z) c h = absurd h
+swept_at p script (TakeOver Roam d z) c h = absurd h
 swept_at p script mid c h = absurd h
+
+-- who is in the midst of a sweep stands before it, between two turns
+pub in_sweep : (p : Program) (script : List Statement) (mid : Mid) (position : Position) (c z : ℕ) → IsAt p script mid position → IsInSweep c z mid →
+    position ≡ SweepingBlock c
+in_sweep p script (StoreOccupancy (Search s) d y) position c z h (e, f) =
+    at_sweeping p script (StoreOccupancy (Search s) d y) position s d y h refl ∙ ap SweepingBlock (sym e)
+in_sweep p script (StoreOccupancy Roam d y) position c z h q = absurd h
+in_sweep p script (ClearSlots t d y i) position c z h q = absurd h
+in_sweep p script (ClearWords t d y i f) position c z h q = absurd h
+in_sweep p script mid position c z h q = absurd q
 
 -- and no sweeper stands on a board
 pub no_sweeper : (p : Program) (script : List Statement) (mid : Mid) (position : Position) → IsAt p script mid position → IsRoaming mid → ⊥

@@ -1,50 +1,94 @@
 -- The steps of a turn are a turn over graph and book.
-use Rattle.std.proofs.Common.{◌≡◌, ◌≢◌, ℕ, ◌+◌, ◌<◌, ◌≤◌, true, false, List, [], ◌∷◌, ◌++◌, map, inl, inr, refl, ap, sym, ◌∙◌, subst, arith}
-use Rattle.std.proofs.lemmas.Bool.{cases_Bool}
+use Rattle.std.proofs.Common.{◌≡◌, ◌≢◌, ℕ, zero, suc, ◌+◌, ◌*◌, ◌/◌, ◌%◌, ◌<◌, ◌≤◌, Bool, true, false, Option, Some, None, List, [], ◌∷◌, ◌++◌, map, cond, inl, inr, refl, ap, sym, ◌∙◌, subst, arith}
+use Rattle.std.specs.Int.{bit_at}
+use Rattle.std.proofs.lemmas.Nat.Bits.{bit_at_lowest, bit_at-suc}
+use Rattle.std.proofs.lemmas.List.{append-nil}
+use Rattle.std.proofs.lemmas.Bool.{cases_Bool, cases_eq, cond-true, cond-false, eq-eqb, ne_eqb}
 use Rattle.sg_words.specs.Address.{byte_at}
 use Rattle.sg_words.specs.declared.steps.Step.{Step}
+use Rattle.sg_words.specs.declared.steps.Step.TheVariants.{OnBlock}
+use Rattle.sg_words.specs.declared.steps.BlockStep.TheVariants.{WonBlock, OrUsed}
+use Rattle.sg_words.specs.declared.steps.BlockWord.{BlockWord}
+use Rattle.sg_words.specs.declared.steps.BlockWord.TheVariants.{Free, Swept, Need, Sweeping}
+use Rattle.sg_words.specs.Blocks.{IsOwing}
+use Rattle.sg_words.specs.Sweeps.{swept_word}
 use Rattle.sg_words.specs.Words.{put, Words, replayed, after, Legal, IsLegal}
-use Rattle.sg_words.specs.Events.{by_one, order_of}
-use Rattle.sg_words.proofs.Puts.{put-same, put-other, put-all}
+use Rattle.sg_words.specs.Events.{Event, ticks, by_one, order_of}
+use Rattle.sg_words.proofs.Puts.{put-at, put-same, put-other, put-all}
 use Rattle.sg_program.specs.declared.program.Statement.{Statement}
 use Rattle.sg_program.specs.declared.program.Program.{Program}
 use Rattle.sg_program.specs.declared.answers.Request.{Request}
-use Rattle.sg_program.specs.declared.answers.Request.TheVariants.{Need}
+use Rattle.sg_program.specs.declared.answers.Request.TheVariants.{Need as Needs_words, Slot}
 use Rattle.sg_program.specs.declared.answers.Leave.TheVariants.{Ended, Yield, Wants}
-use Rattle.sg_program.specs.Scripts.{IsMaking, made_words}
+use Rattle.sg_program.specs.Scripts.{IsMaking, IsMature, made_words, made_slot}
 use Rattle.sg_graph.specs.Graph.{Graph}
-use Rattle.sg_graph.specs.Book.{Book}
-use Rattle.sg_graph.specs.Epoch.{Said, Explains}
-use Rattle.sg_graph.specs.Laws.{HasOneTurn}
-use Rattle.sg_graph.specs.Turns.{Position, Between, Claiming, HasLeft, Board, HasGone, moved_on, asking, Searches, TakesTurn}
-use Rattle.sg_graph.specs.Turns.TakesTurn.{Ends, Yields, Collects, Does, Prepares, Needs, Claims, LooksAgain, FindsNone}
+use Rattle.sg_graph.specs.Book.{Book, IsInBlock, block_at, swept_in}
+use Rattle.sg_graph.specs.Epoch.{Said, Turn, Explains, IsNewOld}
+use Rattle.sg_graph.specs.Laws.{HasOneTurn, TurnsKeepOld, BlocksGo}
+use Rattle.sg_graph.specs.Turns.{Position, Between, Claiming, OpeningBlock, TakingSlot, TakingOver, SweepingBlock, BehindSweep, HasLeft, Board, opening, HasGone, moved_on, asking, stopped_at, giving, Searches, IsBeingSwept, SearchesFrom, SearchesOnAt, TakesTurn}
+use Rattle.sg_graph.specs.Turns.TakesTurn.{Ends, Yields, Collects, Does, Prepares, Needs, Claims, LooksAgain, FindsNone, SearchesOn, Opens, ClaimsSlot, TakesOver, Sweeps}
+use Rattle.sg_graph.specs.Turns.TakesTurn
 use Rattle.sg_rules.specs.Rules.{Constants, Mid, Idle, TestTag, TestLength, Access, MarkCard, AccessGlobal, Look, Claim, StoreLength, StoreTag, HideLength, Ask, Left, Yielded, Actor}
+use Rattle.sg_rules.specs.Rules.{Task, Search, Roam, SeeBlock, TakeBlock, SeeUsed, TakeSlot, TakeOver, StoreOccupancy, ClearSlots, ClearWords, Retired}
 use Rattle.sg_order.specs.Rest.{IsReady, before_it}
-use Rattle.sg_order.specs.OneOrder.{HasPrepared, IsSoFar, IsOneOrder, OrdersSoFar}
-use Rattle.sg_boards.specs.Boards.{IsAt, IsBoarded, HasTaken, OpensBoarded, TurnsAreTaken, EndsAreTaken}
+use Rattle.sg_order.specs.Sweep.{no_winner, winners, taken_over, swept_of, IsClaimedBy, Runs}
+use Rattle.sg_order.specs.Knowing.{IsPast, KnowsAt, Seeks}
+use Rattle.sg_order.specs.OneOrder.{HasPrepared, IsSeeking, AreBlocksSoFar, IsSoFar, IsOneOrder, OrdersSoFar}
+use Rattle.sg_boards.specs.Boards.{IsAt, SaysOf, HasSeen, OccupiesSlots, IsBoarded, HasTaken, OpensBoarded, TurnsAreTaken, EndsAreTaken}
 use Rattle.sg_boards.proofs.Events.{order_more, so_more}
-use Rattle.sg_boards.proofs.Ends.{Searched, Turned, GivesWay, IsDone, Gathers, Looks, Wins, Loses, HasRun, runs}
-use Rattle.sg_boards.proofs.Explained.{GoesBehind, goes_behind}
-use Rattle.sg_boards.proofs.Standing.{at_rest, at_idle, at_claim, request_of, collects, none_by, OneMore, one_by, Reads, AreFragments, found, none}
+use Rattle.sg_boards.proofs.Ends.{Searched, SearchedBlocks, Kept, opened, claimed, owned, Turned, GivesWay, IsDone, Gathers, Looks, Wins, Loses, Matures, WinsBlock, LosesBlock, WinsSlot, LosesSlot, WinsSweep, LosesSweep, SweepsOne, GoesOn, Roams, HasRun, runs}
+use Rattle.sg_boards.proofs.Seen.{Agrees, IsMidOf, HaltsBy, stopped}
+use Rattle.sg_boards.proofs.Explained.{GoesBehind, goes_behind, explained, ordered, claimed_by}
+use Rattle.sg_boards.proofs.Standing.{at_rest, at_idle, at_claim, at_opening, at_slot, at_taking_over, at_sweeping, at_behind, swept_at, in_sweep, no_sweeper, request_of, slot_request_of, collects, none_by, OneMore, one_by, Reads, AreFragments, found, none}
 
 -- as an epoch opens
 pub opens_boarded : OrdersSoFar → OpensBoarded
-opens_boarded orders p lay w g b actors opens = record {
+opens_boarded orders p lay w g b actors opens idle fits = record {
   so = so;
   one = one;
   order_is = none one.order one.deciding;
   graph_is = nothing.0;
   book_is = nothing.1;
-  at = λ k. subst (λ (mid : Mid). IsAt p (actors k).script mid Between) (sym (opens.idle k)) tt;
+  at = λ k. subst (λ (mid : Mid). IsAt p (actors k).script mid Between) (sym (idle k)) tt;
   asked = λ e. cc;
   going = λ e. opens.going;
+  owed_is = refl;
+  says = λ j l. says_at j l (w.block j) refl;
+  seen = λ k. subst (HasSeen w) (sym (idle k)) tt;
+  fits = fits;
 }
   where
     so : IsSoFar p lay g b w actors
     so = record { opened = w; first = actors; events = []; opening = opens; legal = tt; is = refl; follows = λ k. refl }
 
-    one : IsOneOrder p lay g b so.events w actors
+    one : IsOneOrder p lay w g b so.events w actors
     one = orders p lay g b w actors so
+
+    not_owed : (j : ℕ) → j < p.config.blocks → ((z : ℕ) → w.block j ≡ Need z → ⊥) → b.owed j ≡ false
+    not_owed j l no = elim (cases_Bool (b.owed j)) [
+      | inl owed ↦ absurd (let need = opens.held.settled.owes j l owed in no need.0 need.1)
+      | inr e ↦ e
+    ]
+
+    inhabitant : (j : ℕ) → (n : ℕ) × (1 ≤ n) × (b.stands n ≡ true) × (block_at p j ≤ b.address n) × (b.address n < block_at p j + 256) → (n : ℕ) × IsInBlock p b n j
+    inhabitant j (n, some, stands, above, below) = (
+      n,
+      record {
+        some = some;
+        stands = stands;
+        old = elim (opens.held.heap.laid.objects.inside n some stands) [ inl young ↦ absurd (let top = young.2 in omega arith) | inr old ↦ old.0 ];
+        above = above;
+        below = below;
+      },
+    )
+
+    says_at : (j : ℕ) → j < p.config.blocks → (state : BlockWord) → w.block j ≡ state → SaysOf p (opening g b) j state
+    says_at j l Free e = (not_owed j l (λ z q. let f : Free ≡ Need z = sym e ∙ q in cc f), refl)
+    says_at j l (Swept z) e =
+        let at = opens.held.settled.inhabited j z l e in
+        (not_owed j l (λ x q. let f : Swept z ≡ Need x = sym e ∙ q in cc f), inr (refl, inhabitant j at))
+    says_at j l (Need z) e = ((opens.held.settled.blocks.each j l).owing z (subst (λ (state : BlockWord). IsOwing state z) (sym e) refl), refl)
+    says_at j l (Sweeping z) e = absurd (opens.held.settled.settled j z l e)
 
     none : (order : List Said) → map (λ (s : Said). s.by) order ≡ [] → order ≡ []
     none [] e = refl
@@ -53,9 +97,96 @@ opens_boarded orders p lay w g b actors opens = record {
     nothing : (one.graph ≡ g) × (one.book ≡ b)
     nothing = subst (λ ss. Explains p g b ss one.graph one.book) (none one.order one.deciding) one.explains
 
-module _ (orders : OrdersSoFar) (answers : HasOneTurn) (p : Program) (lay : Constants) (g : Graph) (b : Book) (order : List Said) (x : Board) (w : Words)
-    (actors : ℕ → Actor)
+-- the blocks whose sweep was taken over in two lists, one behind the other
+taken_more : (step : Step) (xs ys : List ℕ) → taken_over step (xs ++ ys) ≡ taken_over step xs ++ ys
+taken_more (OnBlock (WonBlock c (Need z) new)) xs ys = refl
+taken_more (OnBlock (WonBlock c Free new)) xs ys = refl
+taken_more (OnBlock (WonBlock c (Swept z) new)) xs ys = refl
+taken_more (OnBlock (WonBlock c (Sweeping z) new)) xs ys = refl
+taken_more step xs ys = refl
+
+swept_more : (es fs : List Event) → swept_of (es ++ fs) ≡ swept_of es ++ swept_of fs
+swept_more [] fs = refl
+swept_more (e ∷ es) fs = ap (taken_over e.tick.step) (swept_more es fs) ∙ taken_more e.tick.step (swept_of es) (swept_of fs)
+
+owed_more : (b : Book) (xs : List ℕ) (c : ℕ) → (swept_in b (xs ++ c ∷ [])).owed ≡ put (swept_in b xs).owed c false
+owed_more b [] c = refl
+owed_more b (x ∷ xs) c = owed_more (record b { owed = put b.owed x false }) xs c
+
+-- what the board says of a block stays said
+says_on : (p : Program) (x y : Board) (j : ℕ) (state : BlockWord) → y.owed j ≡ x.owed j → y.given j ≡ x.given j →
+    ((name : ℕ) → IsInBlock p x.book name j → IsInBlock p y.book name j) → SaysOf p x j state → SaysOf p y j state
+says_on p x y j Free owed given objects h = (owed ∙ h.0, given ∙ h.1)
+says_on p x y j (Swept z) owed given objects h = (
+  owed ∙ h.0,
+  elim h.1 [ inl e ↦ inl (given ∙ e) | inr e ↦ inr (given ∙ e.0, e.1.0, objects e.1.0 e.1.1) ],
+)
+says_on p x y j (Need z) owed given objects h = (owed ∙ h.0, given ∙ h.1)
+says_on p x y j (Sweeping z) owed given objects h = (owed ∙ h.0, given ∙ h.1)
+
+-- what was seen past its sweep is past it
+seen_on : (w v : Words) (mid : Mid) → ((c : ℕ) → IsPast (w.block c) → IsPast (v.block c)) → HasSeen w mid → HasSeen v mid
+seen_on w v (TakeBlock s c) past h = past c h
+seen_on w v (SeeBlock t true c) past h = past c h
+seen_on w v (SeeBlock t false c) past h = tt
+seen_on w v mid past h = tt
+
+past_put : (block : ℕ → BlockWord) (c : ℕ) (state : BlockWord) → IsPast state → (d : ℕ) → IsPast (block d) → IsPast (put block c state d)
+past_put block c state past d h = elim (cases_eq d c) [
+  | inl e ↦ subst IsPast (sym (put-at block c state d e)) past
+  | inr n ↦ subst IsPast (sym (put-other block c state d n)) h
+]
+
+swept_past : (z marks : ℕ) → IsPast (swept_word (Need z) marks)
+swept_past z marks = elim (cases_eq marks 0) [
+  | inl e ↦ subst IsPast (sym (cond-true _ Free (Swept z) (eq-eqb marks 0 e))) tt
+  | inr n ↦ subst IsPast (sym (cond-false _ Free (Swept z) (ne_eqb marks 0 n))) tt
+]
+
+-- a number that isn't 0 has a bit
+bit_by : (fuel n : ℕ) → n ≤ fuel → n ≢ 0 → (i : ℕ) × (bit_at n i ≡ 1)
+bit_by zero n l some = absurd (some (omega arith))
+bit_by (suc fuel) n l some = elim (cases_eq (n % 2) 1) [
+  | inl odd ↦ (0, bit_at_lowest n ∙ odd)
+  | inr even ↦
+      let rest = bit_by fuel (n / 2) (omega arith) (λ z. some (omega (arith, even, z))) in
+      (suc rest.0, bit_at-suc n rest.0 ∙ rest.1)
+]
+
+module _ (orders : OrdersSoFar) (answers : HasOneTurn) (keeps : TurnsKeepOld) (blocks_go : BlocksGo) (p : Program) (lay : Constants) (g : Graph) (b : Book)
+    (order : List Said) (x : Board) (w : Words) (actors : ℕ → Actor)
     (bo : IsBoarded p lay g b order x w actors) (k : ℕ) (stays : ¬ HasGone (x.position k)) where
+  blocks : AreBlocksSoFar p lay x.graph x.book bo.so.events w actors
+  blocks = subst (λ (c : Book). AreBlocksSoFar p lay x.graph c bo.so.events w actors) bo.book_is
+      (subst (λ (h : Graph). AreBlocksSoFar p lay h bo.one.book bo.so.events w actors) bo.graph_is bo.one.blocks)
+
+  abbrev by : ℕ → ℕ
+  by = winners no_winner bo.so.events
+
+  known : (mid : Mid) → (actors k).mid ≡ mid → KnowsAt p lay w x.book.owed by k mid
+  known mid e = subst (KnowsAt p lay w x.book.owed by k) e (blocks.known k)
+
+  being_swept : (j : ℕ) → IsBeingSwept x j → (z : ℕ) × (w.block j ≡ Sweeping z)
+  being_swept j (i, e) =
+      let at = swept_at p (actors i).script (actors i).mid j (subst (λ (q : Position). IsAt p (actors i).script (actors i).mid q) e (bo.at i)) in
+      let kn : KnowsAt p lay w x.book.owed by i (StoreOccupancy (Search at.0) j at.1) = subst (KnowsAt p lay w x.book.owed by i) at.2 (blocks.known i) in
+      (at.1, kn.1.word)
+
+  agrees : Agrees p lay x w
+  agrees = record {
+    word = w.word;
+    owner = blocks.owner;
+    blocks = blocks.blocks;
+    says = bo.says;
+    sweeper = being_swept;
+    swept = λ j z l e. (by j, in_sweep p (actors (by j)).script (actors (by j)).mid (x.position (by j)) j z (bo.at (by j)) (blocks.swept_by j z l e));
+    housed = blocks.housed;
+  }
+
+  given : (name : ℕ) → x.book.stands name ≡ true → name ≤ x.graph.count
+  given name e = subst (λ (h : Graph). name ≤ h.count) bo.graph_is
+      (bo.one.given name (ap (λ (c : Book). c.stands name) bo.book_is ∙ e))
+
   reads : (actors k).mid ≡ Idle → Reads p x.book x.graph k (actors k)
   reads idle =
       let ready = bo.one.ready k (inl idle) in
@@ -101,31 +232,73 @@ module _ (orders : OrdersSoFar) (answers : HasOneTurn) (p : Program) (lay : Cons
     abbrev so : IsSoFar p lay g b v (put actors k a)
     so = so_more p lay g b w actors k a v bo.so run.ticks legal_ticks is_ticks run.follows
 
-    one : IsOneOrder p lay g b so.events v (put actors k a)
+    one : IsOneOrder p lay bo.so.opened g b so.events v (put actors k a)
     one = orders p lay g b v (put actors k a) so
 
-    behind : GoesBehind p bo.one.order one.order bo.one.graph bo.one.book one.graph one.book ks
-    behind = goes_behind p answers bo.one.order one.order g b bo.one.graph one.graph bo.one.book one.book ks bo.one.explains one.explains
-        (one.deciding ∙ order_more bo.so.events (by_one k run.ticks) ∙ ap (λ js. js ++ ks) (sym bo.one.deciding))
+    runs_before : Runs p lay bo.so.opened no_winner g b bo.so.events order x.graph x.book
+    runs_before = subst (λ (d : Book). Runs p lay bo.so.opened no_winner g b bo.so.events order x.graph d) bo.book_is
+        (subst (λ (h : Graph). Runs p lay bo.so.opened no_winner g b bo.so.events order h bo.one.book) bo.graph_is
+        (subst (λ ss. Runs p lay bo.so.opened no_winner g b bo.so.events ss bo.one.graph bo.one.book) bo.order_is bo.one.runs))
+
+    behind : GoesBehind p lay bo.so.opened no_winner bo.so.events order one.order x.graph x.book (by_one k run.ticks) one.graph one.book
+    behind = goes_behind p lay answers bo.so.events (by_one k run.ticks) bo.so.opened no_winner g b order one.order x.graph one.graph x.book one.book runs_before
+        one.runs
 
     explains : Explains p x.graph x.book behind.rest one.graph one.book
-    explains = subst (λ (c : Book). Explains p x.graph c behind.rest one.graph one.book) bo.book_is
-        (subst (λ (h : Graph). Explains p h bo.one.book behind.rest one.graph one.book) bo.graph_is behind.explains)
+    explains = explained p lay (by_one k run.ticks) (after bo.so.opened (ticks bo.so.events)) by x.graph x.book behind.rest one.graph one.book behind.runs
+
+    by_rest : map (λ (s : Said). s.by) behind.rest ≡ ks
+    by_rest = ordered p lay (by_one k run.ticks) (after bo.so.opened (ticks bo.so.events)) by x.graph x.book behind.rest one.graph one.book behind.runs
+
+    abbrev sw : List ℕ
+    sw = swept_of (by_one k run.ticks)
+
+    -- which blocks are owed behind the turn
+    owed_same : sw ≡ [] → x.owed ≡ (swept_in b (swept_of so.events)).owed
+    owed_same e = bo.owed_is ∙ ap (λ ss. (swept_in b ss).owed)
+        (sym (swept_more bo.so.events (by_one k run.ticks) ∙ ap (λ ss. swept_of bo.so.events ++ ss) e ∙ append-nil (swept_of bo.so.events)))
+
+    owed_less : (c : ℕ) → sw ≡ c ∷ [] → put x.owed c false ≡ (swept_in b (swept_of so.events)).owed
+    owed_less c e = ap (λ (f : ℕ → Bool). put f c false) bo.owed_is ∙ sym (owed_more b (swept_of bo.so.events) c) ∙ ap (λ ss. (swept_in b ss).owed)
+        (sym (swept_more bo.so.events (by_one k run.ticks) ∙ ap (λ ss. swept_of bo.so.events ++ ss) e))
 
     boarded : (said : List Said) (y : Board) → behind.rest ≡ said → one.graph ≡ y.graph → one.book ≡ y.book → IsAt p a.script a.mid (y.position k) →
         ((j : ℕ) → j ≢ k → y.position j ≡ x.position j) → (y.stopping ≡ true → v.stop ≢ 0) → (y.stopping ≡ false → v.stop ≡ 0) →
+        y.owed ≡ (swept_in b (swept_of so.events)).owed → ((j : ℕ) → j < p.config.blocks → SaysOf p y j (v.block j)) → HasSeen v a.mid →
+        ((c : ℕ) → IsPast (w.block c) → IsPast (v.block c)) → OccupiesSlots p v →
         IsBoarded p lay g b (order ++ said) y v (put actors k a)
-    boarded said y rest graph book here there asked going = record {
+    boarded said y rest graph book here there asked going owed says seen past fits = record {
       so = so;
       one = one;
-      order_is = behind.order_is ∙ ap (λ ss. ss ++ behind.rest) bo.order_is ∙ ap (λ ss. order ++ ss) rest;
+      order_is = behind.order_is ∙ ap (λ ss. order ++ ss) rest;
       graph_is = graph;
       book_is = book;
       at = put-all (λ j (c : Actor). IsAt p c.script c.mid (y.position j)) actors k a here
           (λ j n. subst (IsAt p (actors j).script (actors j).mid) (sym (there j n)) (bo.at j));
       asked = asked;
       going = going;
+      owed_is = owed;
+      says = says;
+      seen = put-all (λ j (c : Actor). HasSeen v c.mid) actors k a seen (λ j n. seen_on w v (actors j).mid past (bo.seen j));
+      fits = fits;
     }
+
+    -- the blocks as before
+    module _ (u : Words) (kept : Kept u v sw) where
+      state_same : (j : ℕ) → v.block j ≡ u.block j
+      state_same j = ap (λ (f : ℕ → BlockWord). f j) kept.block
+
+      fits_same : OccupiesSlots p u → OccupiesSlots p v
+      fits_same fits c z i l e set =
+          fits c z i l (sym (state_same c) ∙ e) (ap (λ (f : ℕ → ℕ). bit_at (f c) i) (sym kept.used) ∙ set)
+
+      past_same : ((c : ℕ) → IsPast (w.block c) → IsPast (u.block c)) → (c : ℕ) → IsPast (w.block c) → IsPast (v.block c)
+      past_same past c h = subst IsPast (sym (state_same c)) (past c h)
+
+      says_same : (y z : Board) → z.owed ≡ y.owed → z.given ≡ y.given → ((name j : ℕ) → IsInBlock p y.book name j → IsInBlock p z.book name j) →
+          ((j : ℕ) → j < p.config.blocks → SaysOf p y j (u.block j)) → (j : ℕ) → j < p.config.blocks → SaysOf p z j (v.block j)
+      says_same y z owed given objects says j l = subst (SaysOf p z j) (sym (state_same j))
+          (says_on p y z j (u.block j) (ap (λ (f : ℕ → Bool). f j) owed) (ap (λ (f : ℕ → Option ℕ). f j) given) (λ name h. objects name j h) (says j l))
 
     -- the stop word as before
     still_asked : v.stop ≡ w.stop → x.stopping ≡ true → v.stop ≢ 0
@@ -145,7 +318,7 @@ module _ (orders : OrdersSoFar) (answers : HasOneTurn) (p : Program) (lay : Cons
 
     -- no statement is done
     no_more : ks ≡ [] → behind.rest ≡ []
-    no_more e = none_by behind.rest (behind.by ∙ e)
+    no_more e = none_by behind.rest (by_rest ∙ e)
 
     same_all : ks ≡ [] → (one.graph ≡ x.graph) × (one.book ≡ x.book)
     same_all e = subst (λ ss. Explains p x.graph x.book ss one.graph one.book) (no_more e) explains
@@ -153,43 +326,63 @@ module _ (orders : OrdersSoFar) (answers : HasOneTurn) (p : Program) (lay : Cons
     mid_now : (put actors k a k).mid ≡ Idle → a.mid ≡ Idle
     mid_now e = ap (λ (c : Actor). c.mid) (sym (put-same actors k a)) ∙ e
 
-    moves : (position : Position) → ks ≡ [] → v.stop ≡ w.stop → IsAt p a.script a.mid position → ¬ (a.mid ≡ Idle) → TakesTurn p x k [] (moved_on x k position) →
-        HasTaken p lay g b order x k v (put actors k a)
-    moves position e same here some takes = record {
+    moves : (position : Position) → ks ≡ [] → v.stop ≡ w.stop → Kept w v sw → IsAt p a.script a.mid position → HasSeen v a.mid → ¬ (a.mid ≡ Idle) →
+        TakesTurn p x k [] (moved_on x k position) → HasTaken p lay g b order x k v (put actors k a)
+    moves position e same kept here seen some takes = record {
       said = [];
       board = moved_on x k position;
       takes = takes;
       boarded = boarded [] (moved_on x k position) (no_more e) (same_all e).0 (same_all e).1
           (subst (IsAt p a.script a.mid) (sym (put-same x.position k position)) here)
           (λ j n. put-other x.position k position j n)
-          (still_asked same) (still_going same);
+          (still_asked same) (still_going same)
+          (owed_same kept.none) (says_same w kept x (moved_on x k position) refl refl (λ name j h. h) bo.says) seen (past_same w kept (λ c h. h))
+          (fits_same w kept bo.fits);
       stays = λ idle. absurd (some (mid_now idle));
     }
 
-    asks_for : (request : Request) → ks ≡ [] → v.stop ≢ 0 → IsAt p a.script a.mid (HasLeft (Wants request)) → ¬ (a.mid ≡ Idle) →
+    asks_for : (request : Request) → ks ≡ [] → v.stop ≢ 0 → Kept w v sw → IsAt p a.script a.mid (HasLeft (Wants request)) → HasSeen v a.mid → ¬ (a.mid ≡ Idle) →
         TakesTurn p x k [] (asking x k request) → HasTaken p lay g b order x k v (put actors k a)
-    asks_for request e set here some takes = record {
+    asks_for request e set kept here seen some takes = record {
       said = [];
       board = asking x k request;
       takes = takes;
       boarded = boarded [] (asking x k request) (no_more e) (same_all e).0 (same_all e).1
           (subst (IsAt p a.script a.mid) (sym (put-same x.position k (HasLeft (Wants request)))) here)
           (λ j n. put-other x.position k (HasLeft (Wants request)) j n)
-          (λ z. set) (λ z. cc);
+          (λ z. set) (λ z. cc)
+          (owed_same kept.none) (says_same w kept x (asking x k request) refl refl (λ name j h. h) bo.says) seen (past_same w kept (λ c h. h))
+          (fits_same w kept bo.fits);
       stays = λ idle. absurd (some (mid_now idle));
     }
 
+    seen_at : (m : Mid) → HasSeen v m → a.mid ≡ m → HasSeen v a.mid
+    seen_at m h e = subst (HasSeen v) (sym e) h
+
     -- one statement is done
     more : ks ≡ k ∷ [] → OneMore p x.graph x.book k behind.rest one.graph one.book
-    more e = one_by p x.graph x.book k behind.rest one.graph one.book (behind.by ∙ e) explains
+    more e = one_by p x.graph x.book k behind.rest one.graph one.book (by_rest ∙ e) explains
+
+    still_in_block : (said : Said) (h : Graph) (c : Book) → Turn p x.graph x.book said h c → (name j : ℕ) → IsInBlock p x.book name j → IsInBlock p c name j
+    still_in_block said h c turn name j in_block =
+        let keep = keeps p x.graph x.book said h c turn in
+        let l = given name in_block.stands in
+        let address : c.address name ≡ x.book.address name = keep.address name l in
+        record {
+          some = in_block.some;
+          stands = keep.stands name l ∙ in_block.stands;
+          old = keep.section name l ∙ in_block.old;
+          above = let q = in_block.above in omega arith;
+          below = let q = in_block.below in omega arith;
+        }
 
     goes_to : (m : Mid) (position : Position) → IsAt p a.script m position → a.mid ≡ m → IsAt p a.script a.mid position
     goes_to m position h e = subst (λ (n : Mid). IsAt p a.script n position) (sym e) h
 
     done : (s : Statement) (rest : List Statement) → (actors k).mid ≡ Idle → (actors k).script ≡ s ∷ rest → w.stop ≡ 0 →
-        (IsMaking s → (actors k).from + made_words p s ≤ (actors k).to) → ks ≡ k ∷ [] → a.mid ≡ Idle → v.stop ≡ w.stop →
+        (IsMaking s → (actors k).from + made_words p s ≤ (actors k).to) → ¬ IsMature s → ks ≡ k ∷ [] → a.mid ≡ Idle → v.stop ≡ w.stop → Kept w v sw →
         HasTaken p lay g b order x k v (put actors k a)
-    done s rest idle script stop room e m same =
+    done s rest idle script stop room immature e m same kept =
         let o = more e in
         let r = reads idle in
         record {
@@ -197,16 +390,19 @@ module _ (orders : OrdersSoFar) (answers : HasOneTurn) (p : Program) (lay : Cons
           board = record x { graph = o.graph; book = o.book };
           takes = Does s rest o.said o.graph o.book (between idle) (r.script_is ∙ script) (quiet_board stop)
               (λ (n : Searches p x.book k s). let l = room n.makes in let q = n.short in let y = r.from_is in let z = r.to_is in omega arith)
-              o.by o.turn;
+              immature o.by o.turn;
           boarded = boarded (o.said ∷ []) (record x { graph = o.graph; book = o.book }) o.rest_is o.graph_is o.book_is
               (subst (IsAt p a.script a.mid) (sym (between idle)) (goes_to Idle Between tt m))
-              (λ j n. refl) (still_asked same) (still_going same);
+              (λ j n. refl) (still_asked same) (still_going same)
+              (owed_same kept.none)
+              (says_same w kept x (record x { graph = o.graph; book = o.book }) refl refl (still_in_block o.said o.graph o.book o.turn) bo.says)
+              (seen_at Idle tt m) (past_same w kept (λ c h. h)) (fits_same w kept bo.fits);
           stays = λ e. between idle;
         }
 
-    won : (s : Statement) (f seen : ℕ) → (actors k).mid ≡ Claim s f seen → w.next f ≡ byte_at seen → ks ≡ k ∷ [] → a.mid ≡ Idle → v.stop ≡ w.stop →
+    won : (s : Statement) (f seen : ℕ) → (actors k).mid ≡ Claim s f seen → w.next f ≡ byte_at seen → ks ≡ k ∷ [] → a.mid ≡ Idle → v.stop ≡ w.stop → Kept w v sw →
         HasTaken p lay g b order x k v (put actors k a)
-    won s f seen mid saw e m same =
+    won s f seen mid saw e m same kept =
         let o = more e in
         record {
           said = o.said ∷ [];
@@ -214,29 +410,33 @@ module _ (orders : OrdersSoFar) (answers : HasOneTurn) (p : Program) (lay : Cons
           takes = Claims f seen o.said o.graph o.book (claiming s f seen mid) (let l = are.nexts f (prepared s f seen mid).there in omega arith) o.by o.turn;
           boarded = boarded (o.said ∷ []) (record x { graph = o.graph; book = o.book; position = put x.position k Between }) o.rest_is o.graph_is o.book_is
               (subst (IsAt p a.script a.mid) (sym (put-same x.position k Between)) (goes_to Idle Between tt m))
-              (λ j n. put-other x.position k Between j n) (still_asked same) (still_going same);
+              (λ j n. put-other x.position k Between j n) (still_asked same) (still_going same)
+              (owed_same kept.none)
+              (says_same w kept x (record x { graph = o.graph; book = o.book; position = put x.position k Between }) refl refl
+              (still_in_block o.said o.graph o.book o.turn) bo.says)
+              (seen_at Idle tt m) (past_same w kept (λ c h. h)) (fits_same w kept bo.fits);
           stays = λ e. put-same x.position k Between;
         }
 
     looks : (s : Statement) (rest : List Statement) → (actors k).mid ≡ Idle → (actors k).script ≡ s ∷ rest → w.stop ≡ 0 → IsMaking s →
-        (actors k).to < (actors k).from + made_words p s → ks ≡ [] → Searched p lay w s 0 a.mid v → HasTaken p lay g b order x k v (put actors k a)
-    looks s rest idle script stop makes short e (inl (j, next, finds, m, same)) =
+        (actors k).to < (actors k).from + made_words p s → ks ≡ [] → Searched p lay w s 0 a.mid v → Kept w v sw → HasTaken p lay g b order x k v (put actors k a)
+    looks s rest idle script stop makes short e (inl (j, next, finds, m, same)) kept =
         let r = reads idle in
         let n = made_words p s in
         let low = found p lay w x.book are n 0 j next finds in
-        moves (Claiming j (x.book.next j)) e same (goes_to (Claim s j next) (Claiming j (x.book.next j)) (refl, low.1) m) (claims_none s j next m)
+        moves (Claiming j (x.book.next j)) e same kept (goes_to (Claim s j next) (Claiming j (x.book.next j)) (refl, low.1) m) (seen_at (Claim s j next) tt m) (claims_none s j next m)
         (Prepares s rest j (between idle) (r.script_is ∙ script) (quiet_board stop)
         (record { makes = makes; short = let y = r.from_is in let z = r.to_is in omega arith }) low.0)
-    looks s rest idle script stop makes short e (inr (nowhere, m, set)) =
+    looks s rest idle script stop makes short e (inr (nowhere, m, set)) kept =
         let r = reads idle in
         let n = made_words p s in
-        asks_for (Need n) e set (goes_to (Left s) (HasLeft (Wants (Need n))) (request_of p s makes) m) (leaves_none s m)
+        asks_for (Needs_words n) e set kept (goes_to (Left s) (HasLeft (Wants (Needs_words n))) (request_of p s makes) m) (seen_at (Left s) tt m) (leaves_none s m)
         (Needs s rest (between idle) (r.script_is ∙ script) (quiet_board stop)
         (record { makes = makes; short = let y = r.from_is in let z = r.to_is in omega arith }) (none p lay w x.book are n 0 nowhere))
 
-    again : (s : Statement) (f seen : ℕ) → (actors k).mid ≡ Claim s f seen → w.next f ≢ byte_at seen → ks ≡ [] → Searched p lay w s f a.mid v →
+    again : (s : Statement) (f seen : ℕ) → (actors k).mid ≡ Claim s f seen → w.next f ≢ byte_at seen → ks ≡ [] → Searched p lay w s f a.mid v → Kept w v sw →
         HasTaken p lay g b order x k v (put actors k a)
-    again s f seen mid differs e searched = go searched
+    again s f seen mid differs e searched kept = go searched
       where
         prep : HasPrepared p x.graph x.book k (actors k) s f seen
         prep = prepared s f seen mid
@@ -247,29 +447,131 @@ module _ (orders : OrdersSoFar) (answers : HasOneTurn) (p : Program) (lay : Cons
         go : Searched p lay w s f a.mid v → HasTaken p lay g b order x k v (put actors k a)
         go (inl (j, next, finds, m, same)) =
             let low = found p lay w x.book are (made_words p s) f j next finds in
-            moves (Claiming j (x.book.next j)) e same (goes_to (Claim s j next) (Claiming j (x.book.next j)) (refl, low.1) m) (claims_none s j next m)
+            moves (Claiming j (x.book.next j)) e same kept (goes_to (Claim s j next) (Claiming j (x.book.next j)) (refl, low.1) m) (seen_at (Claim s j next) tt m) (claims_none s j next m)
             (LooksAgain s (actors k).script f seen j (claiming s f seen mid) moved prep.script low.0)
         go (inr (nowhere, m, set)) =
-            asks_for (Need (made_words p s)) e set (goes_to (Left s) (HasLeft (Wants (Need (made_words p s)))) (request_of p s prep.makes) m) (leaves_none s m)
+            asks_for (Needs_words (made_words p s)) e set kept (goes_to (Left s) (HasLeft (Wants (Needs_words (made_words p s)))) (request_of p s prep.makes) m)
+            (seen_at (Left s) tt m) (leaves_none s m)
             (FindsNone s (actors k).script f seen (claiming s f seen mid) moved prep.script (none p lay w x.book are (made_words p s) f nowhere))
 
-    by_turn : Turned p lay k w (actors k) ks a.mid v → HasTaken p lay g b order x k v (put actors k a)
-    by_turn (GivesWay s rest idle script set e m same) =
-        moves (HasLeft Yield) e same (goes_to Yielded (HasLeft Yield) tt m) (yields_none m) (Yields s rest (between idle)
-        ((reads idle).script_is ∙ script) (loud_board set))
-    by_turn (IsDone s rest idle script stop room h) = done s rest idle script stop room h.0 h.1 h.2
-    by_turn (Gathers s rest request is idle script stop e m set) =
-        asks_for request e set (goes_to (Left s) (HasLeft (Wants request)) (collects p s request is) m) (leaves_none s m)
-        (Collects s rest request (between idle) ((reads idle).script_is ∙ script) (quiet_board stop) is)
-    by_turn (Looks s rest idle script stop makes short e searched) = looks s rest idle script stop makes short e searched
-    by_turn (Wins s f seen mid saw h) = won s f seen mid saw h.0 h.1 h.2
-    by_turn (Loses s f seen mid differs e searched) =
-        again s f seen mid differs e (searched (let l = (prepared s f seen mid).there in let q = are.fragments in omega arith))
+    -- a search for a slot goes on from these words, with which this board agrees, and which differ from those before by blocks at most
+    module _ (y : Board) (u : Words) (ag : Agrees p lay y u) (graph : y.graph ≡ x.graph) (book : y.book ≡ x.book) (position : y.position ≡ x.position)
+        (stopping : y.stopping ≡ x.stopping) (owed : y.owed ≡ x.owed) (stop : u.stop ≡ w.stop) (past : (c : ℕ) → IsPast (w.block c) → IsPast (u.block c))
+        (fits : OccupiesSlots p u) (kept : Kept u v sw) (none_said : ks ≡ []) (s : Statement) (mature : IsMature s) where
+      -- with a position, or with leaving
+      to_position : (q : Position) (m : Mid) → a.mid ≡ m → IsAt p a.script m q → ¬ (m ≡ Idle) → HasSeen u a.mid → v.stop ≡ u.stop →
+          TakesTurn p x k [] (moved_on y k q) → HasTaken p lay g b order x k v (put actors k a)
+      to_position q m e here some seen halts takes = record {
+        said = [];
+        board = moved_on y k q;
+        takes = takes;
+        boarded = boarded [] (moved_on y k q) (no_more none_said) ((same_all none_said).0 ∙ sym graph) ((same_all none_said).1 ∙ sym book)
+            (subst (IsAt p a.script a.mid) (sym (put-same y.position k q)) (goes_to m q here e))
+            (λ j n. put-other y.position k q j n ∙ ap (λ (f : ℕ → Position). f j) position)
+            (λ z. still_asked (halts ∙ stop) (sym stopping ∙ z)) (λ z. still_going (halts ∙ stop) (sym stopping ∙ z))
+            (owed ∙ owed_same kept.none) (says_same u kept y (moved_on y k q) refl refl (λ name j h. h) ag.says)
+            (seen_on u v a.mid (λ c h. subst IsPast (sym (state_same u kept c)) h) seen)
+            (past_same u kept past) (fits_same u kept fits);
+        stays = λ idle. absurd (some (sym e ∙ mid_now idle));
+      }
 
-pub turns_are_taken : OrdersSoFar → HasOneTurn → TurnsAreTaken
-turns_are_taken orders answers p lay g b order x w actors bo k stays steps a turn legal =
+      to_leave : a.mid ≡ Left s → v.stop ≢ 0 → TakesTurn p x k [] (asking y k (Slot (made_slot p s))) → HasTaken p lay g b order x k v (put actors k a)
+      to_leave e set takes = record {
+        said = [];
+        board = asking y k (Slot (made_slot p s));
+        takes = takes;
+        boarded = boarded [] (asking y k (Slot (made_slot p s))) (no_more none_said) ((same_all none_said).0 ∙ sym graph) ((same_all none_said).1 ∙ sym book)
+            (subst (IsAt p a.script a.mid) (sym (put-same y.position k (HasLeft (Wants (Slot (made_slot p s))))))
+            (goes_to (Left s) (HasLeft (Wants (Slot (made_slot p s)))) (slot_request_of p s mature) e))
+            (λ j n. put-other y.position k (HasLeft (Wants (Slot (made_slot p s)))) j n ∙ ap (λ (f : ℕ → Position). f j) position)
+            (λ z. set) (λ z. cc)
+            (owed ∙ owed_same kept.none) (says_same u kept y (asking y k (Slot (made_slot p s))) refl refl (λ name j h. h) ag.says)
+            (seen_at (Left s) tt e) (past_same u kept past) (fits_same u kept fits);
+        stays = λ idle. absurd (leaves_none s e (mid_now idle));
+      }
+
+      to_found : (found : Option Position) → IsMidOf s a.mid found → HasSeen u a.mid → HaltsBy u v found →
+          TakesTurn p x k [] (stopped_at y k (made_slot p s) found) → HasTaken p lay g b order x k v (put actors k a)
+      to_found (Some (OpeningBlock j)) e seen halts takes =
+          to_position (OpeningBlock j) (TakeBlock s j) e refl (λ z. let q : TakeBlock s j ≡ Idle = z in cc q) seen halts takes
+      to_found (Some (TakingSlot j i)) e seen halts takes =
+          to_position (TakingSlot j i) (TakeSlot s j i) e (refl, refl) (λ z. let q : TakeSlot s j i ≡ Idle = z in cc q) seen halts takes
+      to_found (Some (TakingOver j)) e seen halts takes =
+          to_position (TakingOver j) (TakeOver (Search s) j e.0) e.1 refl (λ z. let q : TakeOver (Search s) j e.0 ≡ Idle = z in cc q) seen halts takes
+      to_found None e seen halts takes = to_leave e halts takes
+      to_found (Some position) e seen halts takes = absurd e
+
+      searches_from : (c : ℕ) → SearchedBlocks p u s c a.mid v →
+          ((found : Option Position) → SearchesFrom p y (made_slot p s) c found → TakesTurn p x k [] (stopped_at y k (made_slot p s) found)) →
+          HasTaken p lay g b order x k v (put actors k a)
+      searches_from c searched takes =
+          let st = stopped p lay y u ag s c a.mid v searched in to_found st.found st.is st.past st.halts (takes st.found st.searches)
+
+    -- the same with the words and the board before
+    searches_on : Kept w v sw → ks ≡ [] → (s : Statement) → IsMature s → (c : ℕ) → SearchedBlocks p w s c a.mid v →
+        ((found : Option Position) → SearchesFrom p x (made_slot p s) c found → TakesTurn p x k [] (stopped_at x k (made_slot p s) found)) →
+        HasTaken p lay g b order x k v (put actors k a)
+    searches_on kept e s mature c searched takes =
+        searches_from x w agrees refl refl refl refl refl refl (λ c h. h) bo.fits kept e s mature c searched takes
+
+    seeks : (s : Statement) → Seeks s (actors k).mid → IsSeeking x.graph k (actors k) s
+    seeks s h = blocks.seeking k s h
+
+    matures : (s : Statement) (rest : List Statement) → (actors k).mid ≡ Idle → (actors k).script ≡ s ∷ rest → w.stop ≡ 0 → IsMature s → ks ≡ [] →
+        SearchedBlocks p w s 0 a.mid v → Kept w v sw → HasTaken p lay g b order x k v (put actors k a)
+    matures s rest idle script stop mature e searched kept =
+        let r = reads idle in
+        searches_on kept e s mature 0 searched
+        (λ found searches. TakesTurn.Matures s rest found (between idle) (r.script_is ∙ script) (quiet_board stop) mature searches)
+
+    goes_on_at : (s : Statement) (c : ℕ) (seeking : IsSeeking x.graph k (actors k) s) → SearchesOnAt p x (made_slot p s) (x.position k) c →
+        c < p.config.blocks → (c < p.config.blocks → (ks ≡ []) × SearchedBlocks p w s c a.mid v) → Kept w v sw → HasTaken p lay g b order x k v (put actors k a)
+    goes_on_at s c seeking at there searched kept =
+        let h = searched there in
+        searches_on kept h.0 s seeking.makes c h.1 (λ found searches. SearchesOn s (actors k).script c found seeking.script at searches)
+
+    behind_sweep : (s : Statement) (c : ℕ) → (actors k).mid ≡ SeeBlock (Search s) true c → (c < p.config.blocks → (ks ≡ []) × SearchedBlocks p w s c a.mid v) →
+        Kept w v sw → HasTaken p lay g b order x k v (put actors k a)
+    behind_sweep s c mid searched kept =
+        goes_on_at s c (seeks s (subst (Seeks s) (sym mid) refl))
+        (subst (λ (q : Position). SearchesOnAt p x (made_slot p s) q c) (sym (at_behind p (actors k).script (actors k).mid (x.position k) s c (bo.at k) mid)) refl)
+        ((known (SeeBlock (Search s) true c) mid).1 tt) searched kept
+
+    lost_sweep : (s : Statement) (c z : ℕ) → (actors k).mid ≡ TakeOver (Search s) c z → w.block c ≢ Need z →
+        (c < p.config.blocks → (ks ≡ []) × SearchedBlocks p w s c a.mid v) → Kept w v sw → HasTaken p lay g b order x k v (put actors k a)
+    lost_sweep s c z mid differs searched kept = ?
+
+    lost_block : (s : Statement) (c : ℕ) → (actors k).mid ≡ TakeBlock s c → w.block c ≢ Free →
+        (c < p.config.blocks → (ks ≡ []) × SearchedBlocks p w s c a.mid v) → Kept w v sw → HasTaken p lay g b order x k v (put actors k a)
+    lost_block s c mid differs searched kept = ?
+
+    by_turn : Turned p lay k w (actors k) run.first run.decides ks sw a.mid v → HasTaken p lay g b order x k v (put actors k a)
+    by_turn (GivesWay s rest idle script set e m same kept) =
+        moves (HasLeft Yield) e same kept (goes_to Yielded (HasLeft Yield) tt m) (seen_at Yielded tt m) (yields_none m) (Yields s rest (between idle)
+        ((reads idle).script_is ∙ script) (loud_board set))
+    by_turn (IsDone s rest idle script stop room immature h kept) = done s rest idle script stop room immature h.0 h.1 h.2 kept
+    by_turn (Gathers s rest request is idle script stop e m set kept) =
+        asks_for request e set kept (goes_to (Left s) (HasLeft (Wants request)) (collects p s request is) m) (seen_at (Left s) tt m) (leaves_none s m)
+        (Collects s rest request (between idle) ((reads idle).script_is ∙ script) (quiet_board stop) is)
+    by_turn (Looks s rest idle script stop makes short e searched kept) = looks s rest idle script stop makes short e searched kept
+    by_turn (Wins s f seen mid saw h kept) = won s f seen mid saw h.0 h.1 h.2 kept
+    by_turn (Loses s f seen mid differs e searched kept) =
+        again s f seen mid differs e (searched (let l = (prepared s f seen mid).there in let q = are.fragments in omega arith)) kept
+    by_turn (Matures s rest idle script stop mature e searched kept) = matures s rest idle script stop mature e searched kept
+    by_turn (WinsBlock s c mid saw searched kept) = ?
+    by_turn (LosesBlock s c mid differs searched kept) = lost_block s c mid differs searched kept
+    by_turn (WinsSlot s c i found mid step decides clear h kept) = ?
+    by_turn (LosesSlot s c i mid set searched kept) = ?
+    by_turn (WinsSweep s c z more mid saw e m same swept kept) = ?
+    by_turn (LosesSweep s c z mid differs searched kept) = lost_sweep s c z mid differs searched kept
+    by_turn (SweepsOne s c z mid e m same block used none) = ?
+    by_turn (GoesOn s c mid searched kept) = behind_sweep s c mid searched kept
+    by_turn (Roams r) = absurd (no_sweeper p (actors k).script (actors k).mid (x.position k) (bo.at k) r)
+
+pub turns_are_taken : OrdersSoFar → HasOneTurn → TurnsKeepOld → BlocksGo → TurnsAreTaken
+turns_are_taken orders answers keeps blocks_go p lay g b order x w actors bo k stays steps a turn legal =
     let run = runs p lay k w (actors k) steps a (at_rest p (actors k).script (actors k).mid (x.position k) (bo.at k)) turn legal in
-    by_turn orders answers p lay g b order x w actors bo k stays steps a run legal run.turned
+    by_turn orders answers keeps blocks_go p lay g b order x w actors bo k stays steps a run legal run.turned
 
 -- who has no statement left
 pub ends_are_taken : EndsAreTaken
@@ -285,6 +587,10 @@ ends_are_taken p lay g b order x w actors bo k is none = record {
         (subst (λ (m : Mid). IsAt p (actors k).script m (HasLeft Ended)) (sym idle) none) (λ j n. bo.at j);
     asked = bo.asked;
     going = bo.going;
+    owed_is = bo.owed_is;
+    says = λ j l. says_on p x (moved_on x k (HasLeft Ended)) j (w.block j) refl refl (λ name h. h) (bo.says j l);
+    seen = bo.seen;
+    fits = bo.fits;
   };
 }
   where
@@ -300,6 +606,19 @@ ends_are_taken p lay g b order x w actors bo k is none = record {
     only (StoreLength s y) h = absurd h
     only (StoreTag s y) h = absurd h
     only (HideLength d s offset) h = absurd h
+    only (SeeBlock (Search s) true c) h = absurd h
+    only (SeeBlock (Search s) false c) h = absurd h
+    only (SeeBlock Roam begins c) h = absurd h
+    only (TakeBlock s c) h = absurd h
+    only (SeeUsed s c) h = absurd h
+    only (TakeSlot s c i) h = absurd h
+    only (TakeOver (Search s) c z) h = absurd h
+    only (TakeOver Roam c z) h = absurd h
+    only (StoreOccupancy (Search s) c z) h = absurd h
+    only (StoreOccupancy Roam c z) h = absurd h
+    only (ClearSlots t c z i) h = absurd h
+    only (ClearWords t c z i f) h = absurd h
+    only Retired h = absurd h
     only (Ask s) h = absurd h
     only (Left s) h = absurd h
     only Yielded h = absurd h

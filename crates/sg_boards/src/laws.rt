@@ -1,6 +1,6 @@
 ghost use Rattle.sg_boards.specs.Boards.{OpensBoarded, TurnsAreTaken, EndsAreTaken, TurnsOweLess};
 
-use sg_graph::one_turn;
+use sg_graph::{blocks_go, one_turn, turns_keep_old};
 use sg_order::orders_so_far;
 
 /// As an epoch opens, its board has everybody between two statements.
@@ -17,6 +17,8 @@ pub fn turns_are_taken()
 {
     orders_so_far();
     one_turn();
+    turns_keep_old();
+    blocks_go();
 }
 
 /// Who has no statement left ends in its turn.
