@@ -24,7 +24,7 @@ use Rattle.sg_graph.specs.declared.reports.StopReport.{StopReport}
 use Rattle.sg_graph.specs.Graph.{Graph}
 use Rattle.sg_graph.specs.Blocks.{IsOldAt, AreBlocks}
 use Rattle.sg_graph.specs.Swept.{AreSwept, AreAtRest, AreInhabited}
-use Rattle.sg_graph.specs.Heap.{Owner, Of}
+use Rattle.sg_graph.specs.Heap.{Owner, Of, Objects, Fragments}
 use Rattle.sg_graph.specs.Book.{Book, Section, Old, block_at, slot_at, IsApart}
 use Rattle.sg_graph.specs.Epoch.{Said, Turn, IsNewOld, IsEpoch}
 use Rattle.sg_graph.specs.Turns.{Position, Board, SearchesFrom}
@@ -160,8 +160,8 @@ AreUnowed p state = (c s : ℕ) → c < p.config.blocks → IsOwing (state c) s 
 abbrev pub PlacesByRoom : Type 0
 PlacesByRoom =
     (p : Program) (g : Graph) (b : Book) (marks used word : ℕ → ℕ) (state : ℕ → BlockWord) (owner : ℕ → Owner) (requests : List Asked) →
-    AreAsking p g requests → ((name : ℕ) → b.stands name ≡ true → name ≤ g.count) →
-    AreBlocks p marks state used word g.size b.stands b.address b.section b.owed owner → AreUnowed p state →
+    AreAsking p g requests → Objects p g.count g.class g.size b.stands b.address b.section owner → Fragments p b.fragments b.next b.limit owner →
+    AreBlocks p marks state used word g.size b.stands b.address b.section b.owed owner → AreInhabited p state b.stands b.address → AreUnowed p state →
     LacksOne p InFragments g b requests ↔
     (LacksWords b.fragments b.limit b.next (needs_of requests) ⊎ LacksSlots p.config.blocks state used (sizes_of requests))
 
