@@ -175,7 +175,7 @@ module _ (p : Program) (g : Graph) (b : Book) (marks used : ℕ → ℕ) (state 
         let fields = fields_of p class in
         let first = first_clear fields j i takes.first in
         let after : c ≡ placed_in b Old (suc g.count) (slot_at p j (slot_words fields) i) =
-            takes.after ∙ ap (λ (n : ℕ). placed_in b Old n (slot_at p j (slot_words fields) i)) a in
+        takes.after ∙ ap (λ (n : ℕ). placed_in b Old n (slot_at p j (slot_words fields) i)) a in
         slot_before fields size j i c needs sizes e first after
         (later (states fields j) (useds j i)
         (rooms_old h fields j i c (record { count = left.count; size = left.size }) first.there first.clear small after))
@@ -195,7 +195,8 @@ module _ (p : Program) (g : Graph) (b : Book) (marks used : ℕ → ℕ) (state 
 
 -- what a statement with this answer leaves, where it is done
 left_by : (p : Program) (g h : Graph) (by : ℕ) (s : Statement) (rest : List Statement) (a : Answer) →
-    h ≡ advanced (heap_after p g by (g.mutator by) s a) by (hands_after (g.mutator by) s a) rest → (h.count ≡ (heap_after p g by (g.mutator by) s a).count) × (h.size ≡ (heap_after p g by (g.mutator by) s a).size)
+    h ≡ advanced (heap_after p g by (g.mutator by) s a) by (hands_after (g.mutator by) s a) rest →
+    (h.count ≡ (heap_after p g by (g.mutator by) s a).count) × (h.size ≡ (heap_after p g by (g.mutator by) s a).size)
 left_by p g h by s rest a e = (ap (λ (z : Graph). z.count) e, ap (λ (z : Graph). z.size) e)
 
 to_room : (p : Program) (marks : ℕ → ℕ) (g : Graph) (b : Book) (requests : List Asked) → LacksOne p InFragments g b requests →
@@ -246,13 +247,17 @@ module _ (p : Program) (g : Graph) (b : Book) (marks used : ℕ → ℕ) (state 
   find_slot : (fields : ℕ) → ((j i : ℕ) × IsFirstClear p state used (slot_words fields) j i) ⊎ HasNoSlot p g b fields
   find_slot fields = elim (first_of (λ c. (i : ℕ) × IsClearAt (state c) (used c) z i) (λ c. IsShut p g b c z) p.config.blocks
       (λ c l. clear_or_shut p g b marks used state r z class c l)) [
-    | inl (j, l, (i, clear), below) ↦ inl (j, i, record {
-      there = l;
-      clear = clear;
-      below = λ d k. shut_unclear p g b marks used state r z class d (omega arith) (below d k);
-    })
-    | inr none ↦ inr (record { none = none })
-  ]
+        | inl (j, l, (i, clear), below) ↦ inl (
+          j,
+          i,
+          record {
+            there = l;
+            clear = clear;
+            below = λ d k. shut_unclear p g b marks used state r z class d (omega arith) (below d k);
+          },
+        )
+        | inr none ↦ inr (record { none = none })
+      ]
     where
       z : ℕ
       z = slot_words fields

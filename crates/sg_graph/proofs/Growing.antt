@@ -54,8 +54,7 @@ module _ (p : Program) (count : ℕ) (size : ℕ → ℕ) (b : Book) (marks used
     still_there : (c : ℕ) → (n : ℕ) × (1 ≤ n) × (b.stands n ≡ true) × (block_at p c ≤ b.address n) × (b.address n < block_at p c + 256) →
         (n : ℕ) × (1 ≤ n) × (then.stands n ≡ true) × (block_at p c ≤ then.address n) × (then.address n < block_at p c + 256)
     still_there c (n, some, stands, above, below) =
-        let a = alike section x n (older n stands) in
-        (
+        let a = alike section x n (older n stands) in (
           n,
           some,
           a.same_stands ∙ stands,
@@ -96,8 +95,7 @@ module _ (p : Program) (count : ℕ) (size : ℕ → ℕ) (b : Book) (marks used
     young_blocks = record {
       placed = λ n l q o.
           let a = alike Young x n (other_old n o) in
-          let h = r.blocks.placed n l (sym a.same_stands ∙ q) (sym a.same_section ∙ o) in
-          (
+          let h = r.blocks.placed n l (sym a.same_stands ∙ q) (sym a.same_section ∙ o) in (
             h.0,
             h.1,
             subst (λ y. IsTakenAt p (marks h.0) y (slot_words (sizes n)) h.0 (state h.0) (used h.0)) (sym a.same_address)

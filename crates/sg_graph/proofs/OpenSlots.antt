@@ -120,7 +120,7 @@ module _ (p : Program) (g : Graph) (b : Book) (marks used : ℕ → ℕ) (state 
       let at = o.at in
       let at' = k.1.2 in
       let same : k.1.0 ≡ i =
-          slot_once (nursery_end p) c z k.1.0 i (b.address name) (omega arith) (omega arith) (omega arith) (omega arith) in
+      slot_once (nursery_end p) c z k.1.0 i (b.address name) (omega arith) (omega arith) (omega arith) (omega arith) in
       subst (λ i. bit_at (used c) i ≡ 1) same k.1.3
 
   module _ (z : ℕ) (class : IsSizeClass z) (c : ℕ) (l : c < p.config.blocks) where
@@ -198,12 +198,15 @@ module _ (p : Program) (g : Graph) (b : Book) (marks used : ℕ → ℕ) (state 
     -- a block has a lowest clear slot, or is shut
     pub clear_or_shut : ((i : ℕ) × IsClearAt (state c) (used c) z i) ⊎ IsShut p g b c z
     clear_or_shut = elim (state_of (state c)) [
-      | inl e ↦ inl (0, record {
-        sized = inl e;
-        fits = (let some = (class_slots z class).0 in omega arith);
-        clear = free_bit c 0 l e;
-        lowest = λ j m. absurd (omega arith);
-      })
+      | inl e ↦ inl (
+        0,
+        record {
+          sized = inl e;
+          fits = (let some = (class_slots z class).0 in omega arith);
+          clear = free_bit c 0 l e;
+          lowest = λ j m. absurd (omega arith);
+        },
+      )
       | inr (inl (y, e)) ↦ elim (cases_eq y z) [
         | inl same ↦ swept (subst (λ y. state c ≡ Swept y) same e)
         | inr other ↦ let k = swept_has c y l e in inr (inl (k.0, k.1, λ q. other (sym (swept_sized k.0 c y e k.1) ∙ q)))
