@@ -1,5 +1,5 @@
 -- Whether placing the requests by fragments leaves one without a place is told by the words for which they ask.
-use Rattle.std.proofs.Common.{◌≡◌, ◌≢◌, ℕ, suc, ◌+◌, ◌<◌, ◌≤◌, ◌⊎◌, inl, inr, true, false, List, [], ◌∷◌, length, map, sym, refl, ap, ◌∙◌, subst, arith}
+use Rattle.std.proofs.Common.{◌≡◌, ◌≢◌, ℕ, suc, ◌+◌, ◌<◌, ◌≤◌, ◌⊎◌, inl, inr, true, false, List, [], ◌∷◌, map, sym, refl, ap, ◌∙◌, subst, arith}
 use Rattle.std.specs.List.{AllByRecursion}
 use Rattle.sg_words.specs.Words.{put}
 use Rattle.sg_words.specs.Reach.{IsFreshIn}
@@ -19,19 +19,19 @@ use Rattle.sg_graph.specs.Stop.{Asked, InFragments, Takes, HasNoFragment, Places
 use Rattle.sg_graph.specs.Laws.{LacksWords, NoRoom, RoomBefore, needed_by, needs_of, AsksNoSlot, IsAsking, AreAsking, PlacesByWords}
 
 -- what finding no room means, by the first of the words
-abbrev LacksBy : ℕ → (ℕ → ℕ) → (ℕ → ℕ) → List ℕ → Type 0
+abbrev pub LacksBy : ℕ → (ℕ → ℕ) → (ℕ → ℕ) → List ℕ → Type 0
 LacksBy fragments limit next [] = ⊥
 LacksBy fragments limit next (n ∷ more) =
     ((f : ℕ) → f < fragments → limit f < next f + n)
     ⊎ ((f : ℕ) × (f < fragments) × (next f + n ≤ limit f) × ((j : ℕ) → j < f → limit j < next j + n)
     × LacksWords fragments limit (put next f (next f + n)) more)
 
-by_first : (fragments : ℕ) (limit next : ℕ → ℕ) (needs : List ℕ) → LacksWords fragments limit next needs → LacksBy fragments limit next needs
+pub by_first : (fragments : ℕ) (limit next : ℕ → ℕ) (needs : List ℕ) → LacksWords fragments limit next needs → LacksBy fragments limit next needs
 by_first fragments limit _ _ (NoRoom next n more none) = inl none
 by_first fragments limit _ _ (RoomBefore next n more f there room lowest later) = inr (f, there, room, lowest, later)
 
 -- a book's fragments have no room for all of these
-abbrev LacksIn : Book → List ℕ → Type 0
+abbrev pub LacksIn : Book → List ℕ → Type 0
 LacksIn b needs = LacksWords b.fragments b.limit b.next needs
 
 -- a statement changes no mutator but by what it leaves in its own hands
@@ -48,7 +48,7 @@ same_mutators p g k m s a = refl
 
 module _ (p : Program) (g : Graph) (by : ℕ) (s : Statement) (rest : List Statement) (a : Answer) where
   -- the graph behind a statement with this answer
-  abbrev behind : Graph
+  abbrev pub behind : Graph
   behind = advanced (heap_after p g by (g.mutator by) s a) by (hands_after (g.mutator by) s a) rest
 
   others : (k : ℕ) → k ≢ by → behind.mutator k ≡ g.mutator k
@@ -71,7 +71,7 @@ module _ (p : Program) (g : Graph) (by : ℕ) (s : Statement) (rest : List State
     still_each more each fresh,
   )
 
-still : (p : Program) (g : Graph) (asked : Asked) (more : List Asked) (s : Statement) (rest : List Statement) (a : Answer) (h : Graph) →
+pub still : (p : Program) (g : Graph) (asked : Asked) (more : List Asked) (s : Statement) (rest : List Statement) (a : Answer) (h : Graph) →
     h ≡ advanced (heap_after p g asked.by (g.mutator asked.by) s a) asked.by (hands_after (g.mutator asked.by) s a) rest →
     AreAsking p g (asked ∷ more) → AreAsking p h more
 still p g asked more s rest a h e asking =
@@ -79,10 +79,10 @@ still p g asked more s rest a h e asking =
 
 module _ (p : Program) (g : Graph) (b : Book) where
   -- where a new object with so many fields has no fragment, its words find no room
-  no_room : (n words : ℕ) (needs : List ℕ) → words ≡ n → HasNoFragment b n → LacksIn b (words ∷ needs)
+  pub no_room : (n words : ℕ) (needs : List ℕ) → words ≡ n → HasNoFragment b n → LacksIn b (words ∷ needs)
   no_room n words needs e none = subst (λ z. LacksIn b (z ∷ needs)) (sym e) (NoRoom b.next n needs none.none)
 
-  room_before : (n words name f : ℕ) (c : Book) (needs : List ℕ) → words ≡ n → Takes b n name f c → LacksIn c needs → LacksIn b (words ∷ needs)
+  pub room_before : (n words name f : ℕ) (c : Book) (needs : List ℕ) → words ≡ n → Takes b n name f c → LacksIn c needs → LacksIn b (words ∷ needs)
   room_before n words name f c needs e takes later =
       subst (λ z. LacksIn b (z ∷ needs)) (sym e)
       (RoomBefore b.next n needs f takes.there takes.room takes.lowest (subst (λ (z : Book). LacksIn z needs) takes.after later))
@@ -119,11 +119,11 @@ module _ (p : Program) (g : Graph) (b : Book) where
   none_behind s q a c needs e u x later = absurd e
 
 -- the statement that is answered is the one that asks
-same_statement : (p : Program) (g : Graph) (b : Book) (asked : Asked) (a : Answer) (h : Graph) (c : Book) (asks : IsAsking p g asked)
+pub same_statement : (p : Program) (g : Graph) (b : Book) (asked : Asked) (a : Answer) (h : Graph) (c : Book) (asks : IsAsking p g asked)
     (x : IsAnswered p InFragments g b asked a h c) → x.statement ≡ asks.statement
 same_statement p g b asked a h c asks x = let both : (x.statement ∷ x.rest) ≡ (asks.statement ∷ asks.rest) = sym x.next ∙ asks.next in cc both
 
-places_there : (p : Program) (g : Graph) (b : Book) (asked : Asked) (a : Answer) (h : Graph) (c : Book) (asks : IsAsking p g asked)
+pub places_there : (p : Program) (g : Graph) (b : Book) (asked : Asked) (a : Answer) (h : Graph) (c : Book) (asks : IsAsking p g asked)
     (x : IsAnswered p InFragments g b asked a h c) → Places p InFragments g b asks.statement a c
 places_there p g b asked a h c asks x = subst (λ s. Places p InFragments g b s a c) (same_statement p g b asked a h c asks x) x.places
 

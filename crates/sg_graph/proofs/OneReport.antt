@@ -1,5 +1,5 @@
 -- One order of whole statements has one report.
-use Rattle.std.proofs.Common.{map, ◌≡◌, ◌≢◌, ℕ, suc, ◌<◌, ◌≤◌, ◌↔◌, Bool, true, false, inl, inr, IsTrue, List, [], ◌∷◌, sym, refl, ap, ◌∙◌, subst, arith, le_refl}
+use Rattle.std.proofs.Common.{map, ◌≡◌, ◌≢◌, ℕ, suc, ◌≤◌, ◌↔◌, Bool, true, false, inl, inr, IsTrue, List, [], ◌∷◌, sym, refl, ap, ◌∙◌, subst, arith, le_refl}
 use Rattle.std.proofs.lemmas.Bool.{cases_lt}
 use Rattle.sg_words.specs.Words.{put}
 use Rattle.sg_words.specs.Lists.{Pairwise}
@@ -19,7 +19,7 @@ use Rattle.sg_program.specs.Scripts.{words_for, fields_of, IsMature}
 use Rattle.sg_graph.specs.Graph.{Graph, Mutator, advanced}
 use Rattle.sg_graph.specs.Statements.{Answers, heap_after, hands_after}
 use Rattle.sg_graph.specs.Book.{Book, Section, Old, placed_in, swept_in, slot_at, slot_words, Claims, IsPlaced, IsSlotted, words_of_class, Books}
-use Rattle.sg_graph.specs.Epoch.{Said, Turn, Explains, answers_of, by_address, Asks, Leaves, IsPart, running, left, AllEnded, IsNewOld, IsEpoch}
+use Rattle.sg_graph.specs.Epoch.{Said, Turn, Explains, answers_of, by_address, Asks, Leaves, IsPart, running, left, AllEnded, IsEpoch}
 use Rattle.sg_graph.specs.Laws.{AgreeOnNew, HasOneReport, TurnsKeepOld, leaves_of}
 
 -- the lowest fragment with room is one

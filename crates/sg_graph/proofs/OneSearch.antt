@@ -1,12 +1,12 @@
 -- A search for a slot stops in one way.
-use Rattle.std.proofs.Common.{◌≡◌, ◌≢◌, ℕ, ◌+◌, ◌<◌, ◌≤◌, ◌⊎◌, inl, inr, Bool, true, false, Option, Some, None, sym, refl, ap, ◌∙◌, subst, arith}
+use Rattle.std.proofs.Common.{◌≡◌, ℕ, ◌<◌, ◌≤◌, ◌⊎◌, inl, inr, Bool, true, false, Option, Some, None, sym, refl, ap, ◌∙◌, subst, arith}
 use Rattle.std.proofs.lemmas.Bool.{cases_lt}
-use Rattle.sg_words.specs.Blocks.{slots, IsSizeClass}
+use Rattle.sg_words.specs.Blocks.{IsSizeClass}
 use Rattle.sg_words.proofs.Blocks.{class_bounds, class_slots}
 use Rattle.sg_program.specs.declared.program.Program.{Program}
 use Rattle.sg_graph.specs.Graph.{Graph}
-use Rattle.sg_graph.specs.Book.{Book, slot_at, slot_words, IsInBlock, IsInSlot, IsEmptySlot, IsOpenSlot, IsShut}
-use Rattle.sg_graph.specs.Turns.{Position, OpeningBlock, TakingSlot, TakingOver, Board, IsBeingSwept, IsSweptOn, IsFreeOn, HasSlotOn, IsPassedOver, BeingSwept, OfOtherSize, Shut, ComesTo, SearchesFrom, MeetsFree, MeetsSlot, MeetsOwed, MeetsNone}
+use Rattle.sg_graph.specs.Book.{Book, slot_at, IsInBlock, IsInSlot, IsEmptySlot, IsOpenSlot, IsShut}
+use Rattle.sg_graph.specs.Turns.{Position, OpeningBlock, TakingSlot, TakingOver, Board, IsFreeOn, HasSlotOn, IsPassedOver, BeingSwept, OfOtherSize, Shut, ComesTo, SearchesFrom, MeetsFree, MeetsSlot, MeetsOwed, MeetsNone}
 use Rattle.sg_graph.specs.Laws.{HasOneSearch}
 
 not_none : {A : Type 0} (o : Option A) (a : A) → o ≡ None → o ≡ Some a → ⊥

@@ -1,5 +1,5 @@
 -- Laws of the definitions: that they mean what their names say.
-use Rattle.std.specs.Prelude.{◌≡◌, ◌≢◌, ℕ, ◌+◌, ◌^◌, ◌<◌, ◌≤◌, ◌⊎◌, ◌↔◌, Bool, true, false, Option, Some, List, [], ◌∷◌, ◌++◌, map}
+use Rattle.std.specs.Prelude.{◌≡◌, ◌≢◌, ℕ, ◌+◌, ◌^◌, ◌<◌, ◌≤◌, ◌⊎◌, ◌↔◌, Bool, true, false, Option, Some, List, [], ◌∷◌, ◌++◌, length, map}
 use Rattle.std.specs.List.{Contains, AllByRecursion}
 use Rattle.std.specs.Int.{bit_at}
 use Rattle.std.specs.Int.Bits.{bit_or}
@@ -24,9 +24,9 @@ use Rattle.sg_graph.specs.declared.reports.StopReport.{StopReport}
 use Rattle.sg_graph.specs.Graph.{Graph}
 use Rattle.sg_graph.specs.Blocks.{IsOldAt, AreBlocks}
 use Rattle.sg_graph.specs.Swept.{AreSwept, AreAtRest, AreInhabited}
-use Rattle.sg_graph.specs.Heap.{Owner, Of}
-use Rattle.sg_graph.specs.Book.{Book, Section, Old, block_at, slot_at, IsApart}
-use Rattle.sg_graph.specs.Epoch.{Said, Turn, IsNewOld, IsEpoch}
+use Rattle.sg_graph.specs.Heap.{Owner, Of, Objects, Fragments}
+use Rattle.sg_graph.specs.Book.{Book, Section, Old, block_at, slot_at, slot_words, IsOpenSlot, IsApart}
+use Rattle.sg_graph.specs.Epoch.{Said, Turn, IsNewOld, AsksSlot, IsEpoch}
 use Rattle.sg_graph.specs.Turns.{Position, Board, SearchesFrom}
 use Rattle.sg_graph.specs.Pause.{IsTarget, IsReached, IsPause, IsPointedInto, IsRoot}
 use Rattle.sg_graph.specs.Minor.{IsMinorPause}
@@ -160,8 +160,8 @@ AreUnowed p state = (c s : ℕ) → c < p.config.blocks → IsOwing (state c) s 
 abbrev pub PlacesByRoom : Type 0
 PlacesByRoom =
     (p : Program) (g : Graph) (b : Book) (marks used word : ℕ → ℕ) (state : ℕ → BlockWord) (owner : ℕ → Owner) (requests : List Asked) →
-    AreAsking p g requests → ((name : ℕ) → b.stands name ≡ true → name ≤ g.count) →
-    AreBlocks p marks state used word g.size b.stands b.address b.section b.owed owner → AreUnowed p state →
+    AreAsking p g requests → Objects p g.count g.class g.size b.stands b.address b.section owner → Fragments p b.fragments b.next b.limit owner →
+    AreBlocks p marks state used word g.size b.stands b.address b.section b.owed owner → AreInhabited p state b.stands b.address → AreUnowed p state →
     LacksOne p InFragments g b requests ↔
     (LacksWords b.fragments b.limit b.next (needs_of requests) ⊎ LacksSlots p.config.blocks state used (sizes_of requests))
 
@@ -209,6 +209,26 @@ TurnsKeepOld = (p : Program) (g : Graph) (b : Book) (said : Said) (h : Graph) (c
 abbrev pub HasOneSearch : Type 0
 HasOneSearch = (p : Program) (x : Board) (z j : ℕ) (found found' : Option Position) → IsSizeClass z → SearchesFrom p x z j found →
     SearchesFrom p x z j found' → found ≡ found'
+
+-- By the book c block j isn't owed any more, and it has no open slot of z words where it wasn't owed by the book b either.
+pub record HasNoOpen (p : Program) (b : Book) (h : Graph) (c : Book) (j z : ℕ) : Type 0 where
+  pub swept : c.owed j ≡ false
+  pub none : b.owed j ≡ false → (i : ℕ) → ¬ IsOpenSlot p h c j z i
+
+-- Where a mutator asks for a slot as an epoch ends, no block has been left out: none is owed, and none that wasn't owed as the epoch began has an
+-- open slot. And so it is with the blocks below a new object of the major heap.
+pub record SearchesAll : Type 0 where
+  pub asked : (p : Program) (e : ℕ) (g : Graph) (b : Book) (order : List Said) (swept : List ℕ) (r : EpochReport) (h : Graph) (c : Book) →
+      IsEpoch p e g b order swept r h c → (z j : ℕ) → IsSizeClass z → AsksSlot r.parts z → j < p.config.blocks → HasNoOpen p b h c j z
+  pub below : (p : Program) (e : ℕ) (g : Graph) (b : Book) (order : List Said) (swept : List ℕ) (r : EpochReport) (h : Graph) (c : Book) →
+      IsEpoch p e g b order swept r h c → (n j : ℕ) → IsNewOld g.count c n → block_at p j + 256 ≤ c.address n → HasNoOpen p b h c j (slot_words (h.size n))
+
+-- As an epoch ends, exactly the blocks are owed that were as it began and that no mutator swept; and no more blocks were swept than there are.
+pub record SweepsOnce : Type 0 where
+  pub owed : (p : Program) (e : ℕ) (g : Graph) (b : Book) (order : List Said) (swept : List ℕ) (r : EpochReport) (h : Graph) (c : Book) →
+      IsEpoch p e g b order swept r h c → (j : ℕ) → c.owed j ≡ true ↔ ((b.owed j ≡ true) × (¬ Contains swept j))
+  pub few : (p : Program) (e : ℕ) (g : Graph) (b : Book) (order : List Said) (swept : List ℕ) (r : EpochReport) (h : Graph) (c : Book) →
+      IsEpoch p e g b order swept r h c → length swept ≤ p.config.blocks
 
 -- a run that follows a list of turns is a run
 pub record RunsByTurns : Type 0 where

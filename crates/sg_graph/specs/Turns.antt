@@ -162,7 +162,6 @@ pub data TakesTurn (p : Program) (x : Board) (k : ℕ) : List Said → Board →
       (x.graph.mutator k).script ≡ s ∷ rest → IsLowestFrom x.book (made_words p s) f j → TakesTurn p x k [] (moved_on x k (Claiming j (x.book.next j)))
   FindsNone : (s : Statement) (rest : List Statement) (f seen : ℕ) → x.position k ≡ Claiming f seen → x.book.next f ≢ seen →
       (x.graph.mutator k).script ≡ s ∷ rest → HasNoneFrom x.book (made_words p s) f → TakesTurn p x k [] (asking x k (Need (made_words p s)))
-
   Matures : (s : Statement) (rest : List Statement) (found : Option Position) → x.position k ≡ Between → (x.graph.mutator k).script ≡ s ∷ rest →
       x.stopping ≡ false → IsMature s → SearchesFrom p x (made_slot p s) 0 found → TakesTurn p x k [] (stopped_at x k (made_slot p s) found)
   SearchesOn : (s : Statement) (rest : List Statement) (j : ℕ) (found : Option Position) → (x.graph.mutator k).script ≡ s ∷ rest →

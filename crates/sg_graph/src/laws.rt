@@ -1,4 +1,4 @@
-ghost use Rattle.sg_graph.specs.Laws.{BlocksAreSwept, BlocksGo, EndsBehindLast, FullIsLast, HasOneReport, HasOneSearch, HasOneTurn, KeepsInMajor, KeepsPointedInto, PlacesByRoom, PlacesByWords, QuietPause, RunsByTurns, TurnsKeepOld};
+ghost use Rattle.sg_graph.specs.Laws.{BlocksAreSwept, BlocksGo, EndsBehindLast, FullIsLast, HasOneReport, HasOneSearch, HasOneTurn, KeepsInMajor, KeepsPointedInto, PlacesByRoom, PlacesByWords, QuietPause, RunsByTurns, SearchesAll, SweepsOnce, TurnsKeepOld};
 
 /// The law of the end: a run ends behind the epoch that is told to be the last one. It does nothing; its contract is the
 /// law.
@@ -57,6 +57,18 @@ pub fn turns_keep_old()
 /// The law of one search: a search for a slot stops in one way. It does nothing; its contract is the law.
 pub fn one_search()
     ensures { HasOneSearch }
+{}
+
+/// The law of all searches: as an epoch ends in which a mutator asks for a slot, or an object was made in the major heap, no block that
+/// the search came to was left out. It does nothing; its contract is the law.
+pub fn searches_all()
+    ensures { SearchesAll }
+{}
+
+/// The law of sweeps in an epoch: a block that was swept had been owed, isn't owed any more, and was swept once. It does nothing; its
+/// contract is the law.
+pub fn sweeps_once()
+    ensures { SweepsOnce }
 {}
 
 /// The law of turns: a run that follows a list of turns is a run. It does nothing; its contract is the law.

@@ -11,7 +11,7 @@ mod reports;
 pub use laws::{
     blocks_are_swept, blocks_go, ends_behind_last, full_is_last, keeps_in_major,
     keeps_pointed_into, one_report, one_search, one_turn, places_by_room, places_by_words,
-    quiet_pause, runs_by_turns, turns_keep_old,
+    quiet_pause, runs_by_turns, searches_all, sweeps_once, turns_keep_old,
 };
 pub use names::names_are_pairs;
 pub use reports::{
