@@ -77,7 +77,7 @@ direct-requires g c =
     record {
       within = c.requires.within;
       direct = is_direct c.args.self.now.program s c.requires.may.runnable.run (sym c.object_test.ensures ∙ ap as_test_option c.in_default.is)
-          c.in_default-stop_request.ensures c.in_default-statement.not-New c.in_default-statement.not-NewV c.in_default-statement.not-Hide
+          c.in_default-stop_request.ensures c.in_default-statement.not-New c.in_default-statement.not-NewV c.in_default-statement.not-Mature c.in_default-statement.not-Hide
           c.in_default-statement.not-GPut c.in_default-statement.not-GGet;
       may = c.requires.may;
     }

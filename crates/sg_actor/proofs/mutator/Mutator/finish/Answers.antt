@@ -45,7 +45,7 @@ at_word-at-requires-clause-below g c =
     let on = c.requires.on.1 in
     let limits = subst (λ (m : Mutating). IsWithinLimits m.program) c.self.view_is c.self.invariant.limits in
     let at = on.guided.is_sane in
-    omega (arith, at.inside, limits.settings.nursery_most)
+    omega (arith, at.inside, limits.settings.nursery_most, limits.settings.blocks_most)
 
 pub store-requires-clause-may : goal.store-requires-clause-may
 store-requires-clause-may g c =
