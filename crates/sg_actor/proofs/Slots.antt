@@ -39,6 +39,22 @@ abbrev pub landed : Program → Statement → ℕ → Option Stage → Mid
 landed p s c None = onward p (Search s) (c + 1)
 landed p s c (Some stage) = mid_of stage
 
+-- what a look prepares is done in another turn
+abbrev EndsThere : Option Stage → Type 0
+EndsThere None = Unit {0}
+EndsThere (Some stage) = RestsAt (mid_of stage)
+
+look_rests : (s : Statement) (size c : ℕ) (es : List Step) (found : Option Stage) → IsLook s size c es found → EndsThere found
+look_rests s size c _ _ SeesFree = tt
+look_rests s size c _ _ (SeesSlot used i low) = tt
+look_rests s size c _ _ (SeesFull used full) = tt
+look_rests s size c _ _ (SeesOther z other) = tt
+look_rests s size c _ _ (SeesOwed z) = tt
+look_rests s size c _ _ (SeesSweep z) = tt
+
+pub sight_rests : (s : Statement) (size c : ℕ) (es : List Step) (stage : Stage) → IsLook s size c es (Some stage) → RestsAt (mid_of stage)
+sight_rests s size c es stage look = look_rests s size c es (Some stage) look
+
 -- a slot for the object has such a size
 pub slot_class : (p : Program) (s : Statement) → IsSizeClass (made_slot p s)
 slot_class p s = slot_size-class (made_words p s)

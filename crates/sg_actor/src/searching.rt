@@ -177,6 +177,7 @@ impl<'a> Mutator<'a> {
             HasTurned self.old.program lay P.leads (actor_of self.old) port.old (actor_of self.new) port.new }
         ensures behind { IsBehindTurn self.old self.new }
     {
+        let _ = &self.program;
         let size = making.slot();
         self.resume();
         match look_at(port, making.statement, block, size) {

@@ -49,6 +49,27 @@ hide-requires-clause-begun g c =
     let is = c.in-Hide.is in
     subst (λ (u : Statement). (lay : Constants) × Begun o p lay x (before_this m u)) is c.requires.begun
 
+pub search_all-requires-clause-begun : goal.search_all-requires-clause-begun
+search_all-requires-clause-begun g c =
+    let o = ports g in
+    let m = c.args.self.now in
+    let p = m.program in
+    let s = c.args.statement in
+    let x = c.args.port.now in
+    let is = sym c.making-making-in-Mature.ensures.statement in
+    subst (λ (u : Statement). (lay : Constants) × Begun o p lay x (before_this m u)) is c.requires.begun
+
+pub returns-in-Mature-clause-run : goal.returns-in-Mature-clause-run
+returns-in-Mature-clause-run g c lay begun =
+    let o = ports g in
+    let m = c.args.self.now in
+    let p = m.program in
+    let s = c.args.statement in
+    let x = c.args.port.now in
+    let is = sym c.making-making-in-Mature.ensures.statement in
+    subst (λ (u : Statement). Ran o p lay (before_this m u) x (actor_of c.search_all.new.self) c.search_all.new.port) (sym is)
+    (c.search_all.ensures.run lay (subst (λ (u : Statement). Begun o p lay x (before_this m u)) is begun))
+
 pub returns-in-New-clause-run : goal.returns-in-New-clause-run
 returns-in-New-clause-run g c lay begun =
     let o = ports g in
