@@ -1,5 +1,5 @@
 -- The exchanges and claims of a search through the blocks, each of which begins a turn, over any port.
-use Rattle.std.proofs.Common.{◌≡◌, ℕ, ◌+◌, ◌<◌, true, false, Result, Ok, Err, MatchResult, [], ◌∷◌, inr, sym, ap, ◌∙◌, subst}
+use Rattle.std.proofs.Common.{◌≡◌, ℕ, ◌<◌, true, false, Result, Ok, Err, MatchResult, [], ◌∷◌, inr, sym, ap, ◌∙◌, subst}
 use Rattle.std.specs.Int.{bit_at}
 use Rattle.std.proofs.lemmas.Nat.Bits.{bit_at-zero}
 use Rattle.sg_words.specs.declared.steps.BlockWord.{BlockWord}
@@ -13,7 +13,7 @@ use Rattle.sg_words.specs.Calls.{call_of}
 use Rattle.sg_cells.specs.Made.{Makes}
 use Rattle.sg_program.specs.declared.program.Statement.{Statement}
 use Rattle.sg_program.specs.Scripts.{made_slot}
-use Rattle.sg_rules.specs.Rules.{Constants, Idle, Search, SeeBlock, TakeBlock, TakeSlot, TakeOver, StoreOccupancy, StoreLength, Mid, Actor, BlockComes, onward, slot_word, within}
+use Rattle.sg_rules.specs.Rules.{Constants, Idle, Search, SeeBlock, StoreOccupancy, StoreLength, Mid, Actor, onward, slot_word, within}
 use Rattle.sg_rules.specs.Rules.BlockComes.{takes_block, misses_block, takes_slot, misses_slot, takes_over, misses_sweep}
 use Rattle.sg_rules.specs.Acting.{Acts, RestsAt}
 use Rattle.sg_rules.specs.Sane.{IsSearching}

@@ -1,5 +1,5 @@
 -- Steps that are known to come next, one after another, over any port: they may be made, and lead the mutator along.
-use Rattle.std.proofs.Common.{◌≡◌, List, [], ◌∷◌, ◌++◌, refl, sym, subst}
+use Rattle.std.proofs.Common.{List, [], ◌∷◌, ◌++◌, refl, sym, subst}
 use Rattle.sg_words.specs.declared.steps.Step.{Step}
 use Rattle.sg_words.specs.Programs.{FollowsBy}
 use Rattle.sg_cells.specs.Made.{Makes}

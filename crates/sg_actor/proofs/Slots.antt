@@ -1,6 +1,5 @@
 -- The search for a slot through the blocks, over any port.
-use Rattle.std.proofs.Common.{◌≡◌, ◌≢◌, ℕ, ◌+◌, ◌<◌, ◌≤◌, nat_lt, Bool, true, false, Option, Some, None, List, [], ◌∷◌, inl, inr, refl, sym, subst, arith}
-use Rattle.std.specs.Int.{bit_at}
+use Rattle.std.proofs.Common.{◌≡◌, ◌≢◌, ℕ, ◌+◌, ◌<◌, ◌≤◌, nat_lt, Bool, false, Option, Some, None, List, [], ◌∷◌, inr, refl, sym, subst, arith}
 use Rattle.std.proofs.lemmas.Bool.{cond-true, cond-false, lt-ltb, le-ltb}
 use Rattle.std.proofs.lemmas.Nat.Bits.{bit_at-zero}
 use Rattle.sg_words.specs.declared.steps.BlockWord.TheVariants.{Free, Swept, Need}
@@ -12,7 +11,6 @@ use Rattle.sg_words.specs.Programs.{FollowsBy}
 use Rattle.sg_words.proofs.Blocks.{class_slots, slot_size-class}
 use Rattle.sg_cells.specs.Made.{Makes}
 use Rattle.sg_cells.specs.Allowed.{MayMake}
-use Rattle.sg_slots.specs.Looks.{IsLowest}
 use Rattle.sg_program.specs.declared.program.Program.{Program}
 use Rattle.sg_program.specs.declared.program.Statement.{Statement}
 use Rattle.sg_program.specs.Scripts.{made_words, made_slot}
@@ -109,14 +107,14 @@ module _ (p : Program) (lay : Constants) (a : Actor) (rest : List Statement) (s 
     sight_may =
         let many = class_slots (made_slot p s) (slot_class p s) in
         let clear : Acts p lay (at (SeeUsed s c)) (OnBlock (LoadUsed c 0)) (at (TakeSlot s c 0)) =
-            (false, inr (sees_slot a s rest c 0 0 (omega (arith, many.0)) (bit_at-zero 0) (λ k l. absurd (omega arith)))) in
+        (false, inr (sees_slot a s rest c 0 0 (omega (arith, many.0)) (bit_at-zero 0) (λ k l. absurd (omega arith)))) in
         path_may o p lay here (at (TakeSlot s c 0)) (looks_within size c 0) x on (_, sees size is, (_, clear, refl))
 
     -- an owed block that it sees has slots of a size class
     owed_class : (z : ℕ) → o.sees x (OnBlock (LoadBlock c (Need z))) → IsSizeClass z
     owed_class z seen =
         let n = saw_it o p lay here here x x on (none_yet o p lay here x on) (OnBlock (LoadBlock c Free)) false _ (OnBlock (LoadBlock c (Need z)))
-            (inr (sees_free a s rest begins c)) refl seen in
+        (inr (sees_free a s rest begins c)) refl seen in
         saw_next p lay here (OnBlock (LoadBlock c (Need z))) n.0.1.0 n.0.0 n.0.1.1
 
     module _ (es : List Step) (found : Option Stage) (look : IsLook s size c es found) (y : P) (made : Makes o.leads o.sees x es y) where

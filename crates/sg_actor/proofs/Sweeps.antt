@@ -1,10 +1,10 @@
 -- The steps of a sweep are an actor's next ones, from the store of the block's occupancy to that of its word.
-use Rattle.std.proofs.Common.{◌≡◌, ◌≢◌, ℕ, zero, suc, ◌+◌, ◌-◌, ◌<◌, ◌≤◌, true, false, List, [], ◌∷◌, ◌++◌, inl, inr, refl, sym, ap, subst, arith}
+use Rattle.std.proofs.Common.{◌≡◌, ℕ, zero, suc, ◌+◌, ◌-◌, ◌<◌, ◌≤◌, true, false, List, [], ◌∷◌, ◌++◌, inl, inr, refl, sym, ap, subst, arith}
 use Rattle.std.proofs.Math.Numerals.{add-one}
 use Rattle.std.proofs.lemmas.Bool.{cases_eq, cond-true, cond-false, eq-eqb, ne_eqb}
 use Rattle.std.specs.Int.{bit_at}
 use Rattle.sg_words.specs.declared.steps.BlockWord.TheVariants.{Need}
-use Rattle.sg_words.specs.declared.steps.BlockStep.TheVariants.{StoreBlock, StoreUsed, Zero}
+use Rattle.sg_words.specs.declared.steps.BlockStep.TheVariants.{StoreBlock, StoreUsed}
 use Rattle.sg_words.specs.declared.steps.Step.{Step}
 use Rattle.sg_words.specs.declared.steps.Step.TheVariants.{OnBlock}
 use Rattle.sg_words.specs.Blocks.{IsSizeClass, slots, slot_from}

@@ -125,7 +125,14 @@ impl<'a> Mutator<'a> {
     }
 
     /// Stores a reference in the field at this byte address, and then marks the field's card, where it has one.
-    fn put<P: WordPort + FragPort + SweepPort>(&mut self, port: &mut P, place: u64, r: u8, field: u64, s: u8)
+    fn put<P: WordPort + FragPort + SweepPort>(
+        &mut self,
+        port: &mut P,
+        place: u64,
+        r: u8,
+        field: u64,
+        s: u8,
+    )
         requires within { self.old.stage ≡ Within }
         requires aligned { place % 8 ≡ 0 }
         requires place { word_at place ≡ object_in (actor_of self.old) r + 2 + field }
@@ -146,7 +153,11 @@ impl<'a> Mutator<'a> {
     }
 
     /// `gput` and `gget`: one store or load.
-    pub(crate) fn global<P: WordPort + FragPort + SweepPort>(&mut self, port: &mut P, statement: Statement)
+    pub(crate) fn global<P: WordPort + FragPort + SweepPort>(
+        &mut self,
+        port: &mut P,
+        statement: Statement,
+    )
         requires within { self.old.stage ≡ Within }
         requires global { IsGlobal statement }
         requires may { MayBegin self.old.program (actor_of self.old) statement }
@@ -171,7 +182,13 @@ impl<'a> Mutator<'a> {
     }
 
     /// `hide`: at most one load.
-    pub(crate) fn hide<P: WordPort + FragPort + SweepPort>(&mut self, port: &mut P, d: u8, s: u8, offset: u64)
+    pub(crate) fn hide<P: WordPort + FragPort + SweepPort>(
+        &mut self,
+        port: &mut P,
+        d: u8,
+        s: u8,
+        offset: u64,
+    )
         requires within { self.old.stage ≡ Within }
         requires may { MayBegin self.old.program (actor_of self.old) (Statement.Hide d s offset) }
         requires begun { (lay : Constants) × HasBegun self.old.program lay P.leads P.may P.sees P.fragments P.limit P.blocks P.heap P.marks port.old

@@ -106,7 +106,12 @@ impl<'a> Mutator<'a> {
     }
 
     /// Writes the header of the new object at the word with this number, its length first, and answers.
-    pub(crate) fn finish<P: WordPort + FragPort + SweepPort>(&mut self, port: &mut P, making: Making, number: u64)
+    pub(crate) fn finish<P: WordPort + FragPort + SweepPort>(
+        &mut self,
+        port: &mut P,
+        making: Making,
+        number: u64,
+    )
         requires within { self.old.stage ≡ Within }
         requires made { IsMadeOf self.old.program making.statement making.r making.class making.fields }
         requires on { (lay : Constants) × IsOnPort self.old.program lay P.leads P.may P.sees P.fragments P.limit P.blocks P.heap P.marks port.old

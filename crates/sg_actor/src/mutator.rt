@@ -35,7 +35,10 @@ pub enum Stage {
         next: u64,
     },
     /// The exchange is prepared by which this block, which was seen free, gets slots for the object that this statement makes.
-    OpeningBlock { statement: Statement, block: u32 },
+    OpeningBlock {
+        statement: Statement,
+        block: u32,
+    },
     /// The claim of this slot of this block is prepared, which was seen clear, for the object that this statement makes.
     TakingSlot {
         statement: Statement,
@@ -56,7 +59,10 @@ pub enum Stage {
         size: u32,
     },
     /// It has swept this block, and this statement's search goes on there in its next turn.
-    BehindSweep { statement: Statement, block: u32 },
+    BehindSweep {
+        statement: Statement,
+        block: u32,
+    },
     /// No statement is left.
     Ended,
     /// It has left its epoch with this statement, which asks for this.

@@ -25,7 +25,11 @@ use sg_words::BlockWord;
 
 impl<'a> Mutator<'a> {
     /// Makes the object in the major heap: searches the blocks from the first one on. Linear in the blocks.
-    pub(crate) fn search_all<P: WordPort + FragPort + SweepPort>(&mut self, port: &mut P, making: Making)
+    pub(crate) fn search_all<P: WordPort + FragPort + SweepPort>(
+        &mut self,
+        port: &mut P,
+        making: Making,
+    )
         requires within { self.old.stage ≡ Within }
         requires made { IsMadeOf self.old.program making.statement making.r making.class making.fields }
         requires mature { IsMature making.statement }
@@ -41,7 +45,12 @@ impl<'a> Mutator<'a> {
 
     /// Searches the blocks from this one on: at the first one where something is to be prepared for the object, it is; behind the last
     /// one it asks for a slot. Linear in the blocks.
-    fn search<P: WordPort + FragPort + SweepPort>(&mut self, port: &mut P, making: Making, first: u32)
+    fn search<P: WordPort + FragPort + SweepPort>(
+        &mut self,
+        port: &mut P,
+        making: Making,
+        first: u32,
+    )
         requires within { self.old.stage ≡ Within }
         requires made { IsMadeOf self.old.program making.statement making.r making.class making.fields }
         requires mature { IsMature making.statement }
@@ -67,7 +76,12 @@ impl<'a> Mutator<'a> {
     }
 
     /// Makes the prepared exchange by which a free block gets slots for the object, and looks at the block again, be it won or lost.
-    pub(crate) fn open_block<P: WordPort + FragPort + SweepPort>(&mut self, port: &mut P, making: Making, block: u32)
+    pub(crate) fn open_block<P: WordPort + FragPort + SweepPort>(
+        &mut self,
+        port: &mut P,
+        making: Making,
+        block: u32,
+    )
         requires stage { self.old.stage ≡ OpeningBlock making.statement block }
         requires made { IsMadeOf self.old.program making.statement making.r making.class making.fields }
         requires mature { IsMature making.statement }
@@ -166,7 +180,12 @@ impl<'a> Mutator<'a> {
     }
 
     /// Looks at the block that it has swept, and goes on with the search.
-    pub(crate) fn search_behind<P: WordPort + FragPort + SweepPort>(&mut self, port: &mut P, making: Making, block: u32)
+    pub(crate) fn search_behind<P: WordPort + FragPort + SweepPort>(
+        &mut self,
+        port: &mut P,
+        making: Making,
+        block: u32,
+    )
         requires stage { self.old.stage ≡ BehindSweep making.statement block }
         requires made { IsMadeOf self.old.program making.statement making.r making.class making.fields }
         requires mature { IsMature making.statement }

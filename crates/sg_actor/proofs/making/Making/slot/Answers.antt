@@ -1,5 +1,5 @@
-use Rattle.std.proofs.Common.{◌+◌, sym, ap, ◌∙◌, subst}
-use Rattle.sg_words.specs.Blocks.{IsSizeClass, slot_size}
+use Rattle.std.proofs.Common.{sym, subst}
+use Rattle.sg_words.specs.Blocks.{IsSizeClass}
 use Rattle.sg_words.proofs.Blocks.{slot_size-class}
 use Rattle.sg_actor.proofs.making.Making.slot.Goals as goal
 

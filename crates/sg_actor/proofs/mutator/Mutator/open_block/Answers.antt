@@ -49,7 +49,7 @@ search-requires-clause-on g c =
     let size : c.slot-size.result ≡ made_slot m.program s = c.slot-size.ensures.size ∙ ap (λ n. slot_size (n + 2)) c.requires.made.fields_are in
     let led = opened o m lay s b x on c.requires.stage c.slot-size.result size y c.swap_block.result c.swap_block.ensures.led c.swap_block.ensures.seen in
     let there : b ≤ n.program.config.blocks =
-        let l = open_there o m lay s b x on c.requires.stage c.slot-size.result size in let e = ap (λ p. p.config.blocks) c.resume.ensures.same.program in omega arith in
+    let l = open_there o m lay s b x on c.requires.stage c.slot-size.result size in let e = ap (λ p. p.config.blocks) c.resume.ensures.same.program in omega arith in
     (lay, there, again_on m n c.resume.ensures.actor c.resume.ensures.same.program s b o lay y (led_on o m lay x on (again m s b) y led))
 
 pub returns-clause-turned : goal.returns-clause-turned

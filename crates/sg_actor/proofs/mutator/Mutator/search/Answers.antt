@@ -1,13 +1,10 @@
-use Rattle.std.proofs.Common.{◌≡◌, ◌+◌, ◌<◌, ◌≤◌, Option, Some, None, List, refl, sym, ap, ◌∙◌, subst, arith}
-use Rattle.sg_words.specs.declared.steps.Step.{Step}
+use Rattle.std.proofs.Common.{◌≡◌, ◌+◌, ◌<◌, ◌≤◌, Some, None, ap, ◌∙◌, subst, arith}
 use Rattle.sg_words.specs.Blocks.{slot_size}
-use Rattle.sg_cells.specs.Made.{Makes}
 use Rattle.sg_program.specs.Scripts.{made_slot}
 use Rattle.sg_rules.specs.Rules.{Search, Left, onward, within}
-use Rattle.sg_actor.specs.declared.mutator.Stage.{Stage}
 use Rattle.sg_actor.specs.State.{Mutating, actor_of, mid_of}
 use Rattle.sg_actor.specs.Searching.{IsLook}
-use Rattle.sg_actor.proofs.Ports.{Ports, none_yet, gone_to}
+use Rattle.sg_actor.proofs.Ports.{Ports, gone_to}
 use Rattle.sg_actor.proofs.Searches.{stop_may, stop_done}
 use Rattle.sg_actor.proofs.Slots.{slots_end, look_may, look_gone}
 use Rattle.sg_actor.proofs.mutator.Mutator.search.Given.{Over}

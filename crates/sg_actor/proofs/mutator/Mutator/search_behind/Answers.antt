@@ -2,7 +2,7 @@ use Rattle.std.proofs.Common.{◌≡◌, ◌+◌, ◌<◌, ◌≤◌, true, Some
 use Rattle.sg_words.specs.Blocks.{slot_size}
 use Rattle.sg_program.specs.Invariants.{IsWithinLimits}
 use Rattle.sg_program.specs.Scripts.{made_slot}
-use Rattle.sg_rules.specs.Rules.{Actor, within}
+use Rattle.sg_rules.specs.Rules.{within}
 use Rattle.sg_rules.specs.Acting.{RestsAt}
 use Rattle.sg_actor.specs.declared.mutator.Stage.{Stage}
 use Rattle.sg_actor.specs.declared.mutator.Stage.TheVariants.{BehindSweep}
@@ -11,7 +11,7 @@ use Rattle.sg_actor.proofs.Ports.{Ports, none_yet, gone_to}
 use Rattle.sg_actor.proofs.Starts.{rests_at}
 use Rattle.sg_actor.proofs.Resting.{on_there, turned_there}
 use Rattle.sg_actor.proofs.Slots.{sight_rests, sight_may, sight_on, sight_turned}
-use Rattle.sg_actor.proofs.BlockTurns.{again, goes_at, again_on, again_gone}
+use Rattle.sg_actor.proofs.BlockTurns.{goes_at, again_on, again_gone}
 use Rattle.sg_actor.proofs.mutator.Mutator.search_behind.Given.{Over}
 use Rattle.sg_actor.proofs.mutator.Mutator.search_behind.Goals as goal
 
@@ -76,7 +76,7 @@ search-requires-clause-on g c =
     let look = c.in-None.ensures in
     let landing = sight_on m.program lay (actor_of m) m.script s true b o c.slot-size.result size x here look.0 None look.2 y look.1 in
     let there : b + 1 ≤ n.program.config.blocks =
-        let l = here.guided.is_sane.there in let e = ap (λ p. p.config.blocks) program in omega (arith, l, e) in
+    let l = here.guided.is_sane.there in let e = ap (λ p. p.config.blocks) program in omega (arith, l, e) in
     (lay, there, again_on m n c.resume.ensures.actor program s (b + 1) o lay y landing)
 
 pub returns-in-Some-clause-turned : goal.returns-in-Some-clause-turned

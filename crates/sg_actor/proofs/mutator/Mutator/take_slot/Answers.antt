@@ -56,16 +56,16 @@ finish-requires-clause-on g c =
     let lay = c.requires.on.0 in
     let on = c.requires.on.1 in
     let led = took o m lay s b x on i c.requires.stage y found (c.take_slot-found.ensures.seen, c.take_slot-found.ensures.led)
-        (sym (shr_and_one found i) ∙ c.if-found-slot-eq0.true) in
+    (sym (shr_and_one found i) ∙ c.if-found-slot-eq0.true) in
     let size : c.slot-size.result ≡ made_slot m.program s = c.slot-size.ensures.size ∙ ap (λ k. slot_size (k + 2)) c.requires.made.fields_are in
     let number = c.slot_at-number.result in
     let first : number ≡ slot_base (sections_of m.program) b (made_slot m.program s) i =
-        c.slot_at-number.ensures ∙ ap (λ (v : Mutating). slot_base (sections_of v.program) b c.slot-size.result i) c.self.view_is
-        ∙ ap (λ z. slot_base (sections_of m.program) b z i) size in
+    c.slot_at-number.ensures ∙ ap (λ (v : Mutating). slot_base (sections_of v.program) b c.slot-size.result i) c.self.view_is
+    ∙ ap (λ z. slot_base (sections_of m.program) b z i) size in
     let is : number ≡ slot_word m.program b (made_slot m.program s) i 0 = omega (arith, first) in
     let header = within (actor_of m) m.script (StoreLength s (slot_word m.program b (made_slot m.program s) i 0)) in
     let same : within (actor_of n) n.script (StoreLength s number) ≡ header =
-        goes_at m n c.resume.ensures.actor program (StoreLength s number) ∙ ap (λ k. within (actor_of m) m.script (StoreLength s k)) is in
+    goes_at m n c.resume.ensures.actor program (StoreLength s number) ∙ ap (λ k. within (actor_of m) m.script (StoreLength s k)) is in
     let here = on_as o lay m.program n.program program header (within (actor_of n) n.script (StoreLength s number)) same y (led_on o m lay x on header y led) in
     (lay, here)
 
@@ -90,7 +90,7 @@ search-requires-clause-on g c =
     let led = missed o m lay s b x on i c.requires.stage y found (c.take_slot-found.ensures.seen, c.take_slot-found.ensures.led) set in
     let at = again_on m n c.resume.ensures.actor program s b o lay y (led_on o m lay x on (again m s b) y led) in
     let there : b ≤ n.program.config.blocks =
-        let l = take_there o m lay s b x on i c.requires.stage in let e = ap (λ p. p.config.blocks) program in omega arith in
+    let l = take_there o m lay s b x on i c.requires.stage in let e = ap (λ p. p.config.blocks) program in omega arith in
     (lay, there, at)
 
 pub returns-then-found-slot-eq0-clause-turned : goal.returns-then-found-slot-eq0-clause-turned
@@ -106,16 +106,16 @@ returns-then-found-slot-eq0-clause-turned g c lay on =
     let n = c.resume.new.self in
     let program = c.resume.ensures.same.program in
     let led = took o m lay s b x on i c.requires.stage y found (c.take_slot-found.ensures.seen, c.take_slot-found.ensures.led)
-        (sym (shr_and_one found i) ∙ c.if-found-slot-eq0.true) in
+    (sym (shr_and_one found i) ∙ c.if-found-slot-eq0.true) in
     let size : c.slot-size.result ≡ made_slot m.program s = c.slot-size.ensures.size ∙ ap (λ k. slot_size (k + 2)) c.requires.made.fields_are in
     let number = c.slot_at-number.result in
     let first : number ≡ slot_base (sections_of m.program) b (made_slot m.program s) i =
-        c.slot_at-number.ensures ∙ ap (λ (v : Mutating). slot_base (sections_of v.program) b c.slot-size.result i) c.self.view_is
-        ∙ ap (λ z. slot_base (sections_of m.program) b z i) size in
+    c.slot_at-number.ensures ∙ ap (λ (v : Mutating). slot_base (sections_of v.program) b c.slot-size.result i) c.self.view_is
+    ∙ ap (λ z. slot_base (sections_of m.program) b z i) size in
     let is : number ≡ slot_word m.program b (made_slot m.program s) i 0 = omega (arith, first) in
     let header = within (actor_of m) m.script (StoreLength s (slot_word m.program b (made_slot m.program s) i 0)) in
     let same : within (actor_of n) n.script (StoreLength s number) ≡ header =
-        goes_at m n c.resume.ensures.actor program (StoreLength s number) ∙ ap (λ k. within (actor_of m) m.script (StoreLength s k)) is in
+    goes_at m n c.resume.ensures.actor program (StoreLength s number) ∙ ap (λ k. within (actor_of m) m.script (StoreLength s k)) is in
     let here = on_as o lay m.program n.program program header (within (actor_of n) n.script (StoreLength s number)) same y (led_on o m lay x on header y led) in
     let k = c.finish.new.self in
     led_turned o m lay x on header y led (actor_of k) c.finish.new.port

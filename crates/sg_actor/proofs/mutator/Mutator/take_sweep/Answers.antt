@@ -1,4 +1,4 @@
-use Rattle.std.proofs.Common.{◌≡◌, ◌≤◌, ap, ◌∙◌, arith}
+use Rattle.std.proofs.Common.{◌≤◌, ap, ◌∙◌, arith}
 use Rattle.sg_rules.specs.Rules.{Search, StoreOccupancy, within}
 use Rattle.sg_actor.specs.State.{actor_of}
 use Rattle.sg_actor.proofs.Ports.{Ports}
@@ -47,7 +47,7 @@ search-requires-clause-on g c =
     let on = c.requires.on.1 in
     let led = lost_over o m lay s b x on c.args.size c.requires.stage y _ c.in-Err.ensures in
     let there : b ≤ n.program.config.blocks =
-        let l = over_there o m lay s b x on c.args.size c.requires.stage in let e = ap (λ p. p.config.blocks) program in omega arith in
+    let l = over_there o m lay s b x on c.args.size c.requires.stage in let e = ap (λ p. p.config.blocks) program in omega arith in
     (lay, there, again_on m n c.resume.ensures.actor program s b o lay y (led_on o m lay x on (again m s b) y led))
 
 pub returns-in-Ok-clause-turned : goal.returns-in-Ok-clause-turned
