@@ -13,7 +13,8 @@ use Rattle.sg_words.specs.Calls.{call_of}
 use Rattle.sg_cells.specs.Made.{Makes}
 use Rattle.sg_program.specs.declared.program.Statement.{Statement}
 use Rattle.sg_program.specs.Scripts.{made_slot}
-use Rattle.sg_rules.specs.Rules.{Constants, Idle, Search, SeeBlock, StoreOccupancy, StoreLength, Mid, Actor, onward, slot_word, within}
+use Rattle.sg_rules.specs.Rules.{Constants, Idle, Search, SeeBlock, StoreOccupancy, StoreLength, Mid}
+use Rattle.sg_rules.specs.Rules.{Actor, onward, slot_word, within}
 use Rattle.sg_rules.specs.Rules.BlockComes.{takes_block, misses_block, takes_slot, misses_slot, takes_over, misses_sweep}
 use Rattle.sg_rules.specs.Acting.{Acts, RestsAt}
 use Rattle.sg_rules.specs.Sane.{IsSearching}
@@ -35,7 +36,8 @@ pub record Led {P : Type 0} (o : Ports P) (m : Mutating) (lay : Constants) (x : 
   pub acts : Acts m.program lay (actor_of m) step b
   pub did : Did o m.program lay x step y
 
-module _ {P : Type 0} (o : Ports P) (m : Mutating) (lay : Constants) (x : P) (on : On o m.program lay x (actor_of m)) (b : Actor) (y : P) (led : Led o m lay x b y) where
+module _ {P : Type 0} (o : Ports P) (m : Mutating) (lay : Constants) (x : P)
+    (on : On o m.program lay x (actor_of m)) (b : Actor) (y : P) (led : Led o m lay x b y) where
   pub led_on : On o m.program lay y b
   led_on = first_on o m.program lay (actor_of m) b x y led.step on led.acts led.did
 
@@ -79,7 +81,8 @@ module _ {P : Type 0} (o : Ports P) (m : Mutating) (lay : Constants) (s : Statem
     led_again : (t : Step) (y : P) → IsSearching m.program s c → Acts m.program lay here t (within (actor_of m) m.script (SeeBlock (Search s) false c)) →
         Did o m.program lay x t y → Led o m lay x (again m s c) y
     led_again t y sane n did =
-        led t (again m s c) y (subst (λ (mid : Mid). Acts m.program lay here t (within (actor_of m) m.script mid)) (sym (onward_at m.program s c sane.there)) n) did
+        led t (again m s c) y
+        (subst (λ (mid : Mid). Acts m.program lay here t (within (actor_of m) m.script mid)) (sym (onward_at m.program s c sane.there)) n) did
 
   -- the exchange by which a free block gets slots
   module _ (stage : m.stage ≡ OpeningBlock s c) (size : ℕ) (is : size ≡ made_slot m.program s) where
@@ -91,7 +94,8 @@ module _ {P : Type 0} (o : Ports P) (m : Mutating) (lay : Constants) (s : Statem
         (may (OpeningBlock s c) stage (OnBlock (WonBlock c Free (Swept (made_slot m.program s)))) _ (false, inr (takes_block (actor_of m) s m.script c)))
 
     pub opened : (y : P) (r : Result (Unit {0}) BlockWord) →
-        MatchResult r (λ _. o.leads x (OnBlock (WonBlock c Free (Swept size)) ∷ []) y) (λ found. o.leads x (OnBlock (LostBlock c Free (Swept size) found) ∷ []) y) →
+        MatchResult r (λ _. o.leads x (OnBlock (WonBlock c Free (Swept size)) ∷ []) y)
+        (λ found. o.leads x (OnBlock (LostBlock c Free (Swept size) found) ∷ []) y) →
         MatchResult r (λ _. o.sees x (OnBlock (WonBlock c Free (Swept size)))) (λ found. o.sees x (OnBlock (LostBlock c Free (Swept size) found))) →
         Led o m lay x (again m s c) y
     opened y (Ok u) on seen =
@@ -132,6 +136,7 @@ module _ {P : Type 0} (o : Ports P) (m : Mutating) (lay : Constants) (s : Statem
         Led o m lay x (within (actor_of m) m.script (StoreOccupancy (Search s) c z)) y
     won_over y made = led (TakingOver s c z) stage _ _ y (false, inr (takes_over (actor_of m) (Search s) m.script c z)) (did y _ made)
 
-    pub lost_over : (y : P) (found : BlockWord) → Makes o.leads o.sees x (OnBlock (LostBlock c (Need z) (Sweeping z) found) ∷ []) y → Led o m lay x (again m s c) y
+    pub lost_over : (y : P) (found : BlockWord) → Makes o.leads o.sees x (OnBlock (LostBlock c (Need z) (Sweeping z) found) ∷ []) y →
+        Led o m lay x (again m s c) y
     lost_over y found made = led_again (TakingOver s c z) stage _ y (here_on (TakingOver s c z) stage).guided.is_sane.task
         (false, inr (misses_sweep (actor_of m) (Search s) m.script c z found)) (did y _ made)

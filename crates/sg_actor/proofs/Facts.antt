@@ -70,7 +70,8 @@ collects p s request is = absurd is
 
 -- a statement that is run now, tests no object, asks for nothing in any case and is none of these touches no shared word but the stop word
 pub is_direct : (p : Program) (s : Statement) → IsBuilt p s → test_of s ≡ None → ((request : Request) → ¬ IsCollecting s request) →
-    ((r class : ℕ) → s ≢ New r class) → ((r class count : ℕ) → s ≢ NewV r class count) → ((r class : ℕ) → s ≢ Mature r class) → ((d r offset : ℕ) → s ≢ Hide d r offset) →
+    ((r class : ℕ) → s ≢ New r class) → ((r class count : ℕ) → s ≢ NewV r class count) → ((r class : ℕ) → s ≢ Mature r class) →
+    ((d r offset : ℕ) → s ≢ Hide d r offset) →
     ((x r : ℕ) → s ≢ GPut x r) → ((r x : ℕ) → s ≢ GGet r x) → IsDirect s
 is_direct p (New r class) built none quiet new newv mature hide gput gget = absurd (new r class refl)
 is_direct p (NewV r class count) built none quiet new newv mature hide gput gget = absurd (newv r class count refl)

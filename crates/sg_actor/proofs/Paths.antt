@@ -11,7 +11,8 @@ use Rattle.sg_actor.proofs.Ports.{Ports, On, Gone, none_yet, may_act, step_on, g
 use Rattle.sg_actor.proofs.Turnings.{Turned, first_on, turned}
 
 -- one way behind another
-pub along : {A : Type 0} (comes : A → Step → A → Type 0) (a b c : A) (es fs : List Step) → FollowsBy comes a es b → FollowsBy comes b fs c → FollowsBy comes a (es ++ fs) c
+pub along : {A : Type 0} (comes : A → Step → A → Type 0) (a b c : A) (es fs : List Step) → FollowsBy comes a es b →
+    FollowsBy comes b fs c → FollowsBy comes a (es ++ fs) c
 along comes a b c [] fs f g = subst (λ x. FollowsBy comes x fs c) f g
 along comes a b c (t ∷ ts) fs f g = (f.0, f.1, along comes f.0 b c ts fs f.2 g)
 
@@ -25,7 +26,8 @@ module _ {P : Type 0} (o : Ports P) (p : Program) (lay : Constants) where
   )
 
   -- where no turn ends on the way, they have led it there
-  pub path_gone : (a b : Actor) (es : List Step) (x y : P) → On o p lay x a → FollowsBy (ActsOn p lay) a es b → Makes o.leads o.sees x es y → Gone o p lay a x b y
+  pub path_gone : (a b : Actor) (es : List Step) (x y : P) → On o p lay x a → FollowsBy (ActsOn p lay) a es b →
+      Makes o.leads o.sees x es y → Gone o p lay a x b y
   path_gone a b [] x y on f made =
       subst (λ (z : P). Gone o p lay a x b z) (sym made) (gone_to o p lay a a x x on (none_yet o p lay a x on) b f)
   path_gone a b (t ∷ ts) x y on f made =

@@ -103,11 +103,13 @@ module _ {P : Type 0} (o : Ports P) (p : Program) (lay : Constants) where
           saw_next p lay b (Load place v) next.0.1.0 next.0.0 next.0.1.1
 
       pub loads_done : (z : P) (v : ℕ) (e : Actor) → (¬ RestsAt b.mid) → Comes p lay b (Load place v) d c → e ≡ c → Did y (Load place' v) z → Gone a x e z
-      loads_done z v e inside n is did = subst (λ (f : Actor). Gone a x f z) (sym is) (step_on z (Load place v) (Load place' v) d c inside (inl n) (ap (λ q. Load q v) same) did)
+      loads_done z v e inside n is did = subst (λ (f : Actor). Gone a x f z) (sym is)
+          (step_on z (Load place v) (Load place' v) d c inside (inl n) (ap (λ q. Load q v) same) did)
 
       module _ (w w' : ℕ) (alike : w' ≡ w) (n : Comes p lay b (Store place w) d c) where
         pub stores_may : o.may y (Stores place' w')
         stores_may = subst (λ (q : Place). o.may y (Stores q w')) (sym same) (subst (λ u. o.may y (Stores place u)) (sym alike) (may_act (Store place w) d c (inl n)))
 
         pub stores_done : (z : P) (e : Actor) → (¬ RestsAt b.mid) → e ≡ c → Did y (Store place' w') z → Gone a x e z
-        stores_done z e inside is did = subst (λ (f : Actor). Gone a x f z) (sym is) (step_on z (Store place w) (Store place' w') d c inside (inl n) (ap (λ q. Store q w') same ∙ ap (λ u. Store place u) alike) did)
+        stores_done z e inside is did = subst (λ (f : Actor). Gone a x f z) (sym is)
+            (step_on z (Store place w) (Store place' w') d c inside (inl n) (ap (λ q. Store q w') same ∙ ap (λ u. Store place u) alike) did)

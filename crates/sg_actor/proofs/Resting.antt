@@ -17,5 +17,6 @@ module _ (m : Mutating) (at : Stage) (stage : m.stage ≡ at) where
     pub on_there : On o m.program lay x (actor_of m) → On o m.program lay x (within (actor_of m) m.script (mid_of at))
     on_there on = subst (λ (a : Actor). On o m.program lay x a) rests_there on
 
-    pub turned_there : (b : Actor) (y : P) → Turned o m.program lay (within (actor_of m) m.script (mid_of at)) x b y → Turned o m.program lay (actor_of m) x b y
+    pub turned_there : (b : Actor) (y : P) → Turned o m.program lay (within (actor_of m) m.script (mid_of at)) x b y →
+        Turned o m.program lay (actor_of m) x b y
     turned_there b y turn = subst (λ (a : Actor). Turned o m.program lay a x b y) (sym rests_there) turn

@@ -79,7 +79,8 @@ module _ (p : Program) (lay : Constants) (a : Actor) (rest : List Statement) (s 
   sees : (size : ℕ) → size ≡ made_slot p s → Acts p lay here (OnBlock (LoadBlock c (Swept size))) (at (SeeUsed s c))
   sees size is = subst (λ z. Acts p lay here (OnBlock (LoadBlock c (Swept z))) (at (SeeUsed s c))) (sym is) (false, inr (sees_size a s rest begins c))
 
-  two : (size used : ℕ) (mid : Mid) → size ≡ made_slot p s → Acts p lay (at (SeeUsed s c)) (OnBlock (LoadUsed c used)) (at mid) → Path (looks_within size c used) mid
+  two : (size used : ℕ) (mid : Mid) → size ≡ made_slot p s → Acts p lay (at (SeeUsed s c)) (OnBlock (LoadUsed c used)) (at mid) →
+      Path (looks_within size c used) mid
   two size used mid is acts = record {
     first = OnBlock (LoadBlock c (Swept size));
     then = at (SeeUsed s c);
@@ -90,7 +91,8 @@ module _ (p : Program) (lay : Constants) (a : Actor) (rest : List Statement) (s 
   }
 
   -- each look is the next steps of the search
-  path : (size : ℕ) (es : List Step) (found : Option Stage) → size ≡ made_slot p s → ((z : ℕ) → es ≡ OnBlock (LoadBlock c (Need z)) ∷ [] → IsSizeClass z) →
+  path : (size : ℕ) (es : List Step) (found : Option Stage) → size ≡ made_slot p s →
+      ((z : ℕ) → es ≡ OnBlock (LoadBlock c (Need z)) ∷ [] → IsSizeClass z) →
       IsLook s size c es found → Path es (landed p s c found)
   path size _ _ is owed SeesFree = one _ _ (false, inr (sees_free a s rest begins c))
   path size _ _ is owed (SeesSlot used i low) =

@@ -1,13 +1,12 @@
 // The statement that makes an object in a slot of the major heap: the search through the blocks, and the sweep of owed ones.
-ghost use Rattle.std.specs.Prelude.{◌≡◌, ◌+◌, ◌*◌, ◌<◌, ◌≤◌, ℕ, true, List};
+ghost use Rattle.std.specs.Prelude.{◌≡◌, ◌≤◌, List};
 ghost use Rattle.sg_words.specs.declared.steps.Step.{Step};
-ghost use Rattle.sg_words.specs.Blocks.{IsSizeClass, slot_base};
+ghost use Rattle.sg_words.specs.Blocks.{IsSizeClass};
 ghost use Rattle.sg_cells.specs.Made.{Makes};
 ghost use Rattle.sg_cells.specs.Allowed.{MayMake};
 ghost use Rattle.sg_program.specs.Scripts.{IsMature};
 ghost use Rattle.sg_rules.specs.Rules.{Constants, Search, onward, within};
 ghost use Rattle.sg_rules.specs.Acting.{HasGoneOn, HasTurned};
-ghost use Rattle.sg_rules.specs.Sane.{MayBegin};
 ghost use Rattle.sg_actor.specs.declared.mutator.Stage.TheVariants.{Within, OpeningBlock, TakingSlot, TakingOver, Sweeping, BehindSweep};
 ghost use Rattle.sg_actor.specs.State.{actor_of};
 ghost use Rattle.sg_actor.specs.Searching.{looks_within, IsLook};

@@ -82,7 +82,8 @@ returns-then-held-eq0-clause-run g c lay begun =
     let s = c.args.statement in
     let t = as_test c.args.test in
     let x = c.args.port.now in
-    ran_at_once o p lay (before_this m s) _ x begun true (inl (test_null a s m.script t c.requires.test (sym c.held.ensures ∙ c.if-held-eq0.true))) (actor_of c.refuse.new.self) c.refuse.ensures.actor
+    ran_at_once o p lay (before_this m s) _ x begun true (inl (test_null a s m.script t c.requires.test (sym c.held.ensures ∙ c.if-held-eq0.true)))
+    (actor_of c.refuse.new.self) c.refuse.ensures.actor
 
 pub returns-then-passes-clause-run : goal.returns-then-passes-clause-run
 returns-then-passes-clause-run g c lay begun =

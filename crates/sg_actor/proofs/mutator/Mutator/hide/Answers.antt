@@ -41,7 +41,8 @@ returns-then-word-eq0-clause-run g c lay begun =
     let s = c.args.s in
     let offset = c.args.offset in
     let x = c.args.port.now in
-    ran_at_once o p lay (before_this m (Hide d s offset)) _ x begun true (inl (hide_null a m.script d s offset (sym c.held-word.ensures ∙ c.if-word-eq0.true))) (actor_of c.tell_inner.new.self) c.tell_inner.ensures.actor
+    ran_at_once o p lay (before_this m (Hide d s offset)) _ x begun true (inl (hide_null a m.script d s offset (sym c.held-word.ensures ∙ c.if-word-eq0.true)))
+    (actor_of c.tell_inner.new.self) c.tell_inner.ensures.actor
 
 pub overflow_add-word : goal.overflow_add-word
 overflow_add-word g c =
@@ -162,7 +163,8 @@ returns-then-offset-len-clause-run g c lay begun =
     let here : word_at c.held-word.result ≡ object_in a s = ap word_at c.held-word.ensures in
     let at : word_at (c.held-word.result + 8) ≡ object_in a s + 1 = omega (arith, here) in
     let len = hide_saw o m lay d s offset x on (word_at (c.held-word.result + 8)) at c.load-len.result c.load-len.ensures.seen in
-    ran o p lay (before_this m (Hide d s offset)) b x begun false (inl (hide_begins a m.script d s offset some)) (actor_of c.tell_inner-then-offset-len.new.self) c.load-len.new.self
+    ran o p lay (before_this m (Hide d s offset)) b x begun false (inl (hide_begins a m.script d s offset some))
+    (actor_of c.tell_inner-then-offset-len.new.self) c.load-len.new.self
     (hide_done o m lay d s offset x on (word_at (c.held-word.result + 8)) at c.load-len.new.self c.load-len.result (actor_of c.tell_inner-then-offset-len.new.self) _ (hide_fits a m.script d s offset c.load-len.result len c.if-offset-len.true)
     (c.tell_inner-then-offset-len.ensures.actor ∙ ap (λ w. over_with a m.script (put a.reg d (w + offset)) (put a.offset d offset) a.stack Fine) c.held-word.ensures) (c.load-len.ensures.seen, c.load-len.ensures.led))
 
@@ -182,6 +184,7 @@ returns-else-offset-len-clause-run g c lay begun =
     let here : word_at c.held-word.result ≡ object_in a s = ap word_at c.held-word.ensures in
     let at : word_at (c.held-word.result + 8) ≡ object_in a s + 1 = omega (arith, here) in
     let len = hide_saw o m lay d s offset x on (word_at (c.held-word.result + 8)) at c.load-len.result c.load-len.ensures.seen in
-    ran o p lay (before_this m (Hide d s offset)) b x begun false (inl (hide_begins a m.script d s offset some)) (actor_of c.tell_inner-else-offset-len.new.self) c.load-len.new.self
+    ran o p lay (before_this m (Hide d s offset)) b x begun false (inl (hide_begins a m.script d s offset some))
+    (actor_of c.tell_inner-else-offset-len.new.self) c.load-len.new.self
     (hide_done o m lay d s offset x on (word_at (c.held-word.result + 8)) at c.load-len.new.self c.load-len.result (actor_of c.tell_inner-else-offset-len.new.self) _ (hide_misses a m.script d s offset c.load-len.result len c.if-offset-len.false)
     c.tell_inner-else-offset-len.ensures.actor (c.load-len.ensures.seen, c.load-len.ensures.led))

@@ -6,11 +6,29 @@ use Rattle.sg_actor.proofs.Facts.{collects}
 use Rattle.sg_actor.proofs.Ports.{Ports, none_yet}
 use Rattle.sg_actor.proofs.Turnings.{ran}
 use Rattle.sg_actor.proofs.Searches.{stop_may, stop_done}
+use Rattle.sg_actor.proofs.mutator.Mutator.request.Given.{Over}
 use Rattle.sg_actor.proofs.mutator.Mutator.request.Goals as goal
+
+abbrev ports : (g : Over) → Ports g.row.P.Denot
+ports g = record {
+  leads = g.P.Port.leads;
+  may = g.P.Port.may;
+  sees = g.P.Port.sees;
+  fragments = g.P.FragPort.fragments;
+  limit = g.P.FragPort.limit;
+  stays = g.P.Port.stays;
+  chains = g.P.Port.chains;
+  fixed = g.met.P.FragPort.fixed;
+  blocks = g.P.BlockPort.blocks;
+  heap = g.P.SweepPort.heap;
+  marks = g.P.SweepPort.marks;
+  fixed_blocks = g.met.P.BlockPort.fixed_blocks;
+  fixed_sweep = g.met.P.SweepPort.fixed_sweep;
+}
 
 pub set_stop-requires : goal.set_stop-requires
 set_stop-requires g c =
-    let o : Ports g.row.P.Denot = record { leads = g.P.Port.leads; may = g.P.Port.may; sees = g.P.Port.sees; fragments = g.P.FragPort.fragments; limit = g.P.FragPort.limit; stays = g.P.Port.stays; chains = g.P.Port.chains; fixed = g.met.P.FragPort.fixed; blocks = g.P.BlockPort.blocks; heap = g.P.SweepPort.heap; marks = g.P.SweepPort.marks; fixed_blocks = g.met.P.BlockPort.fixed_blocks; fixed_sweep = g.met.P.SweepPort.fixed_sweep } in
+    let o = ports g in
     let m = c.args.self.now in
     let s = c.args.statement in
     let lay = c.requires.begun.0 in
@@ -20,7 +38,7 @@ set_stop-requires g c =
 
 pub returns-clause-run : goal.returns-clause-run
 returns-clause-run g c lay begun =
-    let o : Ports g.row.P.Denot = record { leads = g.P.Port.leads; may = g.P.Port.may; sees = g.P.Port.sees; fragments = g.P.FragPort.fragments; limit = g.P.FragPort.limit; stays = g.P.Port.stays; chains = g.P.Port.chains; fixed = g.met.P.FragPort.fixed; blocks = g.P.BlockPort.blocks; heap = g.P.SweepPort.heap; marks = g.P.SweepPort.marks; fixed_blocks = g.met.P.BlockPort.fixed_blocks; fixed_sweep = g.met.P.SweepPort.fixed_sweep } in
+    let o = ports g in
     let m = c.args.self.now in
     let s = c.args.statement in
     let x = c.args.port.now in
