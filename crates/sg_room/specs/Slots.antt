@@ -1,5 +1,5 @@
 -- The blocks of the major heap, by lists of their words and of their occupancies.
-use Rattle.std.specs.Prelude.{◌≡◌, ℕ, ◌<◌, List, length, slice_index, slice_index_or}
+use Rattle.std.specs.Prelude.{ℕ, ◌<◌, List, length, slice_index, slice_index_or}
 use Rattle.sg_words.specs.declared.steps.BlockWord.{BlockWord}
 use Rattle.sg_words.specs.declared.steps.BlockWord.TheVariants.{Free}
 use Rattle.sg_graph.specs.Laws.{IsClearAt, HasNoClear}

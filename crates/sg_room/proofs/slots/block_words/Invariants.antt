@@ -1,4 +1,4 @@
-use Rattle.std.proofs.Common.{◌≡◌, ℕ, ◌<◌, length, slice_index_or}
+use Rattle.std.proofs.Common.{◌≡◌, ℕ, ◌<◌, length}
 use Rattle.sg_room.specs.Slots.{word_in}
 use Rattle.sg_room.proofs.slots.block_words.Given as goal
 

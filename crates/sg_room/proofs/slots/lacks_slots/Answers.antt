@@ -1,14 +1,13 @@
-use Rattle.std.proofs.Common.{◌≡◌, ◌∙◌, ℕ, ◌+◌, ◌*◌, ◌%◌, ◌^◌, ◌<◌, List, length, slice_index, slice_set, refl, sym, ap, subst, get_or, drop, arith}
+use Rattle.std.proofs.Common.{◌≡◌, ◌∙◌, ℕ, ◌+◌, ◌*◌, ◌%◌, ◌^◌, ◌<◌, List, length, slice_index, slice_set, refl, sym, ap, subst, drop, arith}
 use Rattle.std.proofs.Math.ListN.{length-set}
 use Rattle.std.proofs.Math.Nat.{mod-eq_of_lt}
 use Rattle.std.proofs.lemmas.Nat.{pow_below}
 use Rattle.std.proofs.lemmas.List.{get_or_default}
 use Rattle.std.specs.Int.Bits.{bit_or}
-use Rattle.sg_words.specs.Blocks.{IsSizeClass}
 use Rattle.sg_words.specs.declared.steps.BlockWord.{BlockWord}
 use Rattle.sg_words.proofs.Blocks.{class_slots}
 use Rattle.sg_room.specs.Slots.{HasNoneClear, IsFirstClear}
-use Rattle.sg_room.proofs.Slotting.{class_at, Lacks, lacks_now, lacks_none, nothing_lacks, lacks_by_program, lacks_behind, words_then}
+use Rattle.sg_room.proofs.Slotting.{class_at, Lacks, lacks_now, lacks_none, lacks_by_program, lacks_behind, words_then}
 use Rattle.sg_room.proofs.slots.lacks_slots.Goals as goal
 
 pub loop-size-init : goal.loop-size-init
