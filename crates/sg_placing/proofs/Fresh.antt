@@ -10,7 +10,8 @@ use Rattle.sg_desc.specs.declared.shapes.Descriptor.TheVariants.{PtrFree, Vector
 use Rattle.sg_desc.specs.declared.shapes.Shape.{Shape}
 use Rattle.sg_program.specs.declared.program.Program.{Program}
 use Rattle.sg_program.specs.declared.program.Statement.{Statement}
-use Rattle.sg_program.specs.declared.program.Statement.TheVariants.{New, NewV, Mature, Put, Get, PutD, GetD, Num, Move, Hide, Unhide, Drop, Push, Pop, GPut, GGet, WSet, WGet, Final, NextFin, Same, Collect, Sections}
+use Rattle.sg_program.specs.declared.program.Statement.TheVariants.{New, NewV, Mature, Put, Get, PutD, GetD, Num, Move, Hide, Unhide, Drop}
+use Rattle.sg_program.specs.declared.program.Statement.TheVariants.{Push, Pop, GPut, GGet, WSet, WGet, Final, NextFin, Same, Collect, Sections}
 use Rattle.sg_program.specs.Kinds.{first_kinds}
 use Rattle.sg_program.specs.Scripts.{script_of, statements_at}
 use Rattle.sg_program.specs.Invariants.{FindKinds}

@@ -25,7 +25,7 @@ abbrev pub FitsRoom : Program → Book → Room → Type 0
 FitsRoom p b Fragments = Unit {0}
 FitsRoom p b SlotsToo = OwesNothing p b
 
--- and so a statement that asks for a slot is answered only there
+-- and so a statement that makes an object of the major heap is answered only where none is
 abbrev pub FitsStatement : Program → Book → Statement → Type 0
 FitsStatement p b (Mature r class) = OwesNothing p b
 FitsStatement p b s = Unit {0}

@@ -14,7 +14,8 @@ ghost use Rattle.sg_frag.specs.Plain.{KeepsSections};
 ghost use Rattle.sg_heap.specs.Holding.{HoldsHeap};
 ghost use Rattle.sg_rules.specs.Resting.{IsRunnable};
 ghost use Rattle.sg_placing.specs.Answering.{placing_in, FitsRoom, FitsStatement, HasAnswered};
-ghost use Rattle.sg_placing.specs.Placing.{EndsInside, HasByteAddresses, HoldsNew, HasNowhere, HasClearSlot, LacksClearSlot, HasNoClearSlot, FillsSlot, IsMade, IsMadeOld, headed};
+ghost use Rattle.sg_placing.specs.Placing.{EndsInside, HasByteAddresses, HoldsNew, HasNowhere, IsMade, headed};
+ghost use Rattle.sg_placing.specs.Placing.{HasClearSlot, LacksClearSlot, HasNoClearSlot, FillsSlot, IsMadeOld};
 
 use sg_blocks::{size_for, slots};
 use sg_graph::{Answer, Program, Statement, blocks_go};

@@ -1,5 +1,6 @@
 -- What finds no slot, seen from the words and the occupancies of blocks.
-use Rattle.std.proofs.Common.{◌≡◌, ℕ, zero, suc, ◌+◌, ◌^◌, ◌<◌, ◌≤◌, ◌↔◌, List, [], ◌∷◌, length, slice_index, slice_set, drop, sym, ap, ◌∙◌, subst, inl, inr, arith, add-one, drop-cons, length-set}
+use Rattle.std.proofs.Common.{◌≡◌, ℕ, zero, suc, ◌+◌, ◌^◌, ◌<◌, ◌≤◌, ◌↔◌, List, [], ◌∷◌, length, slice_index, slice_set, drop, length-set}
+use Rattle.std.proofs.Common.{sym, ap, ◌∙◌, subst, inl, inr, arith, add-one, drop-cons}
 use Rattle.std.specs.List.{AllByRecursion}
 use Rattle.std.specs.Int.Bits.{bit_or}
 use Rattle.std.proofs.lemmas.Bool.{cases_lt}
@@ -69,7 +70,8 @@ abbrev pub Lacks : List BlockWord → List ℕ → List ℕ → Type 0
 Lacks words used sizes = LacksSlots (length words) (λ c. word_in words c) (λ c. slice_index used c) sizes
 
 -- where no block has a slot for the first size, one finds none
-pub lacks_now : (words : List BlockWord) (used sizes : List ℕ) (n : ℕ) → n < length sizes → HasNoneClear words used (slice_index sizes n) → Lacks words used (drop n sizes)
+pub lacks_now : (words : List BlockWord) (used sizes : List ℕ) (n : ℕ) → n < length sizes →
+    HasNoneClear words used (slice_index sizes n) → Lacks words used (drop n sizes)
 lacks_now words used sizes n l none = subst (Lacks words used) (sym (drop-cons sizes n 0 l)) (NoSlot (λ c. word_in words c) (λ c. slice_index used c) _ _ none)
 
 -- behind the last size there is a slot for each

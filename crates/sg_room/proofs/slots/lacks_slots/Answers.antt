@@ -64,7 +64,8 @@ loop-size-preserved c =
     let bit : 1 * 2 ^ slot % 2 ^ 64 ≡ 2 ^ slot = shifted slot (omega arith) in
     record {
       as_many = length-set words block _ ∙ many ∙ sym (length-set used block _);
-      lacks = let step = lacks_behind c.args.space.now words used c.args.sizes.now n block slot many c.loop-size-test.true first c.loop-size.invariant.lacks in
+      lacks = let so_far = c.loop-size.invariant.lacks in
+          let step = lacks_behind c.args.space.now words used c.args.sizes.now n block slot many c.loop-size-test.true first so_far in
           let written : bit_or v (1 * 2 ^ slot % 2 ^ 64) ≡ bit_or (slice_index used block) (2 ^ slot) = λ k. bit_or (value k) (bit k) in (
             λ lacks. subst (λ (m : ℕ). Lacks (words_then words block size) (slice_set used block m) (drop (n + 1) c.args.sizes.now)) (sym written) (step.0 lacks),
             λ lacks. step.1 (subst (λ (m : ℕ). Lacks (words_then words block size) (slice_set used block m) (drop (n + 1) c.args.sizes.now)) written lacks),
