@@ -13,6 +13,11 @@ pub mod Globals
 pub mod Places
 pub mod Claims
 pub mod Headers
+pub mod Beside
+pub mod BlockGround
+pub mod BlockClaims
+pub mod BlockSteps
+pub mod SearchSteps
 pub mod Stopping
 pub mod Whole
 pub mod Sanity
