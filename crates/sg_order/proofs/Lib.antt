@@ -18,6 +18,9 @@ pub mod BlockGround
 pub mod BlockClaims
 pub mod BlockSteps
 pub mod SearchSteps
+pub mod SweepSteps
+pub mod Lawful
+pub mod Once
 pub mod Stopping
 pub mod Whole
 pub mod Sanity
