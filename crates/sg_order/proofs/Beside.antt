@@ -74,7 +74,7 @@ module _ (p : Program) (lay : Constants) (w : Words) (b : Book) (by : ℕ → �
     at_later (SeeUsed s i) m = (has_passed_later (Search s) i m.0, m.1, l.swept i (made_slot p s) m.2)
     at_later (TakeSlot s i a) m =
         (has_passed_later (Search s) i m.0, m.1, l.swept i (made_slot p s) m.2, m.3, λ x q. l.used i (made_slot p s) x m.2 (m.4 x q))
-    at_later (TakeOver t i z) m = (has_passed_later t i m.0, m.1)
+    at_later (TakeOver t i z) m = (has_passed_later t i m.0, m.1, m.2)
     at_later (StoreOccupancy t i z) m = (has_passed_later t i m.0, sweeps i z m.1)
     at_later (ClearSlots t i z a) m = (has_passed_later t i m.0, mid_sweep i z a m.1)
     at_later (ClearWords t i z a f) m = let s = m.1 in let own = s.mid.sweeps in (
@@ -83,8 +83,8 @@ module _ (p : Program) (lay : Constants) (w : Words) (b : Book) (by : ℕ → �
         mid = mid_sweep i z a s.mid;
         fits = s.fits;
         unmarked = s.unmarked;
-        front = λ x q r. l.zeros i z a x own.there own.word s.fits s.unmarked q (let u = s.few in omega arith) (s.front x q r);
-        few = s.few;
+        front = λ x q r. l.zeros i z a x own.there own.word s.fits s.unmarked q (let u = s.more in omega arith) (s.front x q r);
+        more = s.more;
       },
     )
     at_later (Ask s) m = all_later s m

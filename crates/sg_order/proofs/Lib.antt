@@ -25,6 +25,7 @@ pub mod Stopping
 pub mod Whole
 pub mod Sanity
 pub mod Progress
+pub mod BlockProgress
 pub mod Law
 pub mod SoFar
 pub mod Serving

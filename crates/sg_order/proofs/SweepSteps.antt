@@ -133,7 +133,7 @@ module _ (p : Program) (lay : Constants) (w : Words) (g : Graph) (b : Book) (sai
           fits = f;
           unmarked = o;
           front = λ y lo hi. put-at w.word x 0 y (omega arith);
-          few = omega arith;
+          more = omega arith;
         },
       ))
 
@@ -163,7 +163,7 @@ module _ (p : Program) (lay : Constants) (w : Words) (g : Graph) (b : Book) (sai
           fits = q.fits;
           unmarked = q.unmarked;
           front = front_on c z i f q.front;
-          few = omega arith;
+          more = omega arith;
         },
       ))
 

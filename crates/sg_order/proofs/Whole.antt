@@ -200,7 +200,7 @@ module _ (go : BlocksGo) (p : Program) (lay : Constants) (w : Words) (g : Graph)
   both_blocks _ _ _ _ (sees_other a s rest begins c z o) saw st be = sees_another p lay w g b said by k owner t a rest s begins c z o saw st be
   both_blocks _ _ _ _ (sees_sweeping a u rest begins c z may) saw st be = sees_busy p lay w g b said by k owner t a rest u begins c z may saw st be
   both_blocks _ _ _ _ (sees_need a u rest begins c z may class) saw st be =
-      sees_unswept p lay w g b said by k owner t a rest u begins c (Need z) (TakeOver u c z) saw (λ y q. cc) st be st.at (be.at.0, be.at.1 may)
+      sees_unswept p lay w g b said by k owner t a rest u begins c (Need z) (TakeOver u c z) saw (λ y q. cc) st be st.at (be.at.0, be.at.1 may, class)
   both_blocks _ _ _ _ (takes_over a u rest c z) saw st be = takes_owed p lay w g b said by k owner t a rest u c z saw st be
   both_blocks _ _ _ _ (misses_sweep a u rest c z found) saw st be = misses_owed p lay w g b said by k owner t a rest u c z st be
   both_blocks _ _ _ _ (stores_occupancy a u rest c z) saw st be = stores_marks p lay w g b said by k owner t a rest u c z st be
