@@ -26,6 +26,7 @@ pub mod Whole
 pub mod Sanity
 pub mod Progress
 pub mod BlockProgress
+pub mod Ending
 pub mod Law
 pub mod SoFar
 pub mod Serving
