@@ -13,7 +13,7 @@ use Rattle.sg_graph.specs.Graph.{Graph}
 use Rattle.sg_graph.specs.Book.{Book, block_at, slot_at, slot_words}
 use Rattle.sg_graph.specs.Heap.{Owner, IsHeaded}
 use Rattle.sg_rules.specs.Rules.{Constants, Task, Search, Roam, Mid, SeeBlock, TakeBlock, SeeUsed, TakeSlot, TakeOver, StoreOccupancy, ClearSlots, ClearWords, Ask, Left, Actor}
-use Rattle.sg_order.specs.Knowing.{IsPast, IsPassed, HasPassed, HasPassedAll, Sweeps, AreZeroBelow, IsMidSweep, IsMidSlot, KnowsAt, IsInSweep, IsInSearch, HasObject}
+use Rattle.sg_order.specs.Knowing.{IsPast, IsPassed, HasPassed, HasPassedAll, Sweeps, IsMidSweep, KnowsAt, IsInSweep, IsInSearch, HasObject}
 use Rattle.sg_order.proofs.Relation.{Ground, Stands, WritesHeader, IsNeeded, Marks}
 
 -- What actor k knows of the blocks, beside what it knows of objects; it is in the midst of each sweep that it has taken over; and a swept block whose

@@ -5,17 +5,16 @@ use Rattle.std.specs.Int.{bit_at}
 use Rattle.std.specs.Int.Bits.{bit_or}
 use Rattle.sg_words.specs.Blocks.{IsOf, is_taken, IsOwing, slots}
 use Rattle.sg_words.specs.Words.{put, Words}
-use Rattle.sg_words.specs.declared.steps.BlockWord.{BlockWord}
 use Rattle.sg_words.specs.declared.steps.BlockWord.TheVariants.{Swept}
 use Rattle.sg_words.proofs.Blocks.{slot_fits, slot_in}
 use Rattle.sg_words.proofs.Puts.{put-at, put-other, within_range, range-in, range-keeps}
 use Rattle.sg_program.specs.declared.program.Program.{Program}
 use Rattle.sg_program.specs.Scripts.{words_for}
 use Rattle.sg_graph.specs.Graph.{Graph}
-use Rattle.sg_graph.specs.Book.{Book, Section, Old, nursery_end, old_end, slot_words, slot_at, IsWordOf, IsSlotted, placed_in}
+use Rattle.sg_graph.specs.Book.{Book, Section, Old, nursery_end, old_end, slot_words, slot_at, IsSlotted, placed_in}
 use Rattle.sg_graph.specs.Heap.{Owner, Of, Frag, Buf}
 use Rattle.sg_graph.specs.Blocks.{AreBlocks}
-use Rattle.sg_graph.specs.Laws.{IsOldNow, KeepsRest, BlocksGo}
+use Rattle.sg_graph.specs.Laws.{IsOldNow, BlocksGo}
 use Rattle.sg_rules.specs.Rules.{Constants, AreTaken}
 use Rattle.sg_order.proofs.Events.{range-was}
 use Rattle.sg_order.proofs.Relation.{Ground}

@@ -1,5 +1,5 @@
 -- What each kind of step on blocks leaves of the words' relation to the book.
-use Rattle.std.proofs.Common.{◌≡◌, ◌≢◌, ℕ, ◌+◌, ◌*◌, ◌<◌, ◌≤◌, subst, true, sym, refl, ap, ◌∙◌, arith, inl, inr}
+use Rattle.std.proofs.Common.{◌≡◌, ◌≢◌, ℕ, ◌+◌, ◌<◌, ◌≤◌, subst, true, sym, refl, ap, ◌∙◌, arith, inl, inr}
 use Rattle.std.proofs.lemmas.Bool.{cases_eq}
 use Rattle.std.proofs.lemmas.Nat.Bits.{bit_at-zero}
 use Rattle.std.specs.Int.{bit_at}
@@ -8,14 +8,14 @@ use Rattle.sg_words.specs.Sections.{globals_base}
 use Rattle.sg_words.specs.Words.{put, Words}
 use Rattle.sg_words.specs.declared.steps.BlockWord.{BlockWord}
 use Rattle.sg_words.specs.declared.steps.BlockWord.TheVariants.{Free, Swept, Need, Sweeping}
-use Rattle.sg_words.proofs.Blocks.{slot_fits, slot_in, slot_once, block_once, find_slot, slot_size-holds, bit_cases}
+use Rattle.sg_words.proofs.Blocks.{slot_in, slot_once, block_once, find_slot, slot_size-holds, bit_cases}
 use Rattle.sg_words.proofs.Puts.{put-at, put-other}
 use Rattle.sg_program.specs.declared.program.Program.{Program}
 use Rattle.sg_program.specs.Scripts.{words_for}
 use Rattle.sg_graph.specs.Graph.{Entry, Ref, Int, Inner, Graph}
-use Rattle.sg_graph.specs.Book.{Book, nursery_end, old_end, slot_words, block_at, slot_at, IsWordOf}
+use Rattle.sg_graph.specs.Book.{Book, nursery_end, slot_words, block_at, slot_at}
 use Rattle.sg_graph.specs.Heap.{Owner, Of, IsKnown, IsKnownEntry, layout_of}
-use Rattle.sg_graph.specs.Blocks.{IsDirty, IsTakenAt, IsBlock, IsClear, AreBlocks}
+use Rattle.sg_graph.specs.Blocks.{IsDirty, IsTakenAt, IsBlock, IsClear}
 use Rattle.sg_rules.specs.Rules.{Constants}
 use Rattle.sg_order.specs.Knowing.{AreZeroBelow}
 use Rattle.sg_order.proofs.Relation.{Ground}

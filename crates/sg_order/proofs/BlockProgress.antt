@@ -1,6 +1,6 @@
 -- Nor is an actor ever stuck in a search or in a sweep: whatever a call for a next step of it sees, some rule applies.
-use Rattle.std.proofs.Common.{◌≡◌, ◌≢◌, ℕ, zero, suc, ◌+◌, ◌<◌, ◌≤◌, ◌⊎◌, Bool, true, false, List, ◌∷◌, ap, ap₂, sym, ◌∙◌, subst, inl, inr, refl, arith}
-use Rattle.std.proofs.lemmas.Bool.{cases_eq, cases_lt}
+use Rattle.std.proofs.Common.{◌≡◌, ℕ, zero, suc, ◌<◌, ◌⊎◌, Bool, true, false, List, ap, ap₂, sym, ◌∙◌, subst, inl, inr, refl, arith}
+use Rattle.std.proofs.lemmas.Bool.{cases_eq}
 use Rattle.std.specs.Int.{bit_at}
 use Rattle.sg_words.specs.Blocks.{IsOf, slots}
 use Rattle.sg_words.specs.Calls.{block_call_of, call_of}

@@ -16,7 +16,7 @@ use Rattle.sg_graph.specs.Graph.{Entry, Graph}
 use Rattle.sg_graph.specs.Book.{Book, nursery_end, block_at, slot_at, slot_words}
 use Rattle.sg_graph.specs.Heap.{Owner}
 use Rattle.sg_graph.specs.Blocks.{IsOldAt, IsTakenAt}
-use Rattle.sg_rules.specs.Rules.{Constants, Task, Search, Roam, Mid, SeeBlock, Ask, Retired, Actor, ends_at, onward, within}
+use Rattle.sg_rules.specs.Rules.{Constants, Task, Search, Roam, Mid, SeeBlock, Actor, ends_at, onward, within}
 use Rattle.sg_order.specs.Knowing.{IsPast, IsPassed, HasPassed, HasPassedAll, KnowsAt, IsInSweep, IsInSearch, HasObject}
 use Rattle.sg_order.proofs.Cases.{by_mature}
 use Rattle.sg_order.proofs.Frame.{entry_later, stack_later}

@@ -1,28 +1,28 @@
 -- What holds of blocks where all actors are over, and of the book in which what was swept isn't owed any more.
-use Rattle.std.proofs.Common.{◌≡◌, ◌≢◌, ℕ, ◌+◌, ◌<◌, ◌≤◌, ◌⊎◌, Bool, true, false, List, [], ◌∷◌, inl, inr, sym, refl, ap, ◌∙◌, subst, arith}
+use Rattle.std.proofs.Common.{◌≡◌, ℕ, ◌+◌, ◌<◌, ◌⊎◌, Bool, true, false, List, [], ◌∷◌, inl, inr, sym, refl, ap, ◌∙◌, subst, arith}
 use Rattle.std.proofs.lemmas.Bool.{cases_eq, cases_Bool}
 use Rattle.std.specs.Int.{bit_at}
-use Rattle.sg_words.specs.Blocks.{IsOf, is_taken, IsOwing, slots, card_of}
+use Rattle.sg_words.specs.Blocks.{IsOf, is_taken, IsOwing, card_of}
 use Rattle.sg_words.specs.Lists.{In}
 use Rattle.sg_words.specs.Words.{put, Words}
 use Rattle.sg_words.specs.declared.steps.BlockWord.{BlockWord}
 use Rattle.sg_words.specs.declared.steps.BlockWord.TheVariants.{Free, Swept, Need, Sweeping}
 use Rattle.sg_words.proofs.Blocks.{slot_fits}
-use Rattle.sg_words.proofs.Members.{out, has-cases, in-here, in-there}
+use Rattle.sg_words.proofs.Members.{has-cases, in-here, in-there}
 use Rattle.sg_words.proofs.Puts.{put-at, put-other}
 use Rattle.sg_program.specs.declared.program.Statement.{Statement}
 use Rattle.sg_program.specs.declared.program.Program.{Program}
 use Rattle.sg_program.specs.declared.answers.Answer.{Answer}
 use Rattle.sg_graph.specs.Graph.{Entry, Ref, Int, Inner, Graph}
-use Rattle.sg_graph.specs.Book.{Book, Young, Old, slot_words, block_at, swept_in, IsInBlock, IsInSlot, IsClosed}
-use Rattle.sg_graph.specs.Heap.{Owner, IsKnownEntry, layout_of}
+use Rattle.sg_graph.specs.Book.{Book, slot_words, swept_in, IsClosed}
+use Rattle.sg_graph.specs.Heap.{IsKnownEntry, layout_of}
 use Rattle.sg_graph.specs.Blocks.{IsTakenAt, IsClear}
-use Rattle.sg_rules.specs.Rules.{Constants, Task, Search, Roam, Mid, Idle, Left, Yielded, SeeBlock, StoreOccupancy, ClearSlots, ClearWords, Retired, Actor}
+use Rattle.sg_rules.specs.Rules.{Constants, Search, Roam, Mid, Idle, Left, Yielded, SeeBlock, StoreOccupancy, ClearSlots, ClearWords, Retired, Actor}
 use Rattle.sg_rules.specs.Rules.{TakeBlock, SeeUsed, TakeSlot, TakeOver}
 use Rattle.sg_order.specs.Rest.{IsHeld, IsOver, AreOver}
 use Rattle.sg_order.specs.OneOrder.{IsSeeking}
 use Rattle.sg_order.specs.Knowing.{IsPast, IsPassed, Sweeps, KnowsAt, IsInSweep, IsInSearch, HasObject, Seeks}
-use Rattle.sg_order.proofs.Relation.{Ground, AtTask, AtMid, Stands, WritesHeader, IsNeeded, Marks}
+use Rattle.sg_order.proofs.Relation.{AtTask, AtMid, WritesHeader, IsNeeded, Marks}
 use Rattle.sg_order.proofs.Beside.{World}
 use Rattle.sg_order.proofs.BlockGround.{in_size, same_size}
 

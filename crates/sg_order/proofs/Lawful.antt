@@ -5,7 +5,6 @@ use Rattle.sg_words.specs.Blocks.{IsOwing, slots}
 use Rattle.sg_words.specs.Words.{Words, Saw}
 use Rattle.sg_words.specs.declared.steps.Step.{Step}
 use Rattle.sg_words.specs.declared.steps.Step.TheVariants.{OnBlock}
-use Rattle.sg_words.specs.declared.steps.BlockWord.{BlockWord}
 use Rattle.sg_words.specs.declared.steps.BlockWord.TheVariants.{Need, Sweeping}
 use Rattle.sg_words.specs.declared.steps.BlockStep.TheVariants.{WonBlock, Zero}
 use Rattle.sg_words.proofs.Blocks.{slot_once, block_once}

@@ -1,10 +1,9 @@
 -- What a lawful list says of the sweep: each block is taken over once, each slot is claimed once, and marked slots keep their bits.
-use Rattle.std.proofs.Common.{◌≡◌, ◌≢◌, ℕ, ◌^◌, ◌<◌, ◌⊎◌, Bool, true, false, subst, List, [], ◌∷◌, sym, refl, ap, ◌∙◌, inl, inr, arith}
+use Rattle.std.proofs.Common.{◌≡◌, ℕ, ◌^◌, ◌<◌, ◌⊎◌, Bool, true, subst, List, [], ◌∷◌, sym, refl, ap, ◌∙◌, inl, inr, arith}
 use Rattle.std.proofs.lemmas.Bool.{cases_eq}
 use Rattle.std.specs.Int.{bit_at}
 use Rattle.std.specs.Int.Bits.{bit_or}
 use Rattle.std.specs.List.{AllByRecursion}
-use Rattle.sg_words.specs.Blocks.{IsOwing}
 use Rattle.sg_words.specs.Events.{Event, ticks}
 use Rattle.sg_words.specs.Lists.{In}
 use Rattle.sg_words.specs.Reach.{IsFreshIn, AreDistinct}

@@ -20,7 +20,7 @@ use Rattle.sg_rules.specs.Rules.{Constants, StackWord, Mid, Idle, TestTag, TestL
 use Rattle.sg_rules.specs.Rules.{Task, Search, Roam, SeeBlock, TakeBlock, SeeUsed, TakeSlot, TakeOver, StoreOccupancy, ClearSlots, ClearWords, Retired}
 use Rattle.sg_rules.specs.Resting.{IsRunnable}
 use Rattle.sg_rules.specs.Sane.{HasBuffer, HoldsInner, RestsOn, IsSearching, IsOnTask, IsSweeping, IsSaneAt, IsSane}
-use Rattle.sg_words.specs.Blocks.{IsSizeClass, IsOf}
+use Rattle.sg_words.specs.Blocks.{IsOf}
 use Rattle.sg_order.specs.Knowing.{Sweeps, KnowsAt}
 use Rattle.sg_order.specs.Rest.{kind_of_entry, StandsAt}
 use Rattle.sg_order.proofs.Accesses.{reference_field, plain_field}

@@ -1,5 +1,5 @@
 -- Each rule of a search for a slot, and of the background sweeper's way through the blocks, keeps the relation.
-use Rattle.std.proofs.Common.{◌≡◌, ◌≢◌, ℕ, suc, ◌+◌, ◌^◌, ◌<◌, ◌≤◌, subst, Bool, true, false, List, ◌∷◌, sym, refl, ap, ◌∙◌, arith, inl, inr, ◌⊎◌}
+use Rattle.std.proofs.Common.{◌≡◌, ◌≢◌, ℕ, suc, ◌+◌, ◌^◌, ◌<◌, ◌≤◌, subst, Bool, true, false, List, ◌∷◌, sym, refl, ap, ◌∙◌, arith, inl, inr}
 use Rattle.std.proofs.Math.Path.{fun_ext}
 use Rattle.std.proofs.lemmas.Bool.{cases_eq}
 use Rattle.std.specs.Int.{bit_at}
@@ -7,7 +7,7 @@ use Rattle.std.specs.Int.Bits.{bit_or}
 use Rattle.sg_words.specs.Blocks.{IsOf, is_taken, IsOwing, slots}
 use Rattle.sg_words.specs.Words.{put, Words}
 use Rattle.sg_words.specs.declared.steps.BlockWord.{BlockWord}
-use Rattle.sg_words.specs.declared.steps.BlockWord.TheVariants.{Free, Swept, Need, Sweeping}
+use Rattle.sg_words.specs.declared.steps.BlockWord.TheVariants.{Free, Swept, Sweeping}
 use Rattle.sg_words.proofs.Blocks.{slot_fits, slot_size-class, slot_size-holds, has_slots, bit_kept, bit_again}
 use Rattle.sg_words.proofs.Puts.{put-at, put-same, put-other}
 use Rattle.sg_program.specs.declared.program.Statement.{Statement}
@@ -16,12 +16,12 @@ use Rattle.sg_program.specs.declared.answers.Answer.{Answer}
 use Rattle.sg_program.specs.declared.answers.Answer.TheVariants.{At}
 use Rattle.sg_program.specs.Scripts.{words_for, IsMature, MakesObject, made_class, made_fields, made_words, made_slot}
 use Rattle.sg_graph.specs.Graph.{Graph}
-use Rattle.sg_graph.specs.Book.{Book, Books, Old, slot_words, block_at, slot_at, placed_in, IsSlotted}
+use Rattle.sg_graph.specs.Book.{Book, Books, Old, slot_words, slot_at, placed_in, IsSlotted}
 use Rattle.sg_graph.specs.Heap.{Owner}
 use Rattle.sg_graph.specs.Laws.{BlocksGo}
-use Rattle.sg_rules.specs.Rules.{Constants, Task, Search, Roam, Mid, SeeBlock, TakeBlock, SeeUsed, TakeSlot, StoreLength, Retired, Actor, MaySee, AreTaken, slot_front, onward, before, within}
+use Rattle.sg_rules.specs.Rules.{Constants, Task, Search, Roam, Mid, SeeBlock, TakeBlock, SeeUsed, TakeSlot, StoreLength, Actor, MaySee, AreTaken, slot_front, onward, before, within}
 use Rattle.sg_rules.specs.Resting.{IsRunnable}
-use Rattle.sg_order.specs.Knowing.{IsPast, IsPassed, KnowsAt, IsInSweep, IsInSearch, HasObject}
+use Rattle.sg_order.specs.Knowing.{IsPast, IsPassed, KnowsAt, IsInSearch, HasObject}
 use Rattle.sg_order.proofs.Cases.{by_mature}
 use Rattle.sg_order.proofs.Relation.{Ground, AtTask, AtMid, Stands}
 use Rattle.sg_order.proofs.Moves.{runnable_as, turned}

@@ -7,7 +7,7 @@ use Rattle.sg_words.specs.Events.{Event, ticks, part}
 use Rattle.sg_words.proofs.Puts.{put-same, put-other, put-all, put-at}
 use Rattle.sg_program.specs.declared.program.Statement.{Statement}
 use Rattle.sg_program.specs.declared.program.Program.{Program}
-use Rattle.sg_rules.specs.Rules.{Constants, Task, Search, Roam, Mid, Idle, Look, Ask, Left, Yielded, SeeBlock, Retired, Actor, looking, ends_at, onward}
+use Rattle.sg_rules.specs.Rules.{Constants, Task, Search, Roam, Mid, Idle, Look, Ask, Left, Yielded, SeeBlock, Actor, looking, ends_at, onward}
 use Rattle.sg_rules.specs.Rules.{Comes, BlockComes, NextStep, Follows}
 use Rattle.sg_rules.specs.Rules.BlockComes.{mature_begins, sees_full, sees_other, sees_sweeping, roams_on, roams_free, roams_swept}
 use Rattle.sg_rules.specs.Rules.Comes.{test_null, test_begins, loads_tag, loads_length, test_fails, put_stores, put_stores_old, marks_card, putd_stores, get_loads, getd_loads, global_begins, gput_stores, gget_loads, num_sets, drop_clears, move_sets, push_sets, pop_sets, hide_null, hide_begins, hide_fits, hide_misses, unhide_sets, same_tells, new_bumps, new_looks, look_finds, look_goes_on, stop_asks, asks, yields, claim_wins, claim_moves, claim_goes_on, stores_length, stores_tag}

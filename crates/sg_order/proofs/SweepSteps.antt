@@ -1,5 +1,5 @@
 -- Each rule of the sweep of a block keeps the relation.
-use Rattle.std.proofs.Common.{◌≡◌, ◌≢◌, ℕ, ◌+◌, ◌<◌, ◌≤◌, subst, Bool, true, false, List, sym, refl, ap, ◌∙◌, arith, inl, inr, le_refl}
+use Rattle.std.proofs.Common.{◌≡◌, ◌≢◌, ℕ, ◌+◌, ◌<◌, ◌≤◌, subst, true, false, List, sym, refl, ap, ◌∙◌, arith, inl, inr, le_refl}
 use Rattle.std.proofs.lemmas.Bool.{cases_eq, cases_lt}
 use Rattle.std.specs.Int.{bit_at}
 use Rattle.sg_words.specs.Blocks.{IsOf, is_taken, IsOwing, slots}
@@ -15,8 +15,8 @@ use Rattle.sg_program.specs.declared.answers.Answer.{Answer}
 use Rattle.sg_graph.specs.Graph.{Graph}
 use Rattle.sg_graph.specs.Book.{Book, slot_at}
 use Rattle.sg_graph.specs.Heap.{Owner}
-use Rattle.sg_rules.specs.Rules.{Constants, Task, Search, Roam, Mid, SeeBlock, TakeOver, StoreOccupancy, ClearSlots, ClearWords, Actor, AreMarked, slot_word, within}
-use Rattle.sg_order.specs.Knowing.{IsPast, Sweeps, IsZeroTo, AreZeroBelow, IsMidSweep, IsMidSlot, KnowsAt, IsInSweep, IsInSearch, HasObject}
+use Rattle.sg_rules.specs.Rules.{Constants, Task, Mid, SeeBlock, TakeOver, StoreOccupancy, ClearSlots, ClearWords, Actor, AreMarked, slot_word, within}
+use Rattle.sg_order.specs.Knowing.{IsPast, Sweeps, IsZeroTo, AreZeroBelow, KnowsAt, IsInSweep, IsInSearch, HasObject}
 use Rattle.sg_order.proofs.Relation.{Ground, AtMid, Stands, IsQuiet}
 use Rattle.sg_order.proofs.Beside.{Beside, BlockLater, has_passed_later}
 use Rattle.sg_order.proofs.BlockGround.{ground_win, ground_mark, ground_zero, ground_close, ground_free}

@@ -1,5 +1,5 @@
 -- The induction over the list of events: one order of whole statements explains every legal list.
-use Rattle.std.proofs.Common.{◌≡◌, ℕ, ◌+◌, ◌<◌, ◌≤◌, ◌⊎◌, nat_lt, arith, Bool, true, false, eqb, List, [], ◌∷◌, ◌++◌, map, inl, inr, sym, refl, ap, ◌∙◌, subst, append_assoc, append-nil}
+use Rattle.std.proofs.Common.{◌≡◌, ℕ, ◌+◌, ◌≤◌, ◌⊎◌, nat_lt, arith, Bool, true, false, eqb, List, [], ◌∷◌, ◌++◌, map, inl, inr, sym, refl, ap, ◌∙◌, subst, append_assoc, append-nil}
 use Rattle.std.proofs.lemmas.Bool.{cases_eq, cases_Bool, eq-eqb, ne_eqb, cond-true, cond-false}
 use Rattle.std.specs.Int.{bit_at}
 use Rattle.sg_words.specs.declared.steps.BlockWord.TheVariants.{Free, Need}
@@ -12,14 +12,14 @@ use Rattle.sg_words.specs.Events.{Event, ticks, part, order_of}
 use Rattle.sg_program.specs.declared.program.Program.{Program}
 use Rattle.sg_program.specs.declared.answers.Answer.{Answer}
 use Rattle.sg_graph.specs.Graph.{Graph}
-use Rattle.sg_graph.specs.Book.{Book, block_at, slot_words}
+use Rattle.sg_graph.specs.Book.{Book, slot_words}
 use Rattle.sg_graph.specs.Epoch.{Said, Explains, answers_of}
 use Rattle.sg_graph.specs.Heap.{Owner, IsHeaded}
 use Rattle.sg_program.specs.declared.program.Statement.{Statement}
 use Rattle.sg_program.specs.declared.answers.Request.{Request}
 use Rattle.sg_program.specs.Scripts.{IsMaking, IsCollecting}
 use Rattle.sg_graph.specs.Laws.{BlocksGo}
-use Rattle.sg_rules.specs.Rules.{Constants, Search, Roam, Mid, Look, TakeBlock, TakeOver, Ask, Retired, Actor, looking, Comes, BlockComes, NextStep, Follows}
+use Rattle.sg_rules.specs.Rules.{Constants, Search, Mid, Look, TakeBlock, TakeOver, Ask, Retired, Actor, looking, Comes, BlockComes, NextStep, Follows}
 use Rattle.sg_rules.specs.Rules.Comes.{test_null, test_begins, loads_tag, loads_length, test_fails, put_stores, put_stores_old, marks_card, putd_stores, get_loads, getd_loads, global_begins, gput_stores, gget_loads, num_sets, drop_clears, move_sets, push_sets, pop_sets, hide_null, hide_begins, hide_fits, hide_misses, unhide_sets, same_tells, new_bumps, new_looks, look_finds, look_goes_on, stop_asks, asks, yields, claim_wins, claim_moves, claim_goes_on, stores_length, stores_tag}
 use Rattle.sg_rules.specs.Rules.BlockComes.{mature_begins, sees_free, takes_block, misses_block, sees_size, sees_full, sees_slot, takes_slot, misses_slot}
 use Rattle.sg_rules.specs.Rules.BlockComes.{sees_other, sees_sweeping, sees_need, takes_over, misses_sweep, stores_occupancy, clears_first, clears_next, clears_last}
