@@ -26,8 +26,7 @@ use Rattle.sg_graph.specs.Book.{Book, IsInBlock, block_at, swept_in}
 use Rattle.sg_graph.specs.Epoch.{Said, Turn, Explains, IsNewOld}
 use Rattle.sg_graph.specs.Laws.{HasOneTurn, TurnsKeepOld, BlocksGo}
 use Rattle.sg_graph.specs.Turns.{Position, Between, Claiming, OpeningBlock, TakingSlot, TakingOver, SweepingBlock, BehindSweep, HasLeft, Board, opening, HasGone, moved_on, asking, stopped_at, giving, Searches, IsBeingSwept, SearchesFrom, SearchesOnAt, TakesTurn}
-use Rattle.sg_graph.specs.Turns.TakesTurn.{Ends, Yields, Collects, Does, Prepares, Needs, Claims, LooksAgain, FindsNone, SearchesOn, Opens, ClaimsSlot, TakesOver, Sweeps}
-use Rattle.sg_graph.specs.Turns.TakesTurn
+use Rattle.sg_graph.specs.Turns.TakesTurn.{Ends, Yields, Collects, Does, Prepares, Needs, Claims, LooksAgain, FindsNone, SearchesOn, Opens, ClaimsSlot, TakesOver, Sweeps, Matures as MaturesNow}
 use Rattle.sg_rules.specs.Rules.{Constants, Mid, Idle, TestTag, TestLength, Access, MarkCard, AccessGlobal, Look, Claim, StoreLength, StoreTag, HideLength, Ask, Left, Yielded, Actor}
 use Rattle.sg_rules.specs.Rules.{Task, Search, Roam, SeeBlock, TakeBlock, SeeUsed, TakeSlot, TakeOver, StoreOccupancy, ClearSlots, ClearWords, Retired}
 use Rattle.sg_order.specs.Rest.{IsReady, before_it}
@@ -65,8 +64,8 @@ opens_boarded orders p lay w g b actors opens idle fits = record {
     one = orders p lay g b w actors so
 
     not_owed : (j : ℕ) → j < p.config.blocks → ((z : ℕ) → w.block j ≡ Need z → ⊥) → b.owed j ≡ false
-    not_owed j l no = elim (cases_Bool (b.owed j)) [
-      | inl owed ↦ absurd (let need = opens.held.settled.owes j l owed in no need.0 need.1)
+    not_owed j l need_not = elim (cases_Bool (b.owed j)) [
+      | inl owed ↦ absurd (let need = opens.held.settled.owes j l owed in need_not need.0 need.1)
       | inr e ↦ e
     ]
 
@@ -119,7 +118,7 @@ says_on : (p : Program) (x y : Board) (j : ℕ) (state : BlockWord) → y.owed j
 says_on p x y j Free owed given objects h = (owed ∙ h.0, given ∙ h.1)
 says_on p x y j (Swept z) owed given objects h = (
   owed ∙ h.0,
-  elim h.1 [ inl e ↦ inl (given ∙ e) | inr e ↦ inr (given ∙ e.0, e.1.0, objects e.1.0 e.1.1) ],
+  elim h.1 [ inl e ↦ inl (given ∙ e) | inr e ↦ inr (given ∙ e.0, (e.1.0, objects e.1.0 e.1.1)) ],
 )
 says_on p x y j (Need z) owed given objects h = (owed ∙ h.0, given ∙ h.1)
 says_on p x y j (Sweeping z) owed given objects h = (owed ∙ h.0, given ∙ h.1)
@@ -245,10 +244,10 @@ module _ (orders : OrdersSoFar) (answers : HasOneTurn) (keeps : TurnsKeepOld) (b
         one.runs
 
     explains : Explains p x.graph x.book behind.rest one.graph one.book
-    explains = explained p lay (by_one k run.ticks) (after bo.so.opened (ticks bo.so.events)) by x.graph x.book behind.rest one.graph one.book behind.runs
+    explains = explained p lay answers (by_one k run.ticks) (after bo.so.opened (ticks bo.so.events)) by x.graph x.book behind.rest one.graph one.book behind.runs
 
     by_rest : map (λ (s : Said). s.by) behind.rest ≡ ks
-    by_rest = ordered p lay (by_one k run.ticks) (after bo.so.opened (ticks bo.so.events)) by x.graph x.book behind.rest one.graph one.book behind.runs
+    by_rest = ordered p lay answers (by_one k run.ticks) (after bo.so.opened (ticks bo.so.events)) by x.graph x.book behind.rest one.graph one.book behind.runs
 
     abbrev sw : List ℕ
     sw = swept_of (by_one k run.ticks)
@@ -522,7 +521,7 @@ module _ (orders : OrdersSoFar) (answers : HasOneTurn) (keeps : TurnsKeepOld) (b
     matures s rest idle script stop mature e searched kept =
         let r = reads idle in
         searches_on kept e s mature 0 searched
-        (λ found searches. TakesTurn.Matures s rest found (between idle) (r.script_is ∙ script) (quiet_board stop) mature searches)
+        (λ found searches. MaturesNow s rest found (between idle) (r.script_is ∙ script) (quiet_board stop) mature searches)
 
     goes_on_at : (s : Statement) (c : ℕ) (seeking : IsSeeking x.graph k (actors k) s) → SearchesOnAt p x (made_slot p s) (x.position k) c →
         c < p.config.blocks → (c < p.config.blocks → (ks ≡ []) × SearchedBlocks p w s c a.mid v) → Kept w v sw → HasTaken p lay g b order x k v (put actors k a)
