@@ -1,6 +1,8 @@
 -- The steps of a turn are a turn over graph and book.
-use Rattle.std.proofs.Common.{◌≡◌, ◌≢◌, ℕ, zero, suc, ◌+◌, ◌*◌, ◌/◌, ◌%◌, ◌<◌, ◌≤◌, Bool, true, false, Option, Some, None, List, [], ◌∷◌, ◌++◌, map, cond, inl, inr, refl, ap, sym, ◌∙◌, subst, arith}
+use Rattle.std.proofs.Common.{◌≡◌, ◌≢◌, ℕ, zero, suc, ◌+◌, ◌*◌, ◌^◌, ◌/◌, ◌%◌, ◌<◌, ◌≤◌, Bool, true, false, Option, Some, None, List, [], ◌∷◌, ◌++◌, map, cond, inl, inr, refl, ap, sym, ◌∙◌, subst, arith}
 use Rattle.std.specs.Int.{bit_at}
+use Rattle.std.specs.Int.Bits.{bit_or}
+use Rattle.sg_words.proofs.Blocks.{bit_again}
 use Rattle.std.proofs.lemmas.Nat.Bits.{bit_at_lowest, bit_at-suc}
 use Rattle.std.proofs.lemmas.List.{append-nil}
 use Rattle.std.proofs.lemmas.Bool.{cases_Bool, cases_eq, cond-true, cond-false, eq-eqb, ne_eqb}
@@ -36,7 +38,7 @@ use Rattle.sg_order.specs.OneOrder.{HasPrepared, IsSeeking, AreBlocksSoFar, IsSo
 use Rattle.sg_boards.specs.Boards.{IsAt, SaysOf, HasSeen, OccupiesSlots, IsBoarded, HasTaken, OpensBoarded, TurnsAreTaken, EndsAreTaken}
 use Rattle.sg_boards.proofs.Events.{order_more, so_more}
 use Rattle.sg_boards.proofs.Ends.{Searched, SearchedBlocks, Kept, opened, claimed, owned, Turned, GivesWay, IsDone, Gathers, Looks, Wins, Loses, Matures, WinsBlock, LosesBlock, WinsSlot, LosesSlot, WinsSweep, LosesSweep, SweepsOne, GoesOn, Roams, HasRun, runs}
-use Rattle.sg_boards.proofs.Seen.{Agrees, IsMidOf, HaltsBy, stopped}
+use Rattle.sg_boards.proofs.Seen.{Agrees, IsMidOf, HaltsBy, filled, stopped}
 use Rattle.sg_boards.proofs.Explained.{GoesBehind, goes_behind, explained, ordered, claimed_by}
 use Rattle.sg_boards.proofs.Standing.{at_rest, at_idle, at_claim, at_opening, at_slot, at_taking_over, at_sweeping, at_behind, swept_at, in_sweep, no_sweeper, request_of, slot_request_of, collects, none_by, OneMore, one_by, Reads, AreFragments, found, none}
 
@@ -53,7 +55,7 @@ opens_boarded orders p lay w g b actors opens idle fits = record {
   going = λ e. opens.going;
   owed_is = refl;
   says = λ j l. says_at j l (w.block j) refl;
-  seen = λ k. subst (HasSeen w) (sym (idle k)) tt;
+  seen = λ k. subst (HasSeen w (λ _. None)) (sym (idle k)) tt;
   fits = fits;
 }
   where
@@ -123,17 +125,48 @@ says_on p x y j (Swept z) owed given objects h = (
 says_on p x y j (Need z) owed given objects h = (owed ∙ h.0, given ∙ h.1)
 says_on p x y j (Sweeping z) owed given objects h = (owed ∙ h.0, given ∙ h.1)
 
--- what was seen past its sweep is past it
-seen_on : (w v : Words) (mid : Mid) → ((c : ℕ) → IsPast (w.block c) → IsPast (v.block c)) → HasSeen w mid → HasSeen v mid
-seen_on w v (TakeBlock s c) past h = past c h
-seen_on w v (SeeBlock t true c) past h = past c h
-seen_on w v (SeeBlock t false c) past h = tt
-seen_on w v mid past h = tt
+-- blocks go only onward from w to v: what is past its sweep stays so, what is owed was owed, a free one is free or was given to a size, and what was
+-- given stays so
+record Onward (w v : Words) (given given' : ℕ → Option ℕ) : Type 0 where
+  past : (c : ℕ) → IsPast (w.block c) → IsPast (v.block c)
+  need : (c z : ℕ) → v.block c ≡ Need z → w.block c ≡ Need z
+  free : (c : ℕ) → w.block c ≡ Free → (v.block c ≡ Free) ⊎ ((z : ℕ) × (v.block c ≡ Swept z) × (given' c ≡ Some z))
+  swept : (c z : ℕ) → w.block c ≡ Swept z → given c ≡ Some z → (v.block c ≡ Swept z) × (given' c ≡ Some z)
+
+stays_onward : (w : Words) (given : ℕ → Option ℕ) → Onward w w given given
+stays_onward w given = record { past = λ c h. h; need = λ c z e. e; free = λ c e. inl e; swept = λ c z e g. (e, g) }
+
+same_onward : (w u v : Words) (given given' : ℕ → Option ℕ) → v.block ≡ u.block → Onward w u given given' → Onward w v given given'
+same_onward w u v given given' e on = record {
+  past = λ c h. subst IsPast (at c) (on.past c h);
+  need = λ c z q. on.need c z (at c ∙ q);
+  free = λ c q. elim (on.free c q) [ inl f ↦ inl (sym (at c) ∙ f) | inr f ↦ inr (f.0, (sym (at c) ∙ f.1.0, f.1.1)) ];
+  swept = λ c z q g. let h = on.swept c z q g in (sym (at c) ∙ h.0, h.1);
+}
+  where
+    at : (c : ℕ) → u.block c ≡ v.block c
+    at c = sym (ap (λ (f : ℕ → BlockWord). f c) e)
+
+seen_on : (w v : Words) (given given' : ℕ → Option ℕ) (mid : Mid) → Onward w v given given' → HasSeen w given mid → HasSeen v given' mid
+seen_on w v given given' (TakeBlock s c) on h = elim h [
+  | inl e ↦ on.free c e
+  | inr e ↦ let q = on.swept c e.0 e.1.0 e.1.1 in inr (e.0, (q.0, q.1))
+]
+seen_on w v given given' (SeeBlock t true c) on h = on.past c h
+seen_on w v given given' (SeeBlock t false c) on h = tt
+seen_on w v given given' (TakeOver t c z) on h = λ size e. h size (on.need c size e)
+seen_on w v given given' mid on h = tt
 
 past_put : (block : ℕ → BlockWord) (c : ℕ) (state : BlockWord) → IsPast state → (d : ℕ) → IsPast (block d) → IsPast (put block c state d)
 past_put block c state past d h = elim (cases_eq d c) [
   | inl e ↦ subst IsPast (sym (put-at block c state d e)) past
   | inr n ↦ subst IsPast (sym (put-other block c state d n)) h
+]
+
+need_put : (block : ℕ → BlockWord) (c : ℕ) (state : BlockWord) → IsPast state → (d z : ℕ) → put block c state d ≡ Need z → block d ≡ Need z
+need_put block c state past d z e = elim (cases_eq d c) [
+  | inl q ↦ absurd (subst IsPast (sym (put-at block c state d q) ∙ e) past)
+  | inr n ↦ sym (put-other block c state d n) ∙ e
 ]
 
 swept_past : (z marks : ℕ) → IsPast (swept_word (Need z) marks)
@@ -263,10 +296,10 @@ module _ (orders : OrdersSoFar) (answers : HasOneTurn) (keeps : TurnsKeepOld) (b
 
     boarded : (said : List Said) (y : Board) → behind.rest ≡ said → one.graph ≡ y.graph → one.book ≡ y.book → IsAt p a.script a.mid (y.position k) →
         ((j : ℕ) → j ≢ k → y.position j ≡ x.position j) → (y.stopping ≡ true → v.stop ≢ 0) → (y.stopping ≡ false → v.stop ≡ 0) →
-        y.owed ≡ (swept_in b (swept_of so.events)).owed → ((j : ℕ) → j < p.config.blocks → SaysOf p y j (v.block j)) → HasSeen v a.mid →
-        ((c : ℕ) → IsPast (w.block c) → IsPast (v.block c)) → OccupiesSlots p v →
+        y.owed ≡ (swept_in b (swept_of so.events)).owed → ((j : ℕ) → j < p.config.blocks → SaysOf p y j (v.block j)) → HasSeen v y.given a.mid →
+        Onward w v x.given y.given → OccupiesSlots p v →
         IsBoarded p lay g b (order ++ said) y v (put actors k a)
-    boarded said y rest graph book here there asked going owed says seen past fits = record {
+    boarded said y rest graph book here there asked going owed says seen on fits = record {
       so = so;
       one = one;
       order_is = behind.order_is ∙ ap (λ ss. order ++ ss) rest;
@@ -278,7 +311,7 @@ module _ (orders : OrdersSoFar) (answers : HasOneTurn) (keeps : TurnsKeepOld) (b
       going = going;
       owed_is = owed;
       says = says;
-      seen = put-all (λ j (c : Actor). HasSeen v c.mid) actors k a seen (λ j n. seen_on w v (actors j).mid past (bo.seen j));
+      seen = put-all (λ j (c : Actor). HasSeen v y.given c.mid) actors k a seen (λ j n. seen_on w v x.given y.given (actors j).mid on (bo.seen j));
       fits = fits;
     }
 
@@ -291,8 +324,8 @@ module _ (orders : OrdersSoFar) (answers : HasOneTurn) (keeps : TurnsKeepOld) (b
       fits_same fits c z i l e set =
           fits c z i l (sym (state_same c) ∙ e) (ap (λ (f : ℕ → ℕ). bit_at (f c) i) (sym kept.used) ∙ set)
 
-      past_same : ((c : ℕ) → IsPast (w.block c) → IsPast (u.block c)) → (c : ℕ) → IsPast (w.block c) → IsPast (v.block c)
-      past_same past c h = subst IsPast (sym (state_same c)) (past c h)
+      onward_same : (given : ℕ → Option ℕ) → Onward w u x.given given → Onward w v x.given given
+      onward_same given on = same_onward w u v x.given given kept.block on
 
       says_same : (y z : Board) → z.owed ≡ y.owed → z.given ≡ y.given → ((name j : ℕ) → IsInBlock p y.book name j → IsInBlock p z.book name j) →
           ((j : ℕ) → j < p.config.blocks → SaysOf p y j (u.block j)) → (j : ℕ) → j < p.config.blocks → SaysOf p z j (v.block j)
@@ -325,7 +358,7 @@ module _ (orders : OrdersSoFar) (answers : HasOneTurn) (keeps : TurnsKeepOld) (b
     mid_now : (put actors k a k).mid ≡ Idle → a.mid ≡ Idle
     mid_now e = ap (λ (c : Actor). c.mid) (sym (put-same actors k a)) ∙ e
 
-    moves : (position : Position) → ks ≡ [] → v.stop ≡ w.stop → Kept w v sw → IsAt p a.script a.mid position → HasSeen v a.mid → ¬ (a.mid ≡ Idle) →
+    moves : (position : Position) → ks ≡ [] → v.stop ≡ w.stop → Kept w v sw → IsAt p a.script a.mid position → HasSeen v x.given a.mid → ¬ (a.mid ≡ Idle) →
         TakesTurn p x k [] (moved_on x k position) → HasTaken p lay g b order x k v (put actors k a)
     moves position e same kept here seen some takes = record {
       said = [];
@@ -335,12 +368,12 @@ module _ (orders : OrdersSoFar) (answers : HasOneTurn) (keeps : TurnsKeepOld) (b
           (subst (IsAt p a.script a.mid) (sym (put-same x.position k position)) here)
           (λ j n. put-other x.position k position j n)
           (still_asked same) (still_going same)
-          (owed_same kept.none) (says_same w kept x (moved_on x k position) refl refl (λ name j h. h) bo.says) seen (past_same w kept (λ c h. h))
+          (owed_same kept.none) (says_same w kept x (moved_on x k position) refl refl (λ name j h. h) bo.says) seen (onward_same w kept x.given (stays_onward w x.given))
           (fits_same w kept bo.fits);
       stays = λ idle. absurd (some (mid_now idle));
     }
 
-    asks_for : (request : Request) → ks ≡ [] → v.stop ≢ 0 → Kept w v sw → IsAt p a.script a.mid (HasLeft (Wants request)) → HasSeen v a.mid → ¬ (a.mid ≡ Idle) →
+    asks_for : (request : Request) → ks ≡ [] → v.stop ≢ 0 → Kept w v sw → IsAt p a.script a.mid (HasLeft (Wants request)) → HasSeen v x.given a.mid → ¬ (a.mid ≡ Idle) →
         TakesTurn p x k [] (asking x k request) → HasTaken p lay g b order x k v (put actors k a)
     asks_for request e set kept here seen some takes = record {
       said = [];
@@ -350,13 +383,13 @@ module _ (orders : OrdersSoFar) (answers : HasOneTurn) (keeps : TurnsKeepOld) (b
           (subst (IsAt p a.script a.mid) (sym (put-same x.position k (HasLeft (Wants request)))) here)
           (λ j n. put-other x.position k (HasLeft (Wants request)) j n)
           (λ z. set) (λ z. cc)
-          (owed_same kept.none) (says_same w kept x (asking x k request) refl refl (λ name j h. h) bo.says) seen (past_same w kept (λ c h. h))
+          (owed_same kept.none) (says_same w kept x (asking x k request) refl refl (λ name j h. h) bo.says) seen (onward_same w kept x.given (stays_onward w x.given))
           (fits_same w kept bo.fits);
       stays = λ idle. absurd (some (mid_now idle));
     }
 
-    seen_at : (m : Mid) → HasSeen v m → a.mid ≡ m → HasSeen v a.mid
-    seen_at m h e = subst (HasSeen v) (sym e) h
+    seen_at : (given : ℕ → Option ℕ) (m : Mid) → HasSeen v given m → a.mid ≡ m → HasSeen v given a.mid
+    seen_at given m h e = subst (HasSeen v given) (sym e) h
 
     -- one statement is done
     more : ks ≡ k ∷ [] → OneMore p x.graph x.book k behind.rest one.graph one.book
@@ -395,7 +428,7 @@ module _ (orders : OrdersSoFar) (answers : HasOneTurn) (keeps : TurnsKeepOld) (b
               (λ j n. refl) (still_asked same) (still_going same)
               (owed_same kept.none)
               (says_same w kept x (record x { graph = o.graph; book = o.book }) refl refl (still_in_block o.said o.graph o.book o.turn) bo.says)
-              (seen_at Idle tt m) (past_same w kept (λ c h. h)) (fits_same w kept bo.fits);
+              (seen_at x.given Idle tt m) (onward_same w kept x.given (stays_onward w x.given)) (fits_same w kept bo.fits);
           stays = λ e. between idle;
         }
 
@@ -413,7 +446,7 @@ module _ (orders : OrdersSoFar) (answers : HasOneTurn) (keeps : TurnsKeepOld) (b
               (owed_same kept.none)
               (says_same w kept x (record x { graph = o.graph; book = o.book; position = put x.position k Between }) refl refl
               (still_in_block o.said o.graph o.book o.turn) bo.says)
-              (seen_at Idle tt m) (past_same w kept (λ c h. h)) (fits_same w kept bo.fits);
+              (seen_at x.given Idle tt m) (onward_same w kept x.given (stays_onward w x.given)) (fits_same w kept bo.fits);
           stays = λ e. put-same x.position k Between;
         }
 
@@ -423,13 +456,13 @@ module _ (orders : OrdersSoFar) (answers : HasOneTurn) (keeps : TurnsKeepOld) (b
         let r = reads idle in
         let n = made_words p s in
         let low = found p lay w x.book are n 0 j next finds in
-        moves (Claiming j (x.book.next j)) e same kept (goes_to (Claim s j next) (Claiming j (x.book.next j)) (refl, low.1) m) (seen_at (Claim s j next) tt m) (claims_none s j next m)
+        moves (Claiming j (x.book.next j)) e same kept (goes_to (Claim s j next) (Claiming j (x.book.next j)) (refl, low.1) m) (seen_at x.given (Claim s j next) tt m) (claims_none s j next m)
         (Prepares s rest j (between idle) (r.script_is ∙ script) (quiet_board stop)
         (record { makes = makes; short = let y = r.from_is in let z = r.to_is in omega arith }) low.0)
     looks s rest idle script stop makes short e (inr (nowhere, m, set)) kept =
         let r = reads idle in
         let n = made_words p s in
-        asks_for (Needs_words n) e set kept (goes_to (Left s) (HasLeft (Wants (Needs_words n))) (request_of p s makes) m) (seen_at (Left s) tt m) (leaves_none s m)
+        asks_for (Needs_words n) e set kept (goes_to (Left s) (HasLeft (Wants (Needs_words n))) (request_of p s makes) m) (seen_at x.given (Left s) tt m) (leaves_none s m)
         (Needs s rest (between idle) (r.script_is ∙ script) (quiet_board stop)
         (record { makes = makes; short = let y = r.from_is in let z = r.to_is in omega arith }) (none p lay w x.book are n 0 nowhere))
 
@@ -446,19 +479,19 @@ module _ (orders : OrdersSoFar) (answers : HasOneTurn) (keeps : TurnsKeepOld) (b
         go : Searched p lay w s f a.mid v → HasTaken p lay g b order x k v (put actors k a)
         go (inl (j, next, finds, m, same)) =
             let low = found p lay w x.book are (made_words p s) f j next finds in
-            moves (Claiming j (x.book.next j)) e same kept (goes_to (Claim s j next) (Claiming j (x.book.next j)) (refl, low.1) m) (seen_at (Claim s j next) tt m) (claims_none s j next m)
+            moves (Claiming j (x.book.next j)) e same kept (goes_to (Claim s j next) (Claiming j (x.book.next j)) (refl, low.1) m) (seen_at x.given (Claim s j next) tt m) (claims_none s j next m)
             (LooksAgain s (actors k).script f seen j (claiming s f seen mid) moved prep.script low.0)
         go (inr (nowhere, m, set)) =
             asks_for (Needs_words (made_words p s)) e set kept (goes_to (Left s) (HasLeft (Wants (Needs_words (made_words p s)))) (request_of p s prep.makes) m)
-            (seen_at (Left s) tt m) (leaves_none s m)
+            (seen_at x.given (Left s) tt m) (leaves_none s m)
             (FindsNone s (actors k).script f seen (claiming s f seen mid) moved prep.script (none p lay w x.book are (made_words p s) f nowhere))
 
     -- a search for a slot goes on from these words, with which this board agrees, and which differ from those before by blocks at most
     module _ (y : Board) (u : Words) (ag : Agrees p lay y u) (graph : y.graph ≡ x.graph) (book : y.book ≡ x.book) (position : y.position ≡ x.position)
-        (stopping : y.stopping ≡ x.stopping) (owed : y.owed ≡ x.owed) (stop : u.stop ≡ w.stop) (past : (c : ℕ) → IsPast (w.block c) → IsPast (u.block c))
+        (stopping : y.stopping ≡ x.stopping) (owed : y.owed ≡ x.owed) (stop : u.stop ≡ w.stop) (on : Onward w u x.given y.given)
         (fits : OccupiesSlots p u) (kept : Kept u v sw) (none_said : ks ≡ []) (s : Statement) (mature : IsMature s) where
       -- with a position, or with leaving
-      to_position : (q : Position) (m : Mid) → a.mid ≡ m → IsAt p a.script m q → ¬ (m ≡ Idle) → HasSeen u a.mid → v.stop ≡ u.stop →
+      to_position : (q : Position) (m : Mid) → a.mid ≡ m → IsAt p a.script m q → ¬ (m ≡ Idle) → HasSeen u y.given a.mid → v.stop ≡ u.stop →
           TakesTurn p x k [] (moved_on y k q) → HasTaken p lay g b order x k v (put actors k a)
       to_position q m e here some seen halts takes = record {
         said = [];
@@ -469,8 +502,8 @@ module _ (orders : OrdersSoFar) (answers : HasOneTurn) (keeps : TurnsKeepOld) (b
             (λ j n. put-other y.position k q j n ∙ ap (λ (f : ℕ → Position). f j) position)
             (λ z. still_asked (halts ∙ stop) (sym stopping ∙ z)) (λ z. still_going (halts ∙ stop) (sym stopping ∙ z))
             (owed ∙ owed_same kept.none) (says_same u kept y (moved_on y k q) refl refl (λ name j h. h) ag.says)
-            (seen_on u v a.mid (λ c h. subst IsPast (sym (state_same u kept c)) h) seen)
-            (past_same u kept past) (fits_same u kept fits);
+            (seen_on u v y.given y.given a.mid (same_onward u u v y.given y.given kept.block (stays_onward u y.given)) seen)
+            (onward_same u kept y.given on) (fits_same u kept fits);
         stays = λ idle. absurd (some (sym e ∙ mid_now idle));
       }
 
@@ -485,11 +518,11 @@ module _ (orders : OrdersSoFar) (answers : HasOneTurn) (keeps : TurnsKeepOld) (b
             (λ j n. put-other y.position k (HasLeft (Wants (Slot (made_slot p s)))) j n ∙ ap (λ (f : ℕ → Position). f j) position)
             (λ z. set) (λ z. cc)
             (owed ∙ owed_same kept.none) (says_same u kept y (asking y k (Slot (made_slot p s))) refl refl (λ name j h. h) ag.says)
-            (seen_at (Left s) tt e) (past_same u kept past) (fits_same u kept fits);
+            (seen_at y.given (Left s) tt e) (onward_same u kept y.given on) (fits_same u kept fits);
         stays = λ idle. absurd (leaves_none s e (mid_now idle));
       }
 
-      to_found : (found : Option Position) → IsMidOf s a.mid found → HasSeen u a.mid → HaltsBy u v found →
+      to_found : (found : Option Position) → IsMidOf s a.mid found → HasSeen u y.given a.mid → HaltsBy u v found →
           TakesTurn p x k [] (stopped_at y k (made_slot p s) found) → HasTaken p lay g b order x k v (put actors k a)
       to_found (Some (OpeningBlock j)) e seen halts takes =
           to_position (OpeningBlock j) (TakeBlock s j) e refl (λ z. let q : TakeBlock s j ≡ Idle = z in cc q) seen halts takes
@@ -504,14 +537,14 @@ module _ (orders : OrdersSoFar) (answers : HasOneTurn) (keeps : TurnsKeepOld) (b
           ((found : Option Position) → SearchesFrom p y (made_slot p s) c found → TakesTurn p x k [] (stopped_at y k (made_slot p s) found)) →
           HasTaken p lay g b order x k v (put actors k a)
       searches_from c searched takes =
-          let st = stopped p lay y u ag s c a.mid v searched in to_found st.found st.is st.past st.halts (takes st.found st.searches)
+          let st = stopped p lay y u ag s c a.mid v searched in to_found st.found st.is st.seen st.halts (takes st.found st.searches)
 
     -- the same with the words and the board before
     searches_on : Kept w v sw → ks ≡ [] → (s : Statement) → IsMature s → (c : ℕ) → SearchedBlocks p w s c a.mid v →
         ((found : Option Position) → SearchesFrom p x (made_slot p s) c found → TakesTurn p x k [] (stopped_at x k (made_slot p s) found)) →
         HasTaken p lay g b order x k v (put actors k a)
     searches_on kept e s mature c searched takes =
-        searches_from x w agrees refl refl refl refl refl refl (λ c h. h) bo.fits kept e s mature c searched takes
+        searches_from x w agrees refl refl refl refl refl refl (stays_onward w x.given) bo.fits kept e s mature c searched takes
 
     seeks : (s : Statement) → Seeks s (actors k).mid → IsSeeking x.graph k (actors k) s
     seeks s h = blocks.seeking k s h
@@ -536,34 +569,90 @@ module _ (orders : OrdersSoFar) (answers : HasOneTurn) (keeps : TurnsKeepOld) (b
         (subst (λ (q : Position). SearchesOnAt p x (made_slot p s) q c) (sym (at_behind p (actors k).script (actors k).mid (x.position k) s c (bo.at k) mid)) refl)
         ((known (SeeBlock (Search s) true c) mid).1 tt) searched kept
 
+    not_need : (c : ℕ) (state : BlockWord) → ((z : ℕ) → state ≡ Need z → ⊥) → SaysOf p x c state → x.owed c ≡ false
+    not_need c Free none says = says.0
+    not_need c (Swept z) none says = says.0
+    not_need c (Need z) none says = absurd (none z refl)
+    not_need c (Sweeping z) none says = says.0
+
     lost_sweep : (s : Statement) (c z : ℕ) → (actors k).mid ≡ TakeOver (Search s) c z → w.block c ≢ Need z →
         (c < p.config.blocks → (ks ≡ []) × SearchedBlocks p w s c a.mid v) → Kept w v sw → HasTaken p lay g b order x k v (put actors k a)
-    lost_sweep s c z mid differs searched kept = ?
+    lost_sweep s c z mid differs searched kept =
+        let there = (known (TakeOver (Search s) c z) mid).1 in
+        let seen = subst (HasSeen w x.given) mid (bo.seen k) in
+        goes_on_at s c (seeks s (subst (Seeks s) (sym mid) refl))
+        (subst (λ (q : Position). SearchesOnAt p x (made_slot p s) q c)
+        (sym (at_taking_over p (actors k).script (actors k).mid (x.position k) s c z (bo.at k) mid))
+        (refl, not_need c (w.block c) (λ size e. differs (e ∙ ap Need (seen size e))) (bo.says c there))) there searched kept
+
+    given_away : (c : ℕ) → w.block c ≢ Free → (w.block c ≡ Free) ⊎ ((z : ℕ) × (w.block c ≡ Swept z) × (x.given c ≡ Some z)) → (z : ℕ) × (x.given c ≡ Some z)
+    given_away c differs (inl e) = absurd (differs e)
+    given_away c differs (inr e) = (e.0, e.1.1)
 
     lost_block : (s : Statement) (c : ℕ) → (actors k).mid ≡ TakeBlock s c → w.block c ≢ Free →
         (c < p.config.blocks → (ks ≡ []) × SearchedBlocks p w s c a.mid v) → Kept w v sw → HasTaken p lay g b order x k v (put actors k a)
-    lost_block s c mid differs searched kept = ?
+    lost_block s c mid differs searched kept =
+        goes_on_at s c (seeks s (subst (Seeks s) (sym mid) refl))
+        (subst (λ (q : Position). SearchesOnAt p x (made_slot p s) q c) (sym (at_opening p (actors k).script (actors k).mid (x.position k) s c (bo.at k) mid))
+        (refl, given_away c differs (subst (HasSeen w x.given) mid (bo.seen k))))
+        (known (TakeBlock s c) mid).1 searched kept
+
+    lost_slot : (s : Statement) (c i : ℕ) → (actors k).mid ≡ TakeSlot s c i → bit_at (w.used c) i ≡ 1 →
+        (c < p.config.blocks → (ks ≡ []) × SearchedBlocks p (claimed w c i) s c a.mid v) → Kept (claimed w c i) v sw → HasTaken p lay g b order x k v (put actors k a)
+    lost_slot s c i mid set searched kept =
+        let kn = known (TakeSlot s c i) mid in
+        goes_on_at s c (seeks s (subst (Seeks s) (sym mid) refl))
+        (subst (λ (q : Position). SearchesOnAt p x (made_slot p s) q c) (sym (at_slot p (actors k).script (actors k).mid (x.position k) s c i (bo.at k) mid))
+        (refl, filled p lay x w agrees c (made_slot p s) i kn.1.0 kn.1.1.0 kn.1.1.1.0 set)) kn.1.0
+        (subst (λ (u : Words). c < p.config.blocks → (ks ≡ []) × SearchedBlocks p u s c a.mid v) same searched) (subst (λ (u : Words). Kept u v sw) same kept)
+      where
+        used_same : put w.used c (bit_or (w.used c) (2 ^ i)) ≡ w.used
+        used_same = funext (λ d. elim (cases_eq d c) [
+          | inl e ↦ put-at w.used c (bit_or (w.used c) (2 ^ i)) d e ∙ bit_again (w.used c) i set ∙ ap w.used (sym e)
+          | inr n ↦ put-other w.used c (bit_or (w.used c) (2 ^ i)) d n
+        ])
+
+        same : claimed w c i ≡ w
+        same = ap (λ (used : ℕ → ℕ). record w { used = used }) used_same
+
+    won_slot : (s : Statement) (c i found : ℕ) → (actors k).mid ≡ TakeSlot s c i → run.first ≡ OnBlock (OrUsed c i found) → run.decides ≡ true → ks ≡ k ∷ [] →
+        a.mid ≡ Idle → v.stop ≡ w.stop → Kept (claimed w c i) v sw → HasTaken p lay g b order x k v (put actors k a)
+    won_slot s c i found mid step decides e m same kept = ?
+
+    won_block : (s : Statement) (c : ℕ) → (actors k).mid ≡ TakeBlock s c → w.block c ≡ Free →
+        (c < p.config.blocks → (ks ≡ []) × SearchedBlocks p (opened p w s c) s c a.mid v) → Kept (opened p w s c) v sw →
+        HasTaken p lay g b order x k v (put actors k a)
+    won_block s c mid saw searched kept = ?
+
+    won_sweep : (s : Statement) (c z : ℕ) (more : List ℕ) → (actors k).mid ≡ TakeOver (Search s) c z → w.block c ≡ Need z → ks ≡ [] →
+        a.mid ≡ StoreOccupancy (Search s) c z → v.stop ≡ w.stop → sw ≡ c ∷ more → Kept (owned w c z) v more → HasTaken p lay g b order x k v (put actors k a)
+    won_sweep s c z more mid saw e m same swept kept = ?
+
+    sweeps_one : (s : Statement) (c z : ℕ) → (actors k).mid ≡ StoreOccupancy (Search s) c z → ks ≡ [] → a.mid ≡ SeeBlock (Search s) true c → v.stop ≡ w.stop →
+        v.block ≡ put w.block c (swept_word (Need z) (lay.marks c)) → v.used ≡ put w.used c (lay.marks c) → sw ≡ [] →
+        HasTaken p lay g b order x k v (put actors k a)
+    sweeps_one s c z mid e m same block used none = ?
 
     by_turn : Turned p lay k w (actors k) run.first run.decides ks sw a.mid v → HasTaken p lay g b order x k v (put actors k a)
     by_turn (GivesWay s rest idle script set e m same kept) =
-        moves (HasLeft Yield) e same kept (goes_to Yielded (HasLeft Yield) tt m) (seen_at Yielded tt m) (yields_none m) (Yields s rest (between idle)
+        moves (HasLeft Yield) e same kept (goes_to Yielded (HasLeft Yield) tt m) (seen_at x.given Yielded tt m) (yields_none m) (Yields s rest (between idle)
         ((reads idle).script_is ∙ script) (loud_board set))
     by_turn (IsDone s rest idle script stop room immature h kept) = done s rest idle script stop room immature h.0 h.1 h.2 kept
     by_turn (Gathers s rest request is idle script stop e m set kept) =
-        asks_for request e set kept (goes_to (Left s) (HasLeft (Wants request)) (collects p s request is) m) (seen_at (Left s) tt m) (leaves_none s m)
+        asks_for request e set kept (goes_to (Left s) (HasLeft (Wants request)) (collects p s request is) m) (seen_at x.given (Left s) tt m) (leaves_none s m)
         (Collects s rest request (between idle) ((reads idle).script_is ∙ script) (quiet_board stop) is)
     by_turn (Looks s rest idle script stop makes short e searched kept) = looks s rest idle script stop makes short e searched kept
     by_turn (Wins s f seen mid saw h kept) = won s f seen mid saw h.0 h.1 h.2 kept
     by_turn (Loses s f seen mid differs e searched kept) =
         again s f seen mid differs e (searched (let l = (prepared s f seen mid).there in let q = are.fragments in omega arith)) kept
     by_turn (Matures s rest idle script stop mature e searched kept) = matures s rest idle script stop mature e searched kept
-    by_turn (WinsBlock s c mid saw searched kept) = ?
+    by_turn (WinsBlock s c mid saw searched kept) = won_block s c mid saw searched kept
     by_turn (LosesBlock s c mid differs searched kept) = lost_block s c mid differs searched kept
-    by_turn (WinsSlot s c i found mid step decides clear h kept) = ?
-    by_turn (LosesSlot s c i mid set searched kept) = ?
-    by_turn (WinsSweep s c z more mid saw e m same swept kept) = ?
+    by_turn (WinsSlot s c i found mid step decides clear h kept) = won_slot s c i found mid step decides h.0 h.1 h.2 kept
+    by_turn (LosesSlot s c i mid set searched kept) = lost_slot s c i mid set searched kept
+    by_turn (WinsSweep s c z more mid saw e m same swept kept) = won_sweep s c z more mid saw e m same swept kept
     by_turn (LosesSweep s c z mid differs searched kept) = lost_sweep s c z mid differs searched kept
-    by_turn (SweepsOne s c z mid e m same block used none) = ?
+    by_turn (SweepsOne s c z mid e m same block used none) = sweeps_one s c z mid e m same block used none
     by_turn (GoesOn s c mid searched kept) = behind_sweep s c mid searched kept
     by_turn (Roams r) = absurd (no_sweeper p (actors k).script (actors k).mid (x.position k) (bo.at k) r)
 
