@@ -45,7 +45,7 @@ abbrev pub HaltsBy : Words → Words → Option Position → Type 0
 HaltsBy u v (Some position) = v.stop ≡ u.stop
 HaltsBy u v None = v.stop ≢ 0
 
-one_zero : (n : ℕ) → n ≡ 1 → n ≡ 0 → ⊥
+pub one_zero : (n : ℕ) → n ≡ 1 → n ≡ 0 → ⊥
 one_zero n a b = omega arith
 
 module _ (p : Program) (lay : Constants) (y : Board) (u : Words) (ag : Agrees p lay y u) where
