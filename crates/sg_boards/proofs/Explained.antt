@@ -87,28 +87,23 @@ module _ (p : Program) (lay : Constants) (one : HasOneTurn) where
       Runs p lay w by g b es order h c → Explains p g b order h c
   explained [] w by g b order h c r = subst (λ ss. Explains p g b ss h c) (sym r.0) (r.1, r.2)
   explained (e ∷ es) w by g b order h c (h1, c1, more, move, lawful, harmless, r) =
-      moved e.tick.decides move
+      moved e.tick.decides move (explained es (after_step w e.tick.step) (winner_after by e.by e.tick.step) h1 c1 more h c r)
     where
-      rest : Explains p h1 c1 more h c
-      rest = explained es (after_step w e.tick.step) (winner_after by e.by e.tick.step) h1 c1 more h c r
-
-      moved : (decides : Bool) → IsMove p w g b e.by e.tick.step decides order h1 c1 more → Explains p g b order h c
-      moved true m = subst (λ ss. Explains p g b ss h c) (sym m.1) (h1, c1, m.2, rest)
-      moved false m = subst (λ (x : Book). Explains p g x order h c) m.2 (subst (λ (x : Graph). Explains p x c1 order h c) m.1
+      moved : (decides : Bool) → IsMove p w g b e.by e.tick.step decides order h1 c1 more → Explains p h1 c1 more h c → Explains p g b order h c
+      moved true m rest = subst (λ ss. Explains p g b ss h c) (sym m.1) (h1, c1, m.2, rest)
+      moved false m rest = subst (λ (x : Book). Explains p g x order h c) m.2 (subst (λ (x : Graph). Explains p x c1 order h c) m.1
           (subst (λ ss. Explains p h1 c1 ss h c) m.0 rest))
 
   pub ordered : (es : List Event) (w : Words) (by : ℕ → ℕ) (g : Graph) (b : Book) (order : List Said) (h : Graph) (c : Book) →
       Runs p lay w by g b es order h c → map (λ (s : Said). s.by) order ≡ order_of es
   ordered [] w by g b order h c r = ap (map (λ (s : Said). s.by)) r.0
-  ordered (e ∷ es) w by g b order h c (h1, c1, more, move, lawful, harmless, r) = by_cases e.tick.decides move
+  ordered (e ∷ es) w by g b order h c (h1, c1, more, move, lawful, harmless, r) =
+      by_cases e.tick.decides move (ordered es (after_step w e.tick.step) (winner_after by e.by e.tick.step) h1 c1 more h c r)
     where
-      rest : map (λ (s : Said). s.by) more ≡ order_of es
-      rest = ordered es (after_step w e.tick.step) (winner_after by e.by e.tick.step) h1 c1 more h c r
-
-      by_cases : (decides : Bool) → IsMove p w g b e.by e.tick.step decides order h1 c1 more →
+      by_cases : (decides : Bool) → IsMove p w g b e.by e.tick.step decides order h1 c1 more → map (λ (s : Said). s.by) more ≡ order_of es →
           map (λ (s : Said). s.by) order ≡ cond decides (e.by ∷ order_of es) (order_of es)
-      by_cases true m = ap (map (λ (s : Said). s.by)) m.1 ∙ ap (λ ks. e.by ∷ ks) rest
-      by_cases false m = ap (map (λ (s : Said). s.by)) (sym m.0) ∙ rest
+      by_cases true m rest = ap (map (λ (s : Said). s.by)) m.1 ∙ ap (λ ks. e.by ∷ ks) rest
+      by_cases false m rest = ap (map (λ (s : Said). s.by)) (sym m.0) ∙ rest
 
   -- where the first step decides, and no other one, an object that its statement makes in the major heap stands in the slot that the step claims
   pub claimed_by : (e : Event) (es : List Event) (w : Words) (by : ℕ → ℕ) (g : Graph) (b : Book) (order : List Said) (h : Graph) (c : Book) →

@@ -17,7 +17,6 @@ use Rattle.sg_graph.specs.Turns.{Position, OpeningBlock, TakingSlot, TakingOver,
 use Rattle.sg_graph.specs.Turns.IsPassedOver.{BeingSwept, OfOtherSize, Shut}
 use Rattle.sg_graph.specs.Turns.SearchesFrom.{MeetsFree, MeetsSlot, MeetsOwed, MeetsNone}
 use Rattle.sg_rules.specs.Rules.{Constants, Mid, Search, TakeBlock, TakeSlot, TakeOver, Left, AreTaken}
-use Rattle.sg_order.specs.Knowing.{IsPast}
 use Rattle.sg_order.specs.OneOrder.{IsHoused}
 use Rattle.sg_boards.specs.Boards.{SaysOf, HasSeen}
 use Rattle.sg_boards.proofs.Ends.{IsPassedBy, Busy, Other, Full, Meets, AFree, ASlot, AnOwed, IsFirstMet, SearchedBlocks}
@@ -46,7 +45,7 @@ abbrev pub HaltsBy : Words → Words → Option Position → Type 0
 HaltsBy u v (Some position) = v.stop ≡ u.stop
 HaltsBy u v None = v.stop ≢ 0
 
-one_zero : (n : ℕ) → n ≡ 1 → n ≡ 0 → ⊥
+pub one_zero : (n : ℕ) → n ≡ 1 → n ≡ 0 → ⊥
 one_zero n a b = omega arith
 
 module _ (p : Program) (lay : Constants) (y : Board) (u : Words) (ag : Agrees p lay y u) where
@@ -83,7 +82,7 @@ module _ (p : Program) (lay : Constants) (y : Board) (u : Words) (ag : Agrees p 
   swept_on : (j z : ℕ) → j < p.config.blocks → u.block j ≡ Swept z → IsSweptOn y j
   swept_on j z l e = not_busy j (λ x q. let f : Swept z ≡ Sweeping x = sym e ∙ q in cc f) (subst (SaysOf p y j) e (ag.says j l)).0
 
-  filled : (j z i : ℕ) → j < p.config.blocks → u.block j ≡ Swept z → i < slots z → bit_at (u.used j) i ≡ 1 → (name : ℕ) × IsInSlot p y.graph y.book name j z i
+  pub filled : (j z i : ℕ) → j < p.config.blocks → u.block j ≡ Swept z → i < slots z → bit_at (u.used j) i ≡ 1 → (name : ℕ) × IsInSlot p y.graph y.book name j z i
   filled j z i l e fits set =
       let at = (ag.blocks.each j l).filled z i (subst (λ (state : BlockWord). IsOf state z) (sym e) refl) fits (taken_by e set) in (
         at.0,
@@ -141,7 +140,7 @@ module _ (p : Program) (lay : Constants) (y : Board) (u : Words) (ag : Agrees p 
     pub found : Option Position
     pub searches : SearchesFrom p y (made_slot p s) c found
     pub is : IsMidOf s m found
-    pub past : HasSeen u m
+    pub seen : HasSeen u y.given m
     pub halts : HaltsBy u v found
 
   met_at : (s : Statement) (c j : ℕ) (m : Mid) (v : Words) → v.stop ≡ u.stop → IsFirstMet p u s c j m → Meets p u s j m → Stopped s c m v
@@ -149,21 +148,21 @@ module _ (p : Program) (lay : Constants) (y : Board) (u : Words) (ag : Agrees p 
     found = Some (OpeningBlock j);
     searches = MeetsFree j (comes_to s c j m met) (free_on j met.there e);
     is = is;
-    past = subst (HasSeen u) (sym is) (subst IsPast (sym e) tt);
+    seen = subst (HasSeen u y.given) (sym is) (inl e);
     halts = same;
   }
   met_at s c j m v same met (ASlot i e fits clear taken is) = record {
     found = Some (TakingSlot j i);
     searches = MeetsSlot j i (comes_to s c j m met) (slot_on j (made_slot p s) i (slot_size-class (made_words p s)) met.there e fits clear taken);
     is = is;
-    past = subst (HasSeen u) (sym is) tt;
+    seen = subst (HasSeen u y.given) (sym is) tt;
     halts = same;
   }
   met_at s c j m v same met (AnOwed size class e is) = record {
     found = Some (TakingOver j);
     searches = MeetsOwed j (comes_to s c j m met) (subst (SaysOf p y j) e (ag.says j met.there)).0;
     is = (size, is);
-    past = subst (HasSeen u) (sym is) tt;
+    seen = subst (HasSeen u y.given) (sym is) (λ other q. let f : Need other ≡ Need size = sym q ∙ e in cc f);
     halts = same;
   }
 
@@ -173,6 +172,6 @@ module _ (p : Program) (lay : Constants) (y : Board) (u : Words) (ag : Agrees p 
     found = None;
     searches = MeetsNone (λ i from there. passed_over s i there (none i from there));
     is = is;
-    past = subst (HasSeen u) (sym is) tt;
+    seen = subst (HasSeen u y.given) (sym is) tt;
     halts = set;
   }

@@ -1,5 +1,5 @@
 -- The midst of an epoch as a board: after whole turns, the graph, the book and where each mutator stands.
-use Rattle.std.specs.Prelude.{◌≡◌, ◌≢◌, ℕ, ◌+◌, ◌-◌, ◌*◌, ◌^◌, ◌<◌, ◌≤◌, ◌⊎◌, true, false, Some, None, List, [], ◌++◌, length}
+use Rattle.std.specs.Prelude.{◌≡◌, ◌≢◌, ℕ, ◌+◌, ◌-◌, ◌*◌, ◌^◌, ◌<◌, ◌≤◌, ◌⊎◌, true, false, Option, Some, None, List, [], ◌++◌, length}
 use Rattle.std.specs.Int.{bit_at}
 use Rattle.sg_words.specs.Blocks.{slots}
 use Rattle.sg_words.specs.declared.steps.BlockWord.{BlockWord}
@@ -43,11 +43,13 @@ SaysOf p x j (Swept z) = (x.owed j ≡ false) × ((x.given j ≡ Some z) ⊎ ((x
 SaysOf p x j (Need z) = (x.owed j ≡ true) × (x.given j ≡ None)
 SaysOf p x j (Sweeping z) = (x.owed j ≡ false) × (x.given j ≡ None)
 
--- who is about to open a block, or has swept it, has seen it past its sweep
-abbrev pub HasSeen : Words → Mid → Type 0
-HasSeen w (TakeBlock s c) = IsPast (w.block c)
-HasSeen w (SeeBlock t true c) = IsPast (w.block c)
-HasSeen w mid = Unit {0}
+-- What a mutator saw of the block at which its search stands: who is about to open it saw it free, and nobody but another one who opened it has
+-- changed it since; who has swept it knows that it is past its sweep; and who is about to take it over, which slots it has as long as it is owed.
+abbrev pub HasSeen : Words → (ℕ → Option ℕ) → Mid → Type 0
+HasSeen w given (TakeBlock s c) = (w.block c ≡ Free) ⊎ ((z : ℕ) × (w.block c ≡ Swept z) × (given c ≡ Some z))
+HasSeen w given (SeeBlock t true c) = IsPast (w.block c)
+HasSeen w given (TakeOver t c z) = (size : ℕ) → w.block c ≡ Need size → size ≡ z
+HasSeen w given mid = Unit {0}
 
 -- only slots of a swept block are occupied
 abbrev pub OccupiesSlots : Program → Words → Type 0
@@ -67,7 +69,7 @@ pub record IsBoarded (p : Program) (lay : Constants) (g : Graph) (b : Book) (ord
   -- the blocks that are still to be swept are those owed as the epoch opened and not taken over since
   pub owed_is : x.owed ≡ (swept_in b (swept_of so.events)).owed
   pub says : (j : ℕ) → j < p.config.blocks → SaysOf p x j (w.block j)
-  pub seen : (k : ℕ) → HasSeen w (actors k).mid
+  pub seen : (k : ℕ) → HasSeen w x.given (actors k).mid
   pub fits : OccupiesSlots p w
 
 -- a turn of mutator k over the words is one over graph and book; where it leaves the mutator between two statements, it stands so
