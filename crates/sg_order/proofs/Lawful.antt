@@ -54,7 +54,7 @@ module _ (p : Program) (lay : Constants) (w : Words) (g : Graph) (b : Book) (by 
   clearing : (c z i x : ℕ) → Sweeps p w.block by k c z → i < slots z → bit_at (lay.marks c) i ≡ 0 → slot_at p c z i ≤ x → x < slot_at p c z i + z →
       IsFine (OnBlock (Zero x))
   clearing c z i x q f u lo hi = record {
-    lawful = (c, z, i, (q.word, q.mine), record { there = q.there; fits = f; unmarked = u; from = lo; to = hi });
+    lawful = (c, z, q.there, (q.word, q.mine), record { slot = i; fits = f; unmarked = u; from = lo; to = hi });
     harmless = harmless c z i x q.word f u lo hi;
     owed = tt;
   }

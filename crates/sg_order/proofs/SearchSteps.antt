@@ -217,8 +217,12 @@ module _ (p : Program) (lay : Constants) (w : Words) (g : Graph) (b : Book) (sai
           swept = λ j y e. e;
           used = λ j y m e u. put-from (λ j used. bit_at used m ≡ 1) w.used c (bit_or (w.used c) (2 ^ i)) (bit_kept (w.used c) i m) j u;
           past = λ j h. h;
-          held = λ j y l e o. (e, refl, put-other w.used c (bit_or (w.used c) (2 ^ i)) j
-              (λ r. let f : Swept z ≡ Sweeping y = sym q.2 ∙ ap w.block (sym r) ∙ e in cc));
+          held = λ j y l e o. (
+            e,
+            refl,
+            put-other w.used c (bit_or (w.used c) (2 ^ i)) j
+                (λ r. let f : Swept z ≡ Sweeping y = sym q.2 ∙ ap w.block (sym r) ∙ e in cc),
+          );
           zeros = λ j y m x l e f u lo hi r. r;
           begun = λ j y l e o. (e, refl);
           settled = λ j y l e o. (e, refl);
@@ -236,12 +240,12 @@ module _ (p : Program) (lay : Constants) (w : Words) (g : Graph) (b : Book) (sai
           };
           found = λ m j st l lo. elim (cases_eq m new) [
             | inl e ↦ inr (
-              let a = put-at b.address new x m e in
-              let u = slot_fits z i q.3 in
-              let under : j < c = omega arith in
-              let size : slot_words (put g.size new n m) ≡ z = ap slot_words (put-at g.size new n m e) in
-              subst (λ y. IsPassed v b.owed y j) (sym size) (passed_later p lay w b by v (placed_in b Old new x) by k bl z j (q.0 j under))
-            )
+                let a = put-at b.address new x m e in
+                let u = slot_fits z i q.3 in
+                let under : j < c = omega arith in
+                let size : slot_words (put g.size new n m) ≡ z = ap slot_words (put-at g.size new n m e) in
+                subst (λ y. IsPassed v b.owed y j) (sym size) (passed_later p lay w b by v (placed_in b Old new x) by k bl z j (q.0 j under))
+                )
             | inr d ↦ inl (sym (put-other b.stands new true m d) ∙ st)
           ];
         }
