@@ -186,8 +186,8 @@ apart_by p lay w g b owner t = record {
 }
 
 -- where all are over, the book in which what was swept isn't owed any more
-module _ (p : Program) (lay : Constants) (es : List Event) (w : Words) (g : Graph) (b : Book) (actors last : ℕ → Actor) (opening : IsEpochOpening p lay w g b actors)
-    (legal : Legal w (ticks es)) (x : Explained p lay g.count es w g b (λ _. []) no_winner last) where
+module _ (p : Program) (lay : Constants) (es : List Event) (w : Words) (g : Graph) (b : Book) (actors last : ℕ → Actor)
+    (opening : IsEpochOpening p lay w g b actors) (legal : Legal w (ticks es)) (x : Explained p lay g.count es w g b (λ _. []) no_winner last) where
   abbrev v : Words
   v = after w (ticks es)
 

@@ -62,7 +62,8 @@ IsLawful p lay w by k step = Unit {0}
 abbrev pub IsHarmlessOn : Program → Constants → Words → Graph → Book → BlockStep → Type 0
 IsHarmlessOn p lay w g b (Zero x) =
     ((n : ℕ) → IsWordOf g b n x → ⊥)
-    × ((c z i : ℕ) → c < p.config.blocks → w.block c ≡ Sweeping z → i < slots z → bit_at (lay.marks c) i ≡ 1 → slot_at p c z i ≤ x → x < slot_at p c z i + z → ⊥)
+    × ((c z i : ℕ) → c < p.config.blocks → w.block c ≡ Sweeping z → i < slots z → bit_at (lay.marks c) i ≡ 1 →
+    slot_at p c z i ≤ x → x < slot_at p c z i + z → ⊥)
 IsHarmlessOn p lay w g b step = Unit {0}
 
 abbrev pub IsHarmless : Program → Constants → Words → Graph → Book → Step → Type 0
