@@ -36,7 +36,8 @@ pub record BlockLater (p : Program) (lay : Constants) (w : Words) (b : Book) (by
   pub begun : (j z : ℕ) → j < p.config.blocks → v.block j ≡ Sweeping z → by' j ≢ k → (w.block j ≡ Sweeping z) × (by' j ≡ by j)
   pub settled : (j z : ℕ) → j < p.config.blocks → v.block j ≡ Swept z → by' j ≢ k → (w.block j ≡ Swept z) × (by' j ≡ by j)
 
-module _ (p : Program) (lay : Constants) (w : Words) (b : Book) (by : ℕ → ℕ) (v : Words) (c : Book) (by' : ℕ → ℕ) (k : ℕ) (l : BlockLater p lay w b by v c by' k) where
+module _ (p : Program) (lay : Constants) (w : Words) (b : Book) (by : ℕ → ℕ) (v : Words) (c : Book) (by' : ℕ → ℕ) (k : ℕ)
+    (l : BlockLater p lay w b by v c by' k) where
   pub passed_later : (s i : ℕ) → IsPassed w b.owed s i → IsPassed v c.owed s i
   passed_later s i q = elim q [
     | inl q ↦ inl (ap (λ (f : ℕ → Bool). f i) l.owed ∙ q.0, l.past i q.1)

@@ -47,7 +47,8 @@ module _ (p : Program) (lay : Constants) (w : Words) (g : Graph) (b : Book) (k :
   free y a r o q =
       let h = t.laid.objects.owned o y q in
       elim (cases_eq o 0) [
-        | inl u ↦ absurd (let c = ap b.address u ∙ t.laid.nothing.at_nil in let d = ap g.size u ∙ t.laid.nothing.no_size in let lo = h.1 in let hi = h.2 in omega arith)
+        | inl u ↦ absurd (let c = ap b.address u ∙ t.laid.nothing.at_nil in let d = ap g.size u ∙ t.laid.nothing.no_size in
+            let lo = h.1 in let hi = h.2 in omega arith)
         | inr some ↦ untaken o y (omega arith) h.0 h.1 h.2 a r
       ]
 

@@ -77,7 +77,8 @@ module _ (p : Program) (lay : Constants) (w : Words) (g : Graph) (b : Book) (sai
             h.1,
             subst (λ a. IsTakenAt p (lay.marks h.0) a (slot_words (put g.size (suc g.count) n o)) h.0 (w.block h.0) (w.used h.0))
                 (sym (put-other b.address (suc g.count) x o d))
-                (subst (λ z. IsTakenAt p (lay.marks h.0) (b.address o) (slot_words z) h.0 (w.block h.0) (w.used h.0)) (sym (put-other g.size (suc g.count) n o d)) h.2),
+                (subst (λ z. IsTakenAt p (lay.marks h.0) (b.address o) (slot_words z) h.0 (w.block h.0) (w.used h.0))
+                (sym (put-other g.size (suc g.count) n o d)) h.2),
           )
     ];
     each = λ c l. let e = t.blocks.each c l in record {

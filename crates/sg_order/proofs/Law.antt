@@ -21,7 +21,7 @@ use Rattle.sg_graph.specs.Heap.{Owner, Of, Frag, Nobody, IsKnownEntry, IsHeap}
 use Rattle.sg_graph.specs.Blocks.{AreBlocks, AreSettled}
 use Rattle.sg_words.specs.Blocks.{IsOf, IsOwing}
 use Rattle.sg_words.specs.declared.steps.BlockWord.TheVariants.{Free, Swept, Need, Sweeping}
-use Rattle.sg_rules.specs.Rules.{Constants, Roam, StackWord, Mid, Idle, Claim, Left, SeeBlock, Actor, fresh}
+use Rattle.sg_rules.specs.Rules.{Constants, Roam, StackWord, Mid, Idle, Claim, Left, SeeBlock, Actor, fresh, owning}
 use Rattle.sg_order.specs.Rest.{Holds, IsReady, IsHeld, IsFirst, IsEpochOpening, before_it, IsOver, AreOver, kinds_in}
 use Rattle.sg_rules.specs.Resting.{IsRunnable}
 use Rattle.sg_order.specs.Rest.{StandsAt}
@@ -38,6 +38,9 @@ use Rattle.sg_order.proofs.Beside.{World}
 use Rattle.sg_order.proofs.Loads.{same_object}
 use Rattle.sg_order.proofs.Stopping.{wanted_so, wanted_at_opening}
 use Rattle.sg_order.proofs.Once.{AreLawful, taken_is_past, untaken_needs, sweep_law}
+use Rattle.sg_graph.specs.Statements.{name_in}
+use Rattle.sg_order.specs.Serving.{StaysPut}
+use Rattle.sg_order.proofs.Serving.{all_stay, stays_ready}
 use Rattle.sg_order.proofs.Whole.{Explained, lawful_runs, one_by_one}
 use Rattle.sg_order.proofs.Ending.{by_over, swept_is, swept_now, owed_still, sweeper_there, sweeper_alone, object_there, seeks, held_end, closed_end}
 
@@ -183,8 +186,8 @@ apart_by p lay w g b owner t = record {
 }
 
 -- where all are over, the book in which what was swept isn't owed any more
-module _ (p : Program) (lay : Constants) (es : List Event) (w : Words) (g : Graph) (b : Book) (actors last : ℕ → Actor) (opening : IsEpochOpening p lay w g b actors)
-    (legal : Legal w (ticks es)) (x : Explained p lay g.count es w g b (λ _. []) no_winner last) where
+module _ (p : Program) (lay : Constants) (es : List Event) (w : Words) (g : Graph) (b : Book) (actors last : ℕ → Actor)
+    (opening : IsEpochOpening p lay w g b actors) (legal : Legal w (ticks es)) (x : Explained p lay g.count es w g b (λ _. []) no_winner last) where
   abbrev v : Words
   v = after w (ticks es)
 
@@ -212,12 +215,32 @@ module _ (p : Program) (lay : Constants) (es : List Event) (w : Words) (g : Grap
         ∙ (x.world.ground.blocks.each c l).owing s (subst (λ state. IsOwing state s) (sym e) refl)
   ]
 
-  at_end : AreOver last → IsAtEnd p lay g.count b x.graph end v last
+  ready_end : (k : ℕ) → IsOver (last k).mid → IsReady p x.graph end k (last k) (before_it (last k).mid (last k).script)
+  ready_end k over =
+      let ready = ready_at_rest p lay v x.graph x.book x.says k (last k) (x.world.stands k) over in
+      let same = swept_is x.book (swept_of es) in
+      let stays : (n : ℕ) → StaysPut x.graph x.book x.graph end n = λ n. record {
+        stands = λ q. ap (λ (c : Book). c.stands n) same ∙ q;
+        address = λ q. ap (λ (c : Book). c.address n) same;
+        size = λ q. refl;
+      } in
+      let after = stays_ready p x.graph x.graph x.book end k (last k) (before_it (last k).mid (last k).script) ready
+      (record { register = refl; stack = refl; script = refl; asleep = λ e. ready.script_is ∙ ready.asleep e })
+      (record {
+        registers = λ r. stays (name_in ((x.graph.mutator k).register r));
+        stack = all_stay x.graph x.book x.graph end stays (x.graph.mutator k).stack;
+      }) in
+      subst (λ (a : Actor). IsReady p x.graph end k a (before_it (last k).mid (last k).script))
+      (λ i. owning (last k) ((ap (λ (c : Book). c.from k) same ∙ sym ready.from_is) i) ((ap (λ (c : Book). c.to k) same ∙ sym ready.to_is) i)) after
+
+  at_end : AreOver last → IsAtEnd p lay g.count b x.graph x.book end v last
   at_end over =
       let same = swept_is x.book (swept_of es) in
       let held = held_end p lay g.count v x.graph x.book x.says (winners no_winner es) last x.world over end.owed needs owes in
       let closed = closed_end p lay g.count v x.graph x.book x.says (winners no_winner es) last x.world over end.owed needs owes b.owed in
       record {
+        only_owed = same;
+        ready = λ k. ready_end k (over k);
         held = subst (λ c. IsHeld p lay v x.graph c) (sym same) held;
         searched = λ k r class j e l.
             let at = subst (λ mid. KnowsAt p lay v x.book.owed (winners no_winner es) k mid) e (x.world.beside k).at in

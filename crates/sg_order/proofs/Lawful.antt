@@ -54,7 +54,7 @@ module _ (p : Program) (lay : Constants) (w : Words) (g : Graph) (b : Book) (by 
   clearing : (c z i x : ℕ) → Sweeps p w.block by k c z → i < slots z → bit_at (lay.marks c) i ≡ 0 → slot_at p c z i ≤ x → x < slot_at p c z i + z →
       IsFine (OnBlock (Zero x))
   clearing c z i x q f u lo hi = record {
-    lawful = (c, z, i, (q.word, q.mine), record { there = q.there; fits = f; unmarked = u; from = lo; to = hi });
+    lawful = (c, z, q.there, (q.word, q.mine), record { slot = i; fits = f; unmarked = u; from = lo; to = hi });
     harmless = harmless c z i x q.word f u lo hi;
     owed = tt;
   }
@@ -75,7 +75,8 @@ module _ (p : Program) (lay : Constants) (w : Words) (g : Graph) (b : Book) (by 
       let q = be.at.1 in clearing c z i (slot_word p c z i f) q.mid.sweeps q.fits q.unmarked (omega arith) (omega arith)
   on_block _ _ _ _ (clears_last a u rest c z i f l) saw be =
       let q = be.at.1 in clearing c z i (slot_word p c z i f) q.mid.sweeps q.fits q.unmarked (omega arith) (omega arith)
-  on_block _ _ _ _ (ends_sweep a u rest c z i marked) saw be = let q = be.at.1.sweeps in record { lawful = (z, (q.word, q.mine), refl); harmless = tt; owed = tt }
+  on_block _ _ _ _ (ends_sweep a u rest c z i marked) saw be =
+      let q = be.at.1.sweeps in record { lawful = (z, (q.word, q.mine), refl); harmless = tt; owed = tt }
   on_block _ _ _ _ c saw be = record { lawful = tt; harmless = tt; owed = tt }
 
   pub fine : (a : Actor) (e : Step) (d : Bool) (a' : Actor) → NextStep p lay a e d a' → Saw w e → Beside p lay w b by k a.mid → IsFine e

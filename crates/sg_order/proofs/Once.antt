@@ -166,7 +166,8 @@ taken_more c e more h = h
 
 module _ (p : Program) (lay : Constants) where
   -- a block that isn't to be swept any more isn't taken over
-  past_fresh : (c : ℕ) (es : List Event) (w : Words) (by : ℕ → ℕ) → Legal w (ticks es) → AreLawful p lay w by es → IsPast (w.block c) → IsFreshIn c (swept_of es)
+  past_fresh : (c : ℕ) (es : List Event) (w : Words) (by : ℕ → ℕ) → Legal w (ticks es) → AreLawful p lay w by es → IsPast (w.block c) →
+      IsFreshIn c (swept_of es)
   past_fresh c [] w by legal law q = tt
   past_fresh c (e ∷ es) w by legal law q = fresh e.tick.step (no_take_over p lay w by e.by c e.tick.step legal.0 q)
       (past_fresh c es (after_step w e.tick.step) (winner_after by e.by e.tick.step) legal.1 law.1 (past_step p lay w by e.by c e.tick.step law.0 q))

@@ -52,7 +52,7 @@ module _ (p : Program) (lay : Constants) (w : Words) (g : Graph) (b : Book) (sai
     (class n x : ℕ) (next wnext from to : ℕ → ℕ) (owner' : ℕ → Owner) (pl : Place p g b k (n + 2) x next from to owner owner')
     (section : Section) (in_section : IsInside p section x (n + 2)) (zero_there : (y : ℕ) → x ≤ y → y < x + (n + 2) → w.word y ≡ 0) (used : ℕ → ℕ)
     (blocks_new : AreBlocks p lay.marks w.block used w.word (put g.size (suc g.count) n) (put b.stands (suc g.count) true)
-        (put b.address (suc g.count) x) (put b.section (suc g.count) section) b.owed owner')
+    (put b.address (suc g.count) x) (put b.section (suc g.count) section) b.owed owner')
     (is_class : class < length p.classes) (sized : IsSizeOf p class n) (single : is_pair (kind_of p class) ≡ false)
     (nexts : (f : ℕ) → f < b.fragments → wnext f ≡ byte_at (next f)) where
   abbrev pub new : ℕ

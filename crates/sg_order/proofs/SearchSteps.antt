@@ -69,7 +69,10 @@ module _ (p : Program) (lay : Constants) (w : Words) (g : Graph) (b : Book) (sai
     sees_busy u begins c z may e st be = sees_unswept u begins c (Sweeping z) (onward p u (c + 1)) e (λ y q. cc) st be
         (task_onward p lay w g b said by k owner t st.entry st.answers rest u (c + 1) st.at)
         (knows_onward p lay w g b said by k owner t st.entry st.answers rest u (c + 1) st.at
-        (passes p lay w g b said by k owner t u c (λ s q. inl ((t.blocks.each c (be.at.1 may)).owing z (subst (λ state. IsOwing state z) (sym e) refl), subst IsPast (sym e) tt))
+        (passes p lay w g b said by k owner t u c (λ s q. inl (
+          (t.blocks.each c (be.at.1 may)).owing z (subst (λ state. IsOwing state z) (sym e) refl),
+          subst IsPast (sym e) tt,
+        ))
         be.at.0))
 
     -- and one with other slots
@@ -79,7 +82,8 @@ module _ (p : Program) (lay : Constants) (w : Words) (g : Graph) (b : Book) (sai
     sees_another s begins c z o e st be =
         stays p lay w g b said by k owner t (within a rest (SeeBlock (Search s) begins c)) st rest (onward p (Search s) (c + 1)) tt
         (task_onward p lay w g b said by k owner t st.entry st.answers rest (Search s) (c + 1) st.at)
-        (knows_onward p lay w g b said by k owner t st.entry st.answers rest (Search s) (c + 1) st.at (passes p lay w g b said by k owner t (Search s) c here be.at.0))
+        (knows_onward p lay w g b said by k owner t st.entry st.answers rest (Search s) (c + 1) st.at
+        (passes p lay w g b said by k owner t (Search s) c here be.at.0))
         be (λ c z h. absurd h)
         (λ d y f l h. let q : Swept z ≡ Swept y = sym e ∙ ap w.block (sym h.0) ∙ f in let q : z ≡ y = cc in absurd (o (q ∙ h.1)))
       where
@@ -99,7 +103,8 @@ module _ (p : Program) (lay : Constants) (w : Words) (g : Graph) (b : Book) (sai
     sees_filled s c full st be =
         stays p lay w g b said by k owner t (within a rest (SeeUsed s c)) st rest (onward p (Search s) (c + 1)) tt
         (task_onward p lay w g b said by k owner t st.entry st.answers rest (Search s) (c + 1) st.at)
-        (knows_onward p lay w g b said by k owner t st.entry st.answers rest (Search s) (c + 1) st.at (passes p lay w g b said by k owner t (Search s) c here m.0))
+        (knows_onward p lay w g b said by k owner t st.entry st.answers rest (Search s) (c + 1) st.at
+        (passes p lay w g b said by k owner t (Search s) c here m.0))
         be (λ c z h. absurd h) (λ d y f l h. inl (subst (λ c. HasObject p b.stands b.address c) (sym h.0) has))
       where
         m : KnowsAt p lay w b.owed by k (SeeUsed s c)
@@ -141,7 +146,8 @@ module _ (p : Program) (lay : Constants) (w : Words) (g : Graph) (b : Book) (sai
         let bl = block_moved p lay w g b said by k owner t (put by c k) c (Swept (made_slot p s)) (λ z q. let f : Free ≡ Swept z = sym e ∙ q in cc) tt
         (λ z q. let f : Free ≡ Sweeping z = sym e ∙ q in cc) (put-same by c k) (λ d o. put-other by c k d o) in
         moves_on p lay w g b said by k owner t v (put by c k) owner (later_same p lay w g b said by k owner t v refl refl)
-        (ground_take p lay w g b owner t c z e (slot_size-class (made_words p s))) bl (within a rest (TakeBlock s c)) st rest (SeeBlock (Search s) false c) tt st.at
+        (ground_take p lay w g b owner t c z e (slot_size-class (made_words p s))) bl (within a rest (TakeBlock s c)) st rest
+        (SeeBlock (Search s) false c) tt st.at
         (record {
           at = (has_passed_later p lay w b by v b (put by c k) k bl (Search s) c be.at.0, λ _. be.at.1);
           mine = other_mine p lay w g b said by k owner t (put by c k) c (Swept (made_slot p s)) (TakeBlock s c) (SeeBlock (Search s) false c) be
@@ -217,8 +223,12 @@ module _ (p : Program) (lay : Constants) (w : Words) (g : Graph) (b : Book) (sai
           swept = λ j y e. e;
           used = λ j y m e u. put-from (λ j used. bit_at used m ≡ 1) w.used c (bit_or (w.used c) (2 ^ i)) (bit_kept (w.used c) i m) j u;
           past = λ j h. h;
-          held = λ j y l e o. (e, refl, put-other w.used c (bit_or (w.used c) (2 ^ i)) j
-              (λ r. let f : Swept z ≡ Sweeping y = sym q.2 ∙ ap w.block (sym r) ∙ e in cc));
+          held = λ j y l e o. (
+            e,
+            refl,
+            put-other w.used c (bit_or (w.used c) (2 ^ i)) j
+                (λ r. let f : Swept z ≡ Sweeping y = sym q.2 ∙ ap w.block (sym r) ∙ e in cc),
+          );
           zeros = λ j y m x l e f u lo hi r. r;
           begun = λ j y l e o. (e, refl);
           settled = λ j y l e o. (e, refl);
@@ -236,12 +246,12 @@ module _ (p : Program) (lay : Constants) (w : Words) (g : Graph) (b : Book) (sai
           };
           found = λ m j st l lo. elim (cases_eq m new) [
             | inl e ↦ inr (
-              let a = put-at b.address new x m e in
-              let u = slot_fits z i q.3 in
-              let under : j < c = omega arith in
-              let size : slot_words (put g.size new n m) ≡ z = ap slot_words (put-at g.size new n m e) in
-              subst (λ y. IsPassed v b.owed y j) (sym size) (passed_later p lay w b by v (placed_in b Old new x) by k bl z j (q.0 j under))
-            )
+                let a = put-at b.address new x m e in
+                let u = slot_fits z i q.3 in
+                let under : j < c = omega arith in
+                let size : slot_words (put g.size new n m) ≡ z = ap slot_words (put-at g.size new n m e) in
+                subst (λ y. IsPassed v b.owed y j) (sym size) (passed_later p lay w b by v (placed_in b Old new x) by k bl z j (q.0 j under))
+                )
             | inr d ↦ inl (sym (put-other b.stands new true m d) ∙ st)
           ];
         }

@@ -121,7 +121,8 @@ wanted_at_opening w actors going idle = record {
   ];
 }
 
-module _ (p : Program) (lay : Constants) (w : Words) (actors : ℕ → Actor) (k : ℕ) (e : Step) (d : Bool) (b : Actor) (comes : NextStep p lay (actors k) e d b) (saw : Saw w e) (so : Wanted w actors) where
+module _ (p : Program) (lay : Constants) (w : Words) (actors : ℕ → Actor) (k : ℕ) (e : Step) (d : Bool) (b : Actor)
+    (comes : NextStep p lay (actors k) e d b) (saw : Saw w e) (so : Wanted w actors) where
   step : Stops w (actors k) e b
   step = stops p lay w (actors k) e d b comes saw
 
@@ -148,9 +149,13 @@ module _ (p : Program) (lay : Constants) (w : Words) (actors : ℕ → Actor) (k
     ];
   }
 
-pub wanted_so : (p : Program) (lay : Constants) (es : List Event) (w : Words) (actors last : ℕ → Actor) → Legal w (ticks es) → ((k : ℕ) → Follows p lay (actors k) (part k es) (last k)) →
+pub wanted_so : (p : Program) (lay : Constants) (es : List Event) (w : Words) (actors last : ℕ → Actor) → Legal w (ticks es) →
+    ((k : ℕ) → Follows p lay (actors k) (part k es) (last k)) →
     Wanted w actors → Wanted (after w (ticks es)) last
-wanted_so p lay [] w actors last legal follows so = record { stop = λ set. over (so.stop set); yielded = λ k y. over (so.yielded k (ap (λ (a : Actor). a.mid) (sym (follows k)) ∙ y)) }
+wanted_so p lay [] w actors last legal follows so = record {
+  stop = λ set. over (so.stop set);
+  yielded = λ k y. over (so.yielded k (ap (λ (a : Actor). a.mid) (sym (follows k)) ∙ y));
+}
   where
     over : IsWanted actors → IsWanted last
     over (k, s, gone) = (k, s, ap (λ (a : Actor). a.mid) (follows k) ∙ gone)
@@ -158,5 +163,6 @@ wanted_so p lay (e ∷ es) w actors last legal follows so =
     let k = e.by in
     let mine = subst (λ q. Follows p lay (actors k) q (last k)) (part-same e es) (follows k) in
     wanted_so p lay es (after_step w e.tick.step) (put actors k mine.0) last legal.1
-    (put-all (λ j a. Follows p lay a (part j es) (last j)) actors k mine.0 mine.2 (λ j n. subst (λ q. Follows p lay (actors j) q (last j)) (part-other j e es n) (follows j)))
+    (put-all (λ j a. Follows p lay a (part j es) (last j)) actors k mine.0 mine.2
+    (λ j n. subst (λ q. Follows p lay (actors j) q (last j)) (part-other j e es n) (follows j)))
     (wanted_step p lay w actors k e.tick.step e.tick.decides mine.0 mine.1 legal.0 so)

@@ -92,7 +92,8 @@ module _ (p : Program) (lay : Constants) (w : Words) (g : Graph) (b : Book) (sai
       Sweeps p w.block by k c z → i < slots z → bit_at (lay.marks c) i ≡ 0 → slot_at p c z i ≤ x → x < slot_at p c z i + z →
       IsQuiet from → ((d y : ℕ) → IsInSweep d y from → IsInSweep d y next) → ((d y : ℕ) → IsInSearch p d y from → ⊥) →
       AtMid p lay (zeroed x) g b said k st.entry st.answers rest next →
-      (BlockLater p lay w b by (zeroed x) b by k → KnowsAt p lay (zeroed x) b.owed by k next) → Both p lay w g b said by k by from false (zeroed x) (within a rest next)
+      (BlockLater p lay w b by (zeroed x) b by k → KnowsAt p lay (zeroed x) b.owed by k next) →
+      Both p lay w g b said by k by from false (zeroed x) (within a rest next)
   zeroes u c z i x from next st be sw f o lo hi quiet same unf at here =
       let owing : IsOwing (w.block c) z = subst (λ state. IsOwing state z) (sym sw.word) refl in
       let l = later_zero p lay w g b said by k owner t c z i x owing f o lo hi in
@@ -207,8 +208,10 @@ module _ (p : Program) (lay : Constants) (w : Words) (g : Graph) (b : Book) (sai
       moves_on p lay w g b said by k owner t v by owner (later_same p lay w g b said by k owner t v refl refl) ground bl
       (within a rest (ClearSlots u c z i)) st rest (SeeBlock u true c) tt st.at (record {
         at = (has_passed_later p lay w b by v b by k bl u c be.at.0, λ _. q.there);
-        mine = other_mine p lay w g b said by k owner t by c state (ClearSlots u c z i) (SeeBlock u true c) be (λ d o. refl) (λ y r. absurd (not y r)) (λ d y n h. n h.0);
-        fills = other_fills p lay w g b said by k owner t by c state (ClearSlots u c z i) (SeeBlock u true c) be (λ d o. refl) (λ y r. inl (has y r)) (λ d y h. h);
+        mine = other_mine p lay w g b said by k owner t by c state (ClearSlots u c z i) (SeeBlock u true c) be (λ d o. refl)
+            (λ y r. absurd (not y r)) (λ d y n h. n h.0);
+        fills = other_fills p lay w g b said by k owner t by c state (ClearSlots u c z i) (SeeBlock u true c) be (λ d o. refl)
+            (λ y r. inl (has y r)) (λ d y h. h);
       })
 
   -- the block is swept, or free where nothing is marked
@@ -220,10 +223,12 @@ module _ (p : Program) (lay : Constants) (w : Words) (g : Graph) (b : Book) (sai
       let q = be.at.1 in
       let sw = q.sweeps in
       let zero = all_zero c z i marked q.zero in
-      by_marks (λ state. Both p lay w g b said by k by (ClearSlots u c z i) false (record w { block = put w.block c state }) (within a rest (SeeBlock u true c)))
+      by_marks (λ state. Both p lay w g b said by k by (ClearSlots u c z i) false (record w { block = put w.block c state })
+      (within a rest (SeeBlock u true c)))
       z (lay.marks c)
       (λ bare. finishes u c z i Free tt (λ y e. cc) (λ y e. cc) st be (ground_free p lay w g b owner t c z sw.word q.occupied zero bare))
-      (λ some. finishes u c z i (Swept z) tt (λ y e. cc) (λ y r. has c z sw.there sw.word some) st be (ground_close p lay w g b owner t c z sw.word q.occupied zero))
+      (λ some. finishes u c z i (Swept z) tt (λ y e. cc) (λ y r. has c z sw.there sw.word some) st be
+      (ground_close p lay w g b owner t c z sw.word q.occupied zero))
     where
       -- an object stands in a marked slot
       has : (c z : ℕ) → c < p.config.blocks → w.block c ≡ Sweeping z → lay.marks c ≢ 0 → HasObject p b.stands b.address c

@@ -5,8 +5,8 @@ ghost use Rattle.sg_order.specs.Serving.{StaysReady, ServesReady};
 
 use sg_graph::blocks_go;
 
-/// The law of one order: every legal list of atomic steps of mutators that follow their programs is explained by one
-/// order of whole statements, that of the deciding steps.
+/// The law of one order: every legal list of atomic steps of mutators, and of a background sweeper, that follow their programs is
+/// explained by one order of whole statements, that of the deciding steps; each owed block is swept at most once, and by one of them.
 pub fn one_order()
     ensures { OneOrder }
 {

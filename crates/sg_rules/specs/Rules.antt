@@ -351,7 +351,8 @@ pub data BlockComes (p : Program) (lay : Constants) : Actor → Step → Bool �
   clears_last : (a : Actor) (t : Task) (rest : List Statement) (c z i f : ℕ) → f + 1 ≡ z →
       BlockComes p lay (within a rest (ClearWords t c z i f)) (OnBlock (Zero (slot_word p c z i f))) false (within a rest (ClearSlots t c z (i + 1)))
   ends_sweep : (a : Actor) (t : Task) (rest : List Statement) (c z i : ℕ) → AreMarked lay c i (slots z) →
-      BlockComes p lay (within a rest (ClearSlots t c z i)) (OnBlock (StoreBlock c (swept_word (Need z) (lay.marks c)))) false (within a rest (SeeBlock t true c))
+      BlockComes p lay (within a rest (ClearSlots t c z i)) (OnBlock (StoreBlock c (swept_word (Need z) (lay.marks c)))) false
+      (within a rest (SeeBlock t true c))
   -- the background sweeper: it looks at the stop word as its turn begins, passes over what isn't owed, and ends behind the last block
   roams_on : (a : Actor) (rest : List Statement) (c : ℕ) →
       BlockComes p lay (within a rest (SeeBlock Roam true c)) (Load Stop 0) false (within a rest (onward p Roam c))
