@@ -1,5 +1,5 @@
 -- The exchange of a fragment's next word, with which a turn begins, over any port.
-use Rattle.std.proofs.Common.{◌≡◌, ℕ, ◌+◌, ◌-◌, ◌*◌, ◌<◌, ◌≤◌, min, max, true, false, refl, sym, ap, ◌∙◌, subst, arith}
+use Rattle.std.proofs.Common.{◌≡◌, ℕ, ◌+◌, ◌-◌, ◌*◌, ◌<◌, ◌≤◌, min, max, true, false, inl, refl, sym, ap, ◌∙◌, subst, arith}
 use Rattle.sg_words.specs.Address.{byte_at, word_at}
 use Rattle.sg_words.proofs.Numbers.{word_at-byte_at}
 use Rattle.sg_words.specs.declared.steps.Place.TheVariants.{Next}
@@ -16,7 +16,7 @@ use Rattle.sg_actor.specs.declared.mutator.Stage.{Stage}
 use Rattle.sg_actor.specs.declared.mutator.Stage.TheVariants.{Claiming}
 use Rattle.sg_actor.specs.State.{Mutating, actor_of, mid_of}
 use Rattle.sg_actor.proofs.Ports.{Ports, On, Gone, Did, none_yet, may_act, saw_it}
-use Rattle.sg_actor.proofs.Seen.{saw_at}
+use Rattle.sg_actor.proofs.Seen.{saw_next}
 use Rattle.sg_actor.proofs.Turnings.{Turned, first_on, turned}
 
 module _ {P : Type 0} (o : Ports P) (m : Mutating) (lay : Constants) (s : Statement) (f next : ℕ) (stage : m.stage ≡ Claiming s f next) (x : P) (on : On o m.program lay x (actor_of m)) where
@@ -44,7 +44,7 @@ module _ {P : Type 0} (o : Ports P) (m : Mutating) (lay : Constants) (s : Statem
 
   pub exchange_may : (end : ℕ) → end ≡ new → o.may x (Swaps (Next f) (byte_at next) end)
   exchange_may end e = subst (λ n. o.may x (Swaps (Next f) (byte_at next) n)) (sym e)
-      (may_act o m.program lay there there x x here (none_yet o m.program lay there x here) (Won (Next f) (byte_at next) new) true owner (claim_wins (actor_of m) s m.script f next))
+      (may_act o m.program lay there there x x here (none_yet o m.program lay there x here) (Won (Next f) (byte_at next) new) true owner (inl (claim_wins (actor_of m) s m.script f next)))
 
   -- so the code works it out
   pub ends_at : (limit want : ℕ) → limit ≡ lay.limit f → want ≡ max (made_words m.program s) m.program.config.buffer → byte_at (word_at (byte_at next) + min (limit - word_at (byte_at next)) want) ≡ new
@@ -56,7 +56,7 @@ module _ {P : Type 0} (o : Ports P) (m : Mutating) (lay : Constants) (s : Statem
   -- it was won
   module _ (y : P) (end : ℕ) (e : end ≡ new) (did : Did o m.program lay x (Won (Next f) (byte_at next) end) y) where
     wins : Acts m.program lay (actor_of m) (Won (Next f) (byte_at next) new) owner
-    wins = from_here (Won (Next f) (byte_at next) new) owner (true, claim_wins (actor_of m) s m.script f next)
+    wins = from_here (Won (Next f) (byte_at next) new) owner (true, inl (claim_wins (actor_of m) s m.script f next))
 
     as_won : Did o m.program lay x (Won (Next f) (byte_at next) new) y
     as_won = subst (λ n. Did o m.program lay x (Won (Next f) (byte_at next) n) y) e did
@@ -75,8 +75,8 @@ module _ {P : Type 0} (o : Ports P) (m : Mutating) (lay : Constants) (s : Statem
     later : (at : ℕ) × (next < at) × (found ≡ byte_at at)
     later =
         let n = saw_it o m.program lay there there x x here (none_yet o m.program lay there x here) (Won (Next f) (byte_at next) new) true owner (Lost (Next f) (byte_at next) new found)
-        (claim_wins (actor_of m) s m.script f next) refl as_lost.0 in
-        saw_at m.program lay there (Lost (Next f) (byte_at next) new found) n.0.1.0 n.0.0 n.0.1.1
+        (inl (claim_wins (actor_of m) s m.script f next)) refl as_lost.0 in
+        saw_next m.program lay there (Lost (Next f) (byte_at next) new found) n.0.1.0 n.0.0 n.0.1.1
 
     pub found_later : next < word_at found
     found_later = let is : found ≡ 8 * later.0 = later.2 in let l : next < later.0 = later.1 in omega arith
@@ -93,7 +93,7 @@ module _ {P : Type 0} (o : Ports P) (m : Mutating) (lay : Constants) (s : Statem
     -- the fragment still has room
     pub moved_turn : word_at found + made_words m.program s ≤ lay.limit f → (b : Actor) → b ≡ within (actor_of m) m.script (Claim s f (word_at found)) → Turned o m.program lay (actor_of m) x b y
     moved_turn room b is =
-        let moves = from_here lost (within (actor_of m) m.script (Claim s f (word_at found))) (false, claim_moves (actor_of m) s m.script f next (word_at found) found_later room) in
+        let moves = from_here lost (within (actor_of m) m.script (Claim s f (word_at found))) (false, inl (claim_moves (actor_of m) s m.script f next (word_at found) found_later room)) in
         let at = first_on o m.program lay (actor_of m) (within (actor_of m) m.script (Claim s f (word_at found))) x y lost on moves as_whole in
         subst (λ (c : Actor). Turned o m.program lay (actor_of m) x c y) (sym is)
         (turned o m.program lay (actor_of m) (within (actor_of m) m.script (Claim s f (word_at found))) x y lost on moves as_whole _ y (none_yet o m.program lay _ y at) tt)
@@ -104,7 +104,7 @@ module _ {P : Type 0} (o : Ports P) (m : Mutating) (lay : Constants) (s : Statem
       behind = within (actor_of m) m.script (looking lay s (f + 1))
 
       goes : Acts m.program lay (actor_of m) lost behind
-      goes = from_here lost behind (false, claim_goes_on (actor_of m) s m.script f next (word_at found) found_later short)
+      goes = from_here lost behind (false, inl (claim_goes_on (actor_of m) s m.script f next (word_at found) found_later short))
 
       pub behind_on : On o m.program lay y behind
       behind_on = first_on o m.program lay (actor_of m) behind x y lost on goes as_whole

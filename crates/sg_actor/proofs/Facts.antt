@@ -12,8 +12,8 @@ use Rattle.sg_program.specs.declared.program.Statement.TheVariants.{New, NewV, M
 use Rattle.sg_program.specs.declared.program.Program.{Program}
 use Rattle.sg_program.specs.declared.answers.Answer.TheVariants.{Yes, No}
 use Rattle.sg_program.specs.declared.answers.Request.{Request}
-use Rattle.sg_program.specs.declared.answers.Request.TheVariants.{Need, Minor, Major, Sections as AllSections}
-use Rattle.sg_program.specs.Scripts.{IsMaking, IsCollecting, made_in, made_class, made_words, IsRequestOf}
+use Rattle.sg_program.specs.declared.answers.Request.TheVariants.{Need, Slot, Minor, Major, Sections as AllSections}
+use Rattle.sg_program.specs.Scripts.{IsMaking, IsMature, MakesObject, IsCollecting, made_in, made_class, made_words, made_slot, IsRequestOf}
 use Rattle.sg_program.specs.Invariants.{AreWithinLimits, IsGood, IsBuilt}
 use Rattle.sg_program.specs.Tests.{Test, test_of}
 use Rattle.sg_rules.specs.Rules.{Constants, Look, Ask, Actor, IsInHeap, IsReference, looking, unhidden}
@@ -57,6 +57,10 @@ needs p (New r class) words making e = e
 needs p (NewV r class count) words making e = e
 needs p s words making e = absurd making
 
+pub wants_slot : (p : Program) (s : Statement) (size : ℕ) → IsMature s → size ≡ made_slot p s → IsRequestOf p s (Slot size)
+wants_slot p (Mature r class) size mature e = e
+wants_slot p s size mature e = absurd mature
+
 -- what a statement asks for in any case is its request, and no register is set
 pub collects : (p : Program) (s : Statement) (request : Request) → IsCollecting s request → IsRequestOf p s request × (made_in s < 16)
 collects p (Collect false) Minor is = (tt, omega arith)
@@ -66,43 +70,48 @@ collects p s request is = absurd is
 
 -- a statement that is run now, tests no object, asks for nothing in any case and is none of these touches no shared word but the stop word
 pub is_direct : (p : Program) (s : Statement) → IsBuilt p s → test_of s ≡ None → ((request : Request) → ¬ IsCollecting s request) →
-    ((r class : ℕ) → s ≢ New r class) → ((r class count : ℕ) → s ≢ NewV r class count) → ((d r offset : ℕ) → s ≢ Hide d r offset) →
+    ((r class : ℕ) → s ≢ New r class) → ((r class count : ℕ) → s ≢ NewV r class count) → ((r class : ℕ) → s ≢ Mature r class) →
+    ((d r offset : ℕ) → s ≢ Hide d r offset) →
     ((x r : ℕ) → s ≢ GPut x r) → ((r x : ℕ) → s ≢ GGet r x) → IsDirect s
-is_direct p (New r class) built none quiet new newv hide gput gget = absurd (new r class refl)
-is_direct p (NewV r class count) built none quiet new newv hide gput gget = absurd (newv r class count refl)
-is_direct p (Mature r class) built none quiet new newv hide gput gget = absurd built
-is_direct p (Put r i s) built none quiet new newv hide gput gget = cc
-is_direct p (Get d r i) built none quiet new newv hide gput gget = cc
-is_direct p (PutD r i s) built none quiet new newv hide gput gget = cc
-is_direct p (GetD d r i) built none quiet new newv hide gput gget = cc
-is_direct p (Num d n) built none quiet new newv hide gput gget = tt
-is_direct p (Move d s) built none quiet new newv hide gput gget = tt
-is_direct p (Hide d s offset) built none quiet new newv hide gput gget = absurd (hide d s offset refl)
-is_direct p (Unhide d s) built none quiet new newv hide gput gget = tt
-is_direct p (Drop r) built none quiet new newv hide gput gget = tt
-is_direct p (Push r) built none quiet new newv hide gput gget = tt
-is_direct p (Pop r) built none quiet new newv hide gput gget = tt
-is_direct p (GPut x r) built none quiet new newv hide gput gget = absurd (gput x r refl)
-is_direct p (GGet r x) built none quiet new newv hide gput gget = absurd (gget r x refl)
-is_direct p (WSet w r long) built none quiet new newv hide gput gget = absurd built
-is_direct p (WGet r w) built none quiet new newv hide gput gget = absurd built
-is_direct p (Final r) built none quiet new newv hide gput gget = absurd built
-is_direct p (NextFin r) built none quiet new newv hide gput gget = absurd built
-is_direct p (Same r s) built none quiet new newv hide gput gget = tt
-is_direct p (Collect true) built none quiet new newv hide gput gget = absurd (quiet Major tt)
-is_direct p (Collect false) built none quiet new newv hide gput gget = absurd (quiet Minor tt)
-is_direct p Sections built none quiet new newv hide gput gget = absurd (quiet AllSections tt)
+is_direct p (New r class) built none quiet new newv mature hide gput gget = absurd (new r class refl)
+is_direct p (NewV r class count) built none quiet new newv mature hide gput gget = absurd (newv r class count refl)
+is_direct p (Mature r class) built none quiet new newv mature hide gput gget = absurd (mature r class refl)
+is_direct p (Put r i s) built none quiet new newv mature hide gput gget = cc
+is_direct p (Get d r i) built none quiet new newv mature hide gput gget = cc
+is_direct p (PutD r i s) built none quiet new newv mature hide gput gget = cc
+is_direct p (GetD d r i) built none quiet new newv mature hide gput gget = cc
+is_direct p (Num d n) built none quiet new newv mature hide gput gget = tt
+is_direct p (Move d s) built none quiet new newv mature hide gput gget = tt
+is_direct p (Hide d s offset) built none quiet new newv mature hide gput gget = absurd (hide d s offset refl)
+is_direct p (Unhide d s) built none quiet new newv mature hide gput gget = tt
+is_direct p (Drop r) built none quiet new newv mature hide gput gget = tt
+is_direct p (Push r) built none quiet new newv mature hide gput gget = tt
+is_direct p (Pop r) built none quiet new newv mature hide gput gget = tt
+is_direct p (GPut x r) built none quiet new newv mature hide gput gget = absurd (gput x r refl)
+is_direct p (GGet r x) built none quiet new newv mature hide gput gget = absurd (gget r x refl)
+is_direct p (WSet w r long) built none quiet new newv mature hide gput gget = absurd built
+is_direct p (WGet r w) built none quiet new newv mature hide gput gget = absurd built
+is_direct p (Final r) built none quiet new newv mature hide gput gget = absurd built
+is_direct p (NextFin r) built none quiet new newv mature hide gput gget = absurd built
+is_direct p (Same r s) built none quiet new newv mature hide gput gget = tt
+is_direct p (Collect true) built none quiet new newv mature hide gput gget = absurd (quiet Major tt)
+is_direct p (Collect false) built none quiet new newv mature hide gput gget = absurd (quiet Minor tt)
+is_direct p Sections built none quiet new newv mature hide gput gget = absurd (quiet AllSections tt)
 
 -- the operands of a statement that makes an object
-pub made_register : (p : Program) (s : Statement) → IsMaking s → IsGood p s → made_in s < 16
+pub made_register : (p : Program) (s : Statement) → MakesObject s → IsGood p s → made_in s < 16
 made_register p (New r class) making good = let l : r ≤ 15 = good.operands in omega arith
 made_register p (NewV r class count) making good = let l : r ≤ 15 = good.operands.0 in omega arith
-made_register p s making good = absurd making
+made_register p (Mature r class) making good = let l : r ≤ 15 = good.operands in omega arith
+made_register p s (inl making) good = absurd making
+made_register p s (inr mature) good = absurd mature
 
-pub made_class_there : (p : Program) (s : Statement) → IsMaking s → IsGood p s → made_class s < length p.classes
+pub made_class_there : (p : Program) (s : Statement) → MakesObject s → IsGood p s → made_class s < length p.classes
 made_class_there p (New r class) making good = good.names
 made_class_there p (NewV r class count) making good = good.names
-made_class_there p s making good = absurd making
+made_class_there p (Mature r class) making good = good.names
+made_class_there p s (inl making) good = absurd making
+made_class_there p s (inr mature) good = absurd mature
 
 -- the register of an object test
 abbrev IsIn16 : Option Test → Type 0

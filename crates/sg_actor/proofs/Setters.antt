@@ -1,5 +1,5 @@
 -- What a written register, offset or stack makes of a mutator, and statements that the load of the stop word decides.
-use Rattle.std.proofs.Common.{◌≡◌, ℕ, ◌+◌, ◌<◌, true, List, [], ◌∷◌, ◌++◌, length, slice_index, slice_set, map, reverse, refl, sym, ap, ◌∙◌, subst}
+use Rattle.std.proofs.Common.{◌≡◌, ℕ, ◌+◌, ◌<◌, true, List, [], ◌∷◌, ◌++◌, length, slice_index, slice_set, map, reverse, inl, refl, sym, ap, ◌∙◌, subst}
 use Rattle.sg_words.specs.declared.steps.Place.TheVariants.{Stop}
 use Rattle.sg_words.specs.declared.steps.Step.TheVariants.{Load}
 use Rattle.sg_words.specs.Words.{put}
@@ -47,7 +47,7 @@ becomes_as m k a b at e becomes = record { actor = becomes.actor ∙ e; stage = 
 -- the stop word's load decides the statement, and then the mutator is so
 pub decides_by : (m k : Mutating) (s : Statement) (b : Actor) → Becomes m k b Between → ((lay : Constants) → Comes m.program lay (before_this m s) (Load Stop 0) true b) → Decides m s k
 decides_by m k s b becomes n = record {
-  comes = λ lay. (true, subst (λ (a : Actor). Comes m.program lay (before_this m s) (Load Stop 0) true a) (sym becomes.actor) (n lay));
+  comes = λ lay. (true, inl (subst (λ (a : Actor). Comes m.program lay (before_this m s) (Load Stop 0) true a) (sym becomes.actor) (n lay)));
   stage = becomes.stage;
   same = becomes.same;
 }

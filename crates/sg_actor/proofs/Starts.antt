@@ -12,10 +12,10 @@ use Rattle.sg_rules.specs.Rules.Comes.{yields}
 use Rattle.sg_rules.specs.Sane.{RestsOn, MayBegin, IsSaneAt}
 use Rattle.sg_rules.specs.Acting.{Acts, RestsAt}
 use Rattle.sg_actor.specs.declared.mutator.Stage.{Stage}
-use Rattle.sg_actor.specs.declared.mutator.Stage.TheVariants.{Between, Within, Claiming, Ended, Asking, Yielded}
+use Rattle.sg_actor.specs.declared.mutator.Stage.TheVariants.{Between, Within, Claiming, OpeningBlock, TakingSlot, TakingOver, Sweeping, BehindSweep, Ended, Asking, Yielded}
 use Rattle.sg_actor.specs.State.{Mutating, mid_of, actor_of, IsSameMutator}
 use Rattle.sg_actor.specs.Turning.{before_this, IsResting, IsBehindTurn, HasClassFor}
-use Rattle.sg_actor.proofs.Ports.{Ports, On, Did, none_yet, loads_may}
+use Rattle.sg_actor.proofs.Ports.{Ports, On, Did, none_yet, may_act}
 use Rattle.sg_actor.proofs.Turnings.{Begun, Ran, Turned, first_on, turned, turned_by}
 
 -- a list that isn't empty has a first element
@@ -42,6 +42,11 @@ pub rests_at : (p : Program) (stage : Stage) → IsResting p stage → RestsAt (
 rests_at p Between is = tt
 rests_at p Within is = tt
 rests_at p (Claiming statement fragment next) is = tt
+rests_at p (OpeningBlock statement block) is = tt
+rests_at p (TakingSlot statement block slot) is = tt
+rests_at p (TakingOver statement block size) is = tt
+rests_at p (Sweeping statement block size) is = tt
+rests_at p (BehindSweep statement block) is = tt
 rests_at p Ended is = tt
 rests_at p (Asking statement request) is = tt
 rests_at p Yielded is = tt
@@ -99,12 +104,13 @@ module _ (m : Mutating) (between : m.stage ≡ Between) (s : Statement) (rest : 
     yields_now : (saw : ℕ) → saw ≢ 0 → Acts m.program lay (actor_of m) (Load Stop saw) (within (actor_of m) m.script HasYielded)
     yields_now saw set =
         subst (λ (a : Actor). Acts m.program lay a (Load Stop saw) (within (actor_of m) m.script HasYielded)) (sym before_is)
-        (subst (λ script. Acts m.program lay (before (actor_of m) s rest) (Load Stop saw) (within (actor_of m) script HasYielded)) (sym is) (false, yields (actor_of m) s rest saw set))
+        (subst (λ script. Acts m.program lay (before (actor_of m) s rest) (Load Stop saw) (within (actor_of m) script HasYielded)) (sym is) (false, inl (yields (actor_of m) s rest saw set)))
 
     pub stop_seen : o.may x (Loads Stop)
     stop_seen =
         let set = some_set 1 refl in
-        loads_may o m.program lay (actor_of m) (actor_of m) x x on (none_yet o m.program lay (actor_of m) x on) Stop Stop refl (yields_now 1 set).0 (within (actor_of m) m.script HasYielded) 1 (yields_now 1 set).1
+        may_act o m.program lay (actor_of m) (actor_of m) x x on (none_yet o m.program lay (actor_of m) x on) (Load Stop 1) (yields_now 1 set).0
+        (within (actor_of m) m.script HasYielded) (yields_now 1 set).1
 
     pub gives_way : (y : P) (saw : ℕ) (k : Actor) → saw ≢ 0 → Did o m.program lay x (Load Stop saw) y → k ≡ within (actor_of m) m.script HasYielded → Turned o m.program lay (actor_of m) x k y
     gives_way y saw k set did e =

@@ -6,7 +6,7 @@ use Rattle.sg_words.specs.declared.steps.Step.TheVariants.{Load}
 use Rattle.sg_words.specs.Programs.{Goes}
 use Rattle.sg_words.proofs.Programs.{going, goes_on, guided}
 use Rattle.sg_program.specs.declared.program.Program.{Program}
-use Rattle.sg_rules.specs.Rules.{Constants, Actor, Mid, Comes, within}
+use Rattle.sg_rules.specs.Rules.{Constants, Actor, Mid, NextStep, within}
 use Rattle.sg_rules.specs.Sane.{IsSane}
 use Rattle.sg_rules.specs.Acting.{Acts, RestsAt, HasTurned}
 use Rattle.sg_actor.specs.State.{Mutating, actor_of}
@@ -27,7 +27,7 @@ midst n a mid e = ap (λ (b : Actor). within b b.script mid) e
 
 module _ {P : Type 0} (o : Ports P) (p : Program) (lay : Constants) where
   abbrev pub Begun : P → Actor → Type 0
-  Begun x a = HasBegun p lay o.leads o.may o.sees o.fragments o.limit x a
+  Begun x a = HasBegun p lay o.leads o.may o.sees o.fragments o.limit o.blocks o.heap o.marks x a
 
   abbrev pub Ran : Actor → P → Actor → P → Type 0
   Ran a x b y = HasRun p lay o.leads a x b y
@@ -45,6 +45,9 @@ module _ {P : Type 0} (o : Ports P) (p : Program) (lay : Constants) where
       guided = guided (Acts p lay) (IsSane p lay) o.leads o.may o.sees o.stays o.chains x y a b on.guided went;
       fragments_are = (o.fixed x y (s ∷ []) did.1).0 ∙ on.fragments_are;
       limits_are = (o.fixed x y (s ∷ []) did.1).1 ∙ on.limits_are;
+      blocks_are = o.fixed_blocks x y (s ∷ []) did.1 ∙ on.blocks_are;
+      heap_is = (o.fixed_sweep x y (s ∷ []) did.1).1 ∙ on.heap_is;
+      marks_are = (o.fixed_sweep x y (s ∷ []) did.1).0 ∙ on.marks_are;
     }
 
     -- one turn
@@ -57,7 +60,7 @@ module _ {P : Type 0} (o : Ports P) (p : Program) (lay : Constants) where
     }
 
   -- a statement has begun with the load of the stop word
-  module _ (a b : Actor) (x : P) (begun : Begun x a) (d : Bool) (n : Comes p lay a (Load Stop 0) d b) where
+  module _ (a b : Actor) (x : P) (begun : Begun x a) (d : Bool) (n : NextStep p lay a (Load Stop 0) d b) where
     pub ran : (c : Actor) (y : P) → Gone o p lay b x c y → Ran a x c y
     ran c y gone = record { begun = b; begins = (d, n); goes = gone }
 

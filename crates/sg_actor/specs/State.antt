@@ -1,5 +1,5 @@
 -- What a contract sees of a mutator.
-use Rattle.std.specs.Prelude.{◌≡◌, ℕ, ◌+◌, ◌<◌, ◌≤◌, Option, Some, None, List, [], ◌++◌, length, map, reverse, slice_index}
+use Rattle.std.specs.Prelude.{◌≡◌, ℕ, ◌+◌, ◌<◌, ◌≤◌, true, Option, Some, None, List, [], ◌++◌, length, map, reverse, slice_index}
 use Rattle.sg_program.specs.declared.program.Program.{Program}
 use Rattle.sg_program.specs.declared.program.Statement.{Statement}
 use Rattle.sg_program.specs.declared.answers.Answer.{Answer}
@@ -8,10 +8,11 @@ use Rattle.sg_program.specs.declared.answers.Leave.TheVariants.{Ended as HasEnde
 use Rattle.sg_program.specs.Scripts.{script_of, made_in, IsRequestOf}
 use Rattle.sg_program.specs.Invariants.{IsWithinLimits}
 use Rattle.sg_rules.specs.Rules.{Mid, Idle, Claim, Left, Yielded as HasYielded, StackWord, Actor}
+use Rattle.sg_rules.specs.Rules.{Search, SeeBlock, TakeBlock, TakeSlot, TakeOver, StoreOccupancy}
 use Rattle.sg_rules.specs.Resting.{IsServiceOf, served}
 use Rattle.sg_actor.specs.declared.mutator.Held.{Held}
 use Rattle.sg_actor.specs.declared.mutator.Stage.{Stage}
-use Rattle.sg_actor.specs.declared.mutator.Stage.TheVariants.{Between, Within, Claiming, Ended, Asking, Yielded}
+use Rattle.sg_actor.specs.declared.mutator.Stage.TheVariants.{Between, Within, Claiming, OpeningBlock, TakingSlot, TakingOver, Sweeping, BehindSweep, Ended, Asking, Yielded}
 
 -- Its program and its number in it; the number of its epoch's first statement; where it stands; its register words, the offsets
 -- beside them, its stack with the top last, and its buffer as numbers of words; the statements to come, without the one in whose
@@ -37,6 +38,11 @@ abbrev pub mid_of : Stage → Mid
 mid_of Between = Idle
 mid_of Within = Idle
 mid_of (Claiming statement fragment next) = Claim statement fragment next
+mid_of (OpeningBlock statement block) = TakeBlock statement block
+mid_of (TakingSlot statement block slot) = TakeSlot statement block slot
+mid_of (TakingOver statement block size) = TakeOver (Search statement) block size
+mid_of (Sweeping statement block size) = StoreOccupancy (Search statement) block size
+mid_of (BehindSweep statement block) = SeeBlock (Search statement) true block
 mid_of Ended = Idle
 mid_of (Asking statement request) = Left statement
 mid_of Yielded = HasYielded
@@ -59,6 +65,11 @@ abbrev pub leave_of : Stage → Option Leave
 leave_of Between = None
 leave_of Within = None
 leave_of (Claiming statement fragment next) = None
+leave_of (OpeningBlock statement block) = None
+leave_of (TakingSlot statement block slot) = None
+leave_of (TakingOver statement block size) = None
+leave_of (Sweeping statement block size) = None
+leave_of (BehindSweep statement block) = None
 leave_of Ended = Some HasEnded
 leave_of (Asking statement request) = Some (Wants request)
 leave_of Yielded = Some Yield
@@ -73,6 +84,11 @@ abbrev pub waiting : Stage → ℕ
 waiting Between = 0
 waiting Within = 1
 waiting (Claiming statement fragment next) = 1
+waiting (OpeningBlock statement block) = 1
+waiting (TakingSlot statement block slot) = 1
+waiting (TakingOver statement block size) = 1
+waiting (Sweeping statement block size) = 1
+waiting (BehindSweep statement block) = 1
 waiting Ended = 0
 waiting (Asking statement request) = 1
 waiting Yielded = 0
@@ -106,6 +122,11 @@ abbrev pub WaitsForNone : Stage → Type 0
 WaitsForNone Between = Unit {0}
 WaitsForNone Within = ⊥
 WaitsForNone (Claiming statement fragment next) = ⊥
+WaitsForNone (OpeningBlock statement block) = ⊥
+WaitsForNone (TakingSlot statement block slot) = ⊥
+WaitsForNone (TakingOver statement block size) = ⊥
+WaitsForNone (Sweeping statement block size) = ⊥
+WaitsForNone (BehindSweep statement block) = ⊥
 WaitsForNone Ended = Unit {0}
 WaitsForNone (Asking statement request) = ⊥
 WaitsForNone Yielded = Unit {0}

@@ -7,25 +7,31 @@ use Rattle.sg_words.specs.declared.steps.Call.{Call}
 use Rattle.sg_program.specs.declared.program.Program.{Program}
 use Rattle.sg_program.specs.declared.program.Statement.{Statement}
 use Rattle.sg_program.specs.declared.answers.Answer.TheVariants.{Field}
-use Rattle.sg_program.specs.Scripts.{IsMaking, made_in, made_class, made_fields, IsRequestOf}
+use Rattle.sg_program.specs.Scripts.{MakesObject, made_in, made_class, made_fields, IsRequestOf}
 use Rattle.sg_program.specs.Tests.{Test, test_of}
-use Rattle.sg_rules.specs.Rules.{Constants, Actor, Access, before, within, over, cleared}
+use Rattle.sg_words.specs.Sections.{old_base}
+use Rattle.sg_rules.specs.Rules.{Constants, Actor, Access, sections_of, before, within, over, cleared}
 use Rattle.sg_rules.specs.Acting.{Acts, IsGuided, HasGoneOn, HasTurned}
 use Rattle.sg_rules.specs.Resting.{IsRunnable}
 use Rattle.sg_actor.specs.declared.mutator.Stage.{Stage}
-use Rattle.sg_actor.specs.declared.mutator.Stage.TheVariants.{Between, Within, Claiming, Ended, Asking, Yielded}
+use Rattle.sg_actor.specs.declared.mutator.Stage.TheVariants.{Between, Within, Claiming, OpeningBlock, TakingSlot, TakingOver, Sweeping, BehindSweep, Ended, Asking, Yielded}
 use Rattle.sg_actor.specs.State.{Mutating, actor_of, IsSameMutator}
 
--- The port has these fragments, and lets the program's mutator, which is a, make each next step from here on.
+-- The port has these fragments, and these blocks with these marks, and lets the program's mutator, which is a, make each next step from here on.
 pub record IsOnPort {P : Type 0} (p : Program) (lay : Constants) (leads : P → List Step → P → Type 0) (may : P → Call → Type 0) (sees : P → Step → Type 0)
-    (fragments : P → ℕ) (limit : P → ℕ → ℕ) (port : P) (a : Actor) : Type 0 where
+    (fragments : P → ℕ) (limit : P → ℕ → ℕ) (blocks heap : P → ℕ) (marks : P → ℕ → ℕ) (port : P) (a : Actor) : Type 0 where
   pub guided : IsGuided p lay leads may sees port a
   pub fragments_are : fragments port ≡ lay.fragments
   pub limits_are : limit port ≡ lay.limit
+  pub blocks_are : blocks port ≡ p.config.blocks
+  pub heap_is : heap port ≡ old_base (sections_of p)
+  pub marks_are : marks port ≡ lay.marks
 
 -- the mutator, which was a, has loaded the stop word as 0 and so begun a statement: whatever it is then, it is on the port
-abbrev pub HasBegun : {P : Type 0} → Program → Constants → (P → List Step → P → Type 0) → (P → Call → Type 0) → (P → Step → Type 0) → (P → ℕ) → (P → ℕ → ℕ) → P → Actor → Type 0
-HasBegun {P} p lay leads may sees fragments limit port a = (b : Actor) → Acts p lay a (Load Stop 0) b → IsOnPort p lay leads may sees fragments limit port b
+abbrev pub HasBegun : {P : Type 0} → Program → Constants → (P → List Step → P → Type 0) → (P → Call → Type 0) → (P → Step → Type 0) → (P → ℕ) →
+    (P → ℕ → ℕ) → (P → ℕ) → (P → ℕ) → (P → ℕ → ℕ) → P → Actor → Type 0
+HasBegun {P} p lay leads may sees fragments limit blocks heap marks port a =
+    (b : Actor) → Acts p lay a (Load Stop 0) b → IsOnPort p lay leads may sees fragments limit blocks heap marks port b
 
 -- the mutator, which was a before it loaded the stop word as 0, has gone on from there to b, where its turn ends or goes on
 pub record HasRun {P : Type 0} (p : Program) (lay : Constants) (leads : P → List Step → P → Type 0) (a : Actor) (port : P) (b : Actor) (port' : P) : Type 0 where
@@ -48,6 +54,11 @@ abbrev pub IsResting : Program → Stage → Type 0
 IsResting p Between = Unit {0}
 IsResting p Within = ⊥
 IsResting p (Claiming statement fragment next) = Unit {0}
+IsResting p (OpeningBlock statement block) = Unit {0}
+IsResting p (TakingSlot statement block slot) = Unit {0}
+IsResting p (TakingOver statement block size) = Unit {0}
+IsResting p (Sweeping statement block size) = Unit {0}
+IsResting p (BehindSweep statement block) = Unit {0}
 IsResting p Ended = ⊥
 IsResting p (Asking statement request) = IsRequestOf p statement request
 IsResting p Yielded = Unit {0}
@@ -86,7 +97,7 @@ HasClassForNext m = m.stage ≡ Between → (s : Statement) (rest : List Stateme
 
 -- what the words of a new object are, by its statement
 pub record IsMadeOf (p : Program) (s : Statement) (r class fields : ℕ) : Type 0 where
-  pub makes : IsMaking s
+  pub makes : MakesObject s
   pub register : r ≡ made_in s
   pub class_is : class ≡ made_class s
   pub fields_are : fields ≡ made_fields p s

@@ -14,13 +14,13 @@ ghost use Rattle.sg_actor.specs.Turning.{IsOnPort, HasBegun, HasRun, before_this
 
 use crate::mutator::Mutator;
 use crate::tools::{ObjectTest, card_at, global_at, has_field, reference, shape};
-use sg_cells::{FragPort, WordPort};
+use sg_cells::{FragPort, SweepPort, WordPort};
 use sg_program::{Answer, Statement};
 use sg_words::plain_class;
 
 impl<'a> Mutator<'a> {
     /// Does a statement with an object test: `put`, `get`, `putd` or `getd`.
-    pub(crate) fn access<P: WordPort + FragPort>(
+    pub(crate) fn access<P: WordPort + FragPort + SweepPort>(
         &mut self,
         port: &mut P,
         statement: Statement,
@@ -30,8 +30,10 @@ impl<'a> Mutator<'a> {
         requires test { test_of statement ≡ Some (as_test test) }
         requires classed { HasClassFor self.old statement }
         requires may { MayBegin self.old.program (actor_of self.old) statement }
-        requires begun { (lay : Constants) × HasBegun self.old.program lay P.leads P.may P.sees P.fragments P.limit port.old (before_this self.old statement) }
-        ensures run { (lay : Constants) → HasBegun self.old.program lay P.leads P.may P.sees P.fragments P.limit port.old (before_this self.old statement) →
+        requires begun { (lay : Constants) × HasBegun self.old.program lay P.leads P.may P.sees P.fragments P.limit P.blocks P.heap P.marks port.old
+            (before_this self.old statement) }
+        ensures run { (lay : Constants) → HasBegun self.old.program lay P.leads P.may P.sees P.fragments P.limit P.blocks P.heap P.marks port.old
+            (before_this self.old statement) →
             HasRun self.old.program lay P.leads (before_this self.old statement) port.old (actor_of self.new) port.new }
         ensures behind { IsBehindTurn self.old self.new }
     {
@@ -58,7 +60,7 @@ impl<'a> Mutator<'a> {
     }
 
     /// Whether the object that the statement tests has such a field: two loads.
-    fn passes<P: WordPort + FragPort>(
+    fn passes<P: WordPort + FragPort + SweepPort>(
         &self,
         port: &mut P,
         statement: Statement,
@@ -66,9 +68,12 @@ impl<'a> Mutator<'a> {
     ) -> bool
         requires test { test_of statement ≡ Some (as_test test) }
         requires classed { 0 < length self.now.program.classes }
-        requires on { (lay : Constants) × IsOnPort self.now.program lay P.leads P.may P.sees P.fragments P.limit port.old (within (actor_of self.now) self.now.script (TestTag statement (as_test test))) }
-        ensures { (lay : Constants) → IsOnPort self.now.program lay P.leads P.may P.sees P.fragments P.limit port.old (within (actor_of self.now) self.now.script (TestTag statement (as_test test))) →
-            HasGoneOn self.now.program lay P.leads (within (actor_of self.now) self.now.script (TestTag statement (as_test test))) port.old (tested self.now statement result) port.new }
+        requires on { (lay : Constants) × IsOnPort self.now.program lay P.leads P.may P.sees P.fragments P.limit P.blocks P.heap P.marks port.old
+            (within (actor_of self.now) self.now.script (TestTag statement (as_test test))) }
+        ensures { (lay : Constants) → IsOnPort self.now.program lay P.leads P.may P.sees P.fragments P.limit P.blocks P.heap P.marks port.old
+            (within (actor_of self.now) self.now.script (TestTag statement (as_test test))) →
+            HasGoneOn self.now.program lay P.leads (within (actor_of self.now) self.now.script (TestTag statement (as_test test))) port.old
+            (tested self.now statement result) port.new }
     {
         let program = self.program;
         let object = self.held(test.register);
@@ -83,7 +88,7 @@ impl<'a> Mutator<'a> {
     }
 
     /// Loads or stores the field of the object that passed the statement's test.
-    fn reach<P: WordPort + FragPort>(
+    fn reach<P: WordPort + FragPort + SweepPort>(
         &mut self,
         port: &mut P,
         statement: Statement,
@@ -91,8 +96,10 @@ impl<'a> Mutator<'a> {
     )
         requires within { self.old.stage ≡ Within }
         requires test { test_of statement ≡ Some (as_test test) }
-        requires on { (lay : Constants) × IsOnPort self.old.program lay P.leads P.may P.sees P.fragments P.limit port.old (within (actor_of self.old) self.old.script (Access statement)) }
-        ensures goes { (lay : Constants) → IsOnPort self.old.program lay P.leads P.may P.sees P.fragments P.limit port.old (within (actor_of self.old) self.old.script (Access statement)) →
+        requires on { (lay : Constants) × IsOnPort self.old.program lay P.leads P.may P.sees P.fragments P.limit P.blocks P.heap P.marks port.old
+            (within (actor_of self.old) self.old.script (Access statement)) }
+        ensures goes { (lay : Constants) → IsOnPort self.old.program lay P.leads P.may P.sees P.fragments P.limit P.blocks P.heap P.marks port.old
+            (within (actor_of self.old) self.old.script (Access statement)) →
             HasGoneOn self.old.program lay P.leads (within (actor_of self.old) self.old.script (Access statement)) port.old (actor_of self.new) port.new }
         ensures stage { self.new.stage ≡ Between }
         ensures same { IsSameMutator self.old self.new }
@@ -118,13 +125,20 @@ impl<'a> Mutator<'a> {
     }
 
     /// Stores a reference in the field at this byte address, and then marks the field's card, where it has one.
-    fn put<P: WordPort + FragPort>(&mut self, port: &mut P, place: u64, r: u8, field: u64, s: u8)
+    fn put<P: WordPort + FragPort + SweepPort>(
+        &mut self,
+        port: &mut P,
+        place: u64,
+        r: u8,
+        field: u64,
+        s: u8,
+    )
         requires within { self.old.stage ≡ Within }
         requires aligned { place % 8 ≡ 0 }
         requires place { word_at place ≡ object_in (actor_of self.old) r + 2 + field }
-        requires on { (lay : Constants) × IsOnPort self.old.program lay P.leads P.may P.sees P.fragments P.limit port.old
+        requires on { (lay : Constants) × IsOnPort self.old.program lay P.leads P.may P.sees P.fragments P.limit P.blocks P.heap P.marks port.old
             (within (actor_of self.old) self.old.script (Access (Put r field s))) }
-        ensures goes { (lay : Constants) → IsOnPort self.old.program lay P.leads P.may P.sees P.fragments P.limit port.old
+        ensures goes { (lay : Constants) → IsOnPort self.old.program lay P.leads P.may P.sees P.fragments P.limit P.blocks P.heap P.marks port.old
             (within (actor_of self.old) self.old.script (Access (Put r field s))) →
             HasGoneOn self.old.program lay P.leads (within (actor_of self.old) self.old.script (Access (Put r field s))) port.old (actor_of self.new) port.new }
         ensures stage { self.new.stage ≡ Between }
@@ -139,12 +153,18 @@ impl<'a> Mutator<'a> {
     }
 
     /// `gput` and `gget`: one store or load.
-    pub(crate) fn global<P: WordPort + FragPort>(&mut self, port: &mut P, statement: Statement)
+    pub(crate) fn global<P: WordPort + FragPort + SweepPort>(
+        &mut self,
+        port: &mut P,
+        statement: Statement,
+    )
         requires within { self.old.stage ≡ Within }
         requires global { IsGlobal statement }
         requires may { MayBegin self.old.program (actor_of self.old) statement }
-        requires begun { (lay : Constants) × HasBegun self.old.program lay P.leads P.may P.sees P.fragments P.limit port.old (before_this self.old statement) }
-        ensures run { (lay : Constants) → HasBegun self.old.program lay P.leads P.may P.sees P.fragments P.limit port.old (before_this self.old statement) →
+        requires begun { (lay : Constants) × HasBegun self.old.program lay P.leads P.may P.sees P.fragments P.limit P.blocks P.heap P.marks port.old
+            (before_this self.old statement) }
+        ensures run { (lay : Constants) → HasBegun self.old.program lay P.leads P.may P.sees P.fragments P.limit P.blocks P.heap P.marks port.old
+            (before_this self.old statement) →
             HasRun self.old.program lay P.leads (before_this self.old statement) port.old (actor_of self.new) port.new }
         ensures behind { IsBehindTurn self.old self.new }
     {
@@ -162,11 +182,19 @@ impl<'a> Mutator<'a> {
     }
 
     /// `hide`: at most one load.
-    pub(crate) fn hide<P: WordPort + FragPort>(&mut self, port: &mut P, d: u8, s: u8, offset: u64)
+    pub(crate) fn hide<P: WordPort + FragPort + SweepPort>(
+        &mut self,
+        port: &mut P,
+        d: u8,
+        s: u8,
+        offset: u64,
+    )
         requires within { self.old.stage ≡ Within }
         requires may { MayBegin self.old.program (actor_of self.old) (Statement.Hide d s offset) }
-        requires begun { (lay : Constants) × HasBegun self.old.program lay P.leads P.may P.sees P.fragments P.limit port.old (before_this self.old (Statement.Hide d s offset)) }
-        ensures run { (lay : Constants) → HasBegun self.old.program lay P.leads P.may P.sees P.fragments P.limit port.old (before_this self.old (Statement.Hide d s offset)) →
+        requires begun { (lay : Constants) × HasBegun self.old.program lay P.leads P.may P.sees P.fragments P.limit P.blocks P.heap P.marks port.old
+            (before_this self.old (Statement.Hide d s offset)) }
+        ensures run { (lay : Constants) → HasBegun self.old.program lay P.leads P.may P.sees P.fragments P.limit P.blocks P.heap P.marks port.old
+            (before_this self.old (Statement.Hide d s offset)) →
             HasRun self.old.program lay P.leads (before_this self.old (Statement.Hide d s offset)) port.old (actor_of self.new) port.new }
         ensures behind { IsBehindTurn self.old self.new }
     {

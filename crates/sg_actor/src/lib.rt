@@ -7,6 +7,7 @@ mod accesses;
 mod making;
 mod mutator;
 mod registers;
+mod searching;
 mod tools;
 mod turns;
 

@@ -34,6 +34,35 @@ pub enum Stage {
         fragment: u32,
         next: u64,
     },
+    /// The exchange is prepared by which this block, which was seen free, gets slots for the object that this statement makes.
+    OpeningBlock {
+        statement: Statement,
+        block: u32,
+    },
+    /// The claim of this slot of this block is prepared, which was seen clear, for the object that this statement makes.
+    TakingSlot {
+        statement: Statement,
+        block: u32,
+        slot: u32,
+    },
+    /// The exchange is prepared by which it takes over the sweep of this block, which was seen owed, with slots of `size` words;
+    /// it came to the block on this statement's search.
+    TakingOver {
+        statement: Statement,
+        block: u32,
+        size: u32,
+    },
+    /// It has taken this block over, and sweeps it in its next turn.
+    Sweeping {
+        statement: Statement,
+        block: u32,
+        size: u32,
+    },
+    /// It has swept this block, and this statement's search goes on there in its next turn.
+    BehindSweep {
+        statement: Statement,
+        block: u32,
+    },
     /// No statement is left.
     Ended,
     /// It has left its epoch with this statement, which asks for this.

@@ -1,12 +1,11 @@
 // What a mutator has in its hands, and the statements that need nothing else.
 ghost use Rattle.std.specs.Prelude.{◌≡◌, ◌≢◌, ◌↔◌, ◌<◌, ℕ, true, [], MatchOption};
 ghost use Rattle.sg_words.specs.Words.{put};
-ghost use Rattle.sg_program.specs.declared.program.Statement.{Statement as AnyStatement};
 ghost use Rattle.sg_program.specs.Scripts.{made_in, IsRequestOf};
 ghost use Rattle.sg_rules.specs.Rules.{Idle, Claim, Left, Yielded as HasYielded, within, over, over_with, owning};
 ghost use Rattle.sg_rules.specs.Sane.{MayBegin};
 ghost use Rattle.sg_actor.specs.declared.mutator.Stage.TheVariants.{Between, Within, Claiming, Ended, Asking, Yielded};
-ghost use Rattle.sg_actor.specs.State.{actor_of, Becomes};
+ghost use Rattle.sg_actor.specs.State.{actor_of, mid_of, waiting, IsStageOf, Becomes};
 ghost use Rattle.sg_actor.specs.Setting.{Begins};
 ghost use Rattle.sg_actor.specs.Testing.{IsDirect};
 ghost use Rattle.sg_actor.specs.Turning.{Decides};
@@ -101,9 +100,19 @@ impl<'a> Mutator<'a> {
         };
     }
 
-    /// It goes on with the statement for which an exchange was prepared.
+    /// It rests there in the midst of its statement, up to its next turn.
+    pub(crate) fn rest_at(&mut self, stage: Stage)
+        requires within { self.old.stage ≡ Within }
+        requires waits { waiting stage ≡ 1 }
+        requires fits { IsStageOf self.old.program stage }
+        ensures { Becomes self.old self.new (within (actor_of self.old) self.old.script (mid_of stage)) stage }
+    {
+        self.stage = stage;
+    }
+
+    /// It goes on with the statement in whose midst it rested.
     pub(crate) fn resume(&mut self)
-        requires { (s : AnyStatement) × (f : ℕ) × (next : ℕ) × (self.old.stage ≡ Claiming s f next) }
+        requires { waiting self.old.stage ≡ 1 }
         ensures { Becomes self.old self.new (within (actor_of self.old) self.old.script Idle) Within }
     {
         self.stage = Stage::Within;

@@ -5,16 +5,17 @@ ghost use Rattle.sg_program.specs.Scripts.{made_in, shape_of, IsCollecting};
 ghost use Rattle.sg_program.specs.Tests.{test_of};
 ghost use Rattle.sg_desc.specs.Shapes.{has_field as field_of_sort};
 ghost use Rattle.sg_words.specs.Address.{IsAddress, byte_at, word_at};
-ghost use Rattle.sg_words.specs.Blocks.{HasCard, card_of};
+ghost use Rattle.sg_words.specs.Blocks.{IsSizeClass, slots, slot_base, HasCard, card_of};
 ghost use Rattle.sg_words.specs.Sections.{globals_base};
 ghost use Rattle.sg_program.specs.Invariants.{AreWithinLimits};
 ghost use Rattle.sg_rules.specs.Rules.{reference_answer};
 ghost use Rattle.sg_rules.specs.Resting.{answered_register as register_of, word_in};
 ghost use Rattle.sg_actor.specs.Testing.{sort_of, as_test_option, layout_of};
 
+use sg_blocks::slot_word;
 use sg_desc::{Descriptor, Shape};
 use sg_program::{Answer, Config, Program, Request, Statement};
-use sg_words::{Addr, Layout};
+use sg_words::{Addr, BLOCK_WORDS, Layout};
 
 /// The object test of a statement: which register's object is tested, for which field, and whether that has to hold a reference.
 #[derive(Clone, Copy)]
@@ -62,6 +63,7 @@ pub(crate) fn answered_register(statement: Statement) -> Option<u8>
     match statement {
         Statement::New { r, .. } => Some(r),
         Statement::NewV { r, .. } => Some(r),
+        Statement::Mature { r, .. } => Some(r),
         _ => None,
     }
 }
@@ -115,6 +117,22 @@ pub(crate) fn global_at(config: &Config, g: u8) -> u64
         pages: config.pages,
     };
     layout.global(g as u32).get()
+}
+
+/// The number of the first word of this slot of this block, of slots of `size` words.
+pub(crate) fn slot_at(config: &Config, block: u32, size: u32, slot: u32) -> u64
+    requires limits { AreWithinLimits config.now }
+    requires class { IsSizeClass size }
+    requires there { block < config.now.blocks }
+    requires fits { slot < slots size }
+    ensures { result ≡ slot_base (layout_of config.now) block size slot }
+{
+    let layout = Layout {
+        nursery: config.nursery,
+        blocks: config.blocks,
+        pages: config.pages,
+    };
+    layout.old_word() + BLOCK_WORDS * block as u64 + slot_word(size, slot) as u64
 }
 
 /// The card of the word at this byte address of the nursery, the major heap or the large space: the nursery's words have none.

@@ -3,4 +3,4 @@
 
 mod search;
 
-pub use search::{Found, claim_slot, find};
+pub use search::{Found, claim_slot, find, lowest_clear};

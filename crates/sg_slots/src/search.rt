@@ -79,7 +79,7 @@ pub fn claim_slot<P: BlockPort>(port: &mut P, size: u32) -> Option<(u32, u32)>
 
 /// The lowest clear bit of the first `slots` ones; `None` exactly where all are set.
 #[inline]
-fn lowest_clear(used: u64, slots: u32) -> Option<u32>
+pub fn lowest_clear(used: u64, slots: u32) -> Option<u32>
     requires { slots ≤ 64 }
     ensures { MatchOption result (IsFull used slots) (IsLowest used slots) }
 {

@@ -22,6 +22,11 @@ ports g = record {
   stays = g.P.Port.stays;
   chains = g.P.Port.chains;
   fixed = g.met.P.FragPort.fixed;
+  blocks = g.P.BlockPort.blocks;
+  heap = g.P.SweepPort.heap;
+  marks = g.P.SweepPort.marks;
+  fixed_blocks = g.met.P.BlockPort.fixed_blocks;
+  fixed_sweep = g.met.P.SweepPort.fixed_sweep;
 }
 
 pub make-requires-clause-begun : goal.make-requires-clause-begun
@@ -43,6 +48,27 @@ hide-requires-clause-begun g c =
     let x = c.args.port.now in
     let is = c.in-Hide.is in
     subst (λ (u : Statement). (lay : Constants) × Begun o p lay x (before_this m u)) is c.requires.begun
+
+pub search_all-requires-clause-begun : goal.search_all-requires-clause-begun
+search_all-requires-clause-begun g c =
+    let o = ports g in
+    let m = c.args.self.now in
+    let p = m.program in
+    let s = c.args.statement in
+    let x = c.args.port.now in
+    let is = sym c.making-making-in-Mature.ensures.statement in
+    subst (λ (u : Statement). (lay : Constants) × Begun o p lay x (before_this m u)) is c.requires.begun
+
+pub returns-in-Mature-clause-run : goal.returns-in-Mature-clause-run
+returns-in-Mature-clause-run g c lay begun =
+    let o = ports g in
+    let m = c.args.self.now in
+    let p = m.program in
+    let s = c.args.statement in
+    let x = c.args.port.now in
+    let is = sym c.making-making-in-Mature.ensures.statement in
+    subst (λ (u : Statement). Ran o p lay (before_this m u) x (actor_of c.search_all.new.self) c.search_all.new.port) (sym is)
+    (c.search_all.ensures.run lay (subst (λ (u : Statement). Begun o p lay x (before_this m u)) is begun))
 
 pub returns-in-New-clause-run : goal.returns-in-New-clause-run
 returns-in-New-clause-run g c lay begun =
@@ -72,7 +98,7 @@ direct-requires g c =
     record {
       within = c.requires.within;
       direct = is_direct c.args.self.now.program s c.requires.may.runnable.run (sym c.object_test.ensures ∙ ap as_test_option c.in_default.is)
-          c.in_default-stop_request.ensures c.in_default-statement.not-New c.in_default-statement.not-NewV c.in_default-statement.not-Hide
+          c.in_default-stop_request.ensures c.in_default-statement.not-New c.in_default-statement.not-NewV c.in_default-statement.not-Mature c.in_default-statement.not-Hide
           c.in_default-statement.not-GPut c.in_default-statement.not-GGet;
       may = c.requires.may;
     }

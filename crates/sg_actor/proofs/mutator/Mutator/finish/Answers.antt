@@ -24,6 +24,11 @@ ports g = record {
   stays = g.P.Port.stays;
   chains = g.P.Port.chains;
   fixed = g.met.P.FragPort.fixed;
+  blocks = g.P.BlockPort.blocks;
+  heap = g.P.SweepPort.heap;
+  marks = g.P.SweepPort.marks;
+  fixed_blocks = g.met.P.BlockPort.fixed_blocks;
+  fixed_sweep = g.met.P.SweepPort.fixed_sweep;
 }
 
 pub at_word-at-requires-clause-below : goal.at_word-at-requires-clause-below
@@ -40,7 +45,7 @@ at_word-at-requires-clause-below g c =
     let on = c.requires.on.1 in
     let limits = subst (λ (m : Mutating). IsWithinLimits m.program) c.self.view_is c.self.invariant.limits in
     let at = on.guided.is_sane in
-    omega (arith, at.inside, limits.settings.nursery_most)
+    omega (arith, at.inside, limits.settings.nursery_most, limits.settings.blocks_most)
 
 pub store-requires-clause-may : goal.store-requires-clause-may
 store-requires-clause-may g c =

@@ -28,6 +28,11 @@ ports g = record {
   stays = g.P.Port.stays;
   chains = g.P.Port.chains;
   fixed = g.met.P.FragPort.fixed;
+  blocks = g.P.BlockPort.blocks;
+  heap = g.P.SweepPort.heap;
+  marks = g.P.SweepPort.marks;
+  fixed_blocks = g.met.P.BlockPort.fixed_blocks;
+  fixed_sweep = g.met.P.SweepPort.fixed_sweep;
 }
 
 pub store-requires-clause-may : goal.store-requires-clause-may
@@ -40,7 +45,7 @@ store-requires-clause-may g c =
     let x = c.args.port.now in
     let b = within a m.script (AccessGlobal s) in
     let lay = c.requires.begun.0 in
-    let on = c.requires.begun.1 b (false, global_begins a s m.script c.requires.global) in
+    let on = c.requires.begun.1 b (false, inl (global_begins a s m.script c.requires.global)) in
     let at : word_at c.global_at.result ≡ global_word p c.in-GPut.g = ap word_at c.global_at.ensures ∙ word_at-byte_at _ ∙ ap (λ (m : Mutating). global_word m.program c.in-GPut.g) c.self.view_is in
     stores_may o p lay b b x x on (none_yet o p lay b x on) (Word (global_word p c.in-GPut.g)) (Word (word_at c.global_at.result)) (ap (λ n. Word n) at) true _ (a.reg c.in-GPut.r) c.held.result c.held.ensures
     (gput_comes p lay a m.script s c.in-GPut.g c.in-GPut.r c.in-GPut.is)
@@ -55,7 +60,7 @@ load-word-requires-clause-may g c =
     let x = c.args.port.now in
     let b = within a m.script (AccessGlobal s) in
     let lay = c.requires.begun.0 in
-    let on = c.requires.begun.1 b (false, global_begins a s m.script c.requires.global) in
+    let on = c.requires.begun.1 b (false, inl (global_begins a s m.script c.requires.global)) in
     let at : word_at c.global_at-in-GGet.result ≡ global_word p c.in-GGet.g = ap word_at c.global_at-in-GGet.ensures ∙ word_at-byte_at _ ∙ ap (λ (m : Mutating). global_word m.program c.in-GGet.g) c.self-in-GGet.view_is in
     loads_may o p lay b b x x on (none_yet o p lay b x on) (Word (global_word p c.in-GGet.g)) (Word (word_at c.global_at-in-GGet.result)) (ap (λ n. Word n) at) true _ 0
     (gget_comes p lay a m.script s c.in-GGet.r c.in-GGet.g 0 c.in-GGet.is (inl refl))
@@ -70,7 +75,7 @@ reference-requires g c =
     let x = c.args.port.now in
     let b = within a m.script (AccessGlobal s) in
     let lay = c.requires.begun.0 in
-    let on = c.requires.begun.1 b (false, global_begins a s m.script c.requires.global) in
+    let on = c.requires.begun.1 b (false, inl (global_begins a s m.script c.requires.global)) in
     let at : word_at c.global_at-in-GGet.result ≡ global_word p c.in-GGet.g = ap word_at c.global_at-in-GGet.ensures ∙ word_at-byte_at _ ∙ ap (λ (m : Mutating). global_word m.program c.in-GGet.g) c.self-in-GGet.view_is in
     let is : IsReference p c.load-word.result = subst (λ (u : Statement). SawAt p lay (AccessGlobal u) (Load (Word (global_word p c.in-GGet.g)) c.load-word.result)) c.in-GGet.is
     (loads_saw o p lay b b x x on (none_yet o p lay b x on) (Word (global_word p c.in-GGet.g)) (Word (word_at c.global_at-in-GGet.result)) (ap (λ n. Word n) at) true _ 0 c.load-word.result
@@ -87,9 +92,9 @@ returns-in-GPut-clause-run g c lay begun =
     let s = c.args.statement in
     let x = c.args.port.now in
     let b = within a m.script (AccessGlobal s) in
-    let on = begun b (false, global_begins a s m.script c.requires.global) in
+    let on = begun b (false, inl (global_begins a s m.script c.requires.global)) in
     let at : word_at c.global_at.result ≡ global_word p c.in-GPut.g = ap word_at c.global_at.ensures ∙ word_at-byte_at _ ∙ ap (λ (m : Mutating). global_word m.program c.in-GPut.g) c.self.view_is in
-    ran o p lay (before_this m s) b x begun false (global_begins a s m.script c.requires.global) (actor_of c.say.new.self) c.store.new.self
+    ran o p lay (before_this m s) b x begun false (inl (global_begins a s m.script c.requires.global)) (actor_of c.say.new.self) c.store.new.self
     (stores_done o p lay b b x x on (none_yet o p lay b x on) (Word (global_word p c.in-GPut.g)) (Word (word_at c.global_at.result)) (ap (λ n. Word n) at) true _ (a.reg c.in-GPut.r) c.held.result c.held.ensures
     (gput_comes p lay a m.script s c.in-GPut.g c.in-GPut.r c.in-GPut.is) c.store.new.self (actor_of c.say.new.self) (λ r. r) c.say.ensures.actor (c.store.ensures.seen, c.store.ensures.led))
 
@@ -102,13 +107,13 @@ returns-in-GGet-clause-run g c lay begun =
     let s = c.args.statement in
     let x = c.args.port.now in
     let b = within a m.script (AccessGlobal s) in
-    let on = begun b (false, global_begins a s m.script c.requires.global) in
+    let on = begun b (false, inl (global_begins a s m.script c.requires.global)) in
     let at : word_at c.global_at-in-GGet.result ≡ global_word p c.in-GGet.g = ap word_at c.global_at-in-GGet.ensures ∙ word_at-byte_at _ ∙ ap (λ (m : Mutating). global_word m.program c.in-GGet.g) c.self-in-GGet.view_is in
     let is : IsReference p c.load-word.result = subst (λ (u : Statement). SawAt p lay (AccessGlobal u) (Load (Word (global_word p c.in-GGet.g)) c.load-word.result)) c.in-GGet.is
     (loads_saw o p lay b b x x on (none_yet o p lay b x on) (Word (global_word p c.in-GGet.g)) (Word (word_at c.global_at-in-GGet.result)) (ap (λ n. Word n) at) true _ 0 c.load-word.result
     (gget_comes p lay a m.script s c.in-GGet.r c.in-GGet.g 0 c.in-GGet.is (inl refl)) c.load-word.ensures.seen) in
     let v = c.load-word.result in
-    ran o p lay (before_this m s) b x begun false (global_begins a s m.script c.requires.global) (actor_of c.tell.new.self) c.load-word.new.self
+    ran o p lay (before_this m s) b x begun false (inl (global_begins a s m.script c.requires.global)) (actor_of c.tell.new.self) c.load-word.new.self
     (loads_done o p lay b b x x on (none_yet o p lay b x on) (Word (global_word p c.in-GGet.g)) (Word (word_at c.global_at-in-GGet.result)) (ap (λ n. Word n) at) true _ c.load-word.new.self v (actor_of c.tell.new.self) (λ r. r)
     (gget_comes p lay a m.script s c.in-GGet.r c.in-GGet.g v c.in-GGet.is is)
     (c.tell.ensures.actor ∙ ap (λ w. over a m.script (put a.reg c.in-GGet.r v) w) c.reference.ensures) (c.load-word.ensures.seen, c.load-word.ensures.led))

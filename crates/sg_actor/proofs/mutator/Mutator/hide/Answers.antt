@@ -1,4 +1,4 @@
-use Rattle.std.proofs.Common.{◌≡◌, ◌≢◌, ◌+◌, ◌*◌, ◌<◌, true, false, sym, ap, ◌∙◌, subst, arith}
+use Rattle.std.proofs.Common.{◌≡◌, ◌≢◌, ◌+◌, ◌*◌, ◌<◌, true, false, inl, sym, ap, ◌∙◌, subst, arith}
 use Rattle.sg_words.specs.Address.{word_at}
 use Rattle.sg_words.specs.Words.{put}
 use Rattle.sg_program.specs.declared.program.Statement.TheVariants.{Hide}
@@ -24,6 +24,11 @@ ports g = record {
   stays = g.P.Port.stays;
   chains = g.P.Port.chains;
   fixed = g.met.P.FragPort.fixed;
+  blocks = g.P.BlockPort.blocks;
+  heap = g.P.SweepPort.heap;
+  marks = g.P.SweepPort.marks;
+  fixed_blocks = g.met.P.BlockPort.fixed_blocks;
+  fixed_sweep = g.met.P.SweepPort.fixed_sweep;
 }
 
 pub returns-then-word-eq0-clause-run : goal.returns-then-word-eq0-clause-run
@@ -36,7 +41,8 @@ returns-then-word-eq0-clause-run g c lay begun =
     let s = c.args.s in
     let offset = c.args.offset in
     let x = c.args.port.now in
-    ran_at_once o p lay (before_this m (Hide d s offset)) _ x begun true (hide_null a m.script d s offset (sym c.held-word.ensures ∙ c.if-word-eq0.true)) (actor_of c.tell_inner.new.self) c.tell_inner.ensures.actor
+    ran_at_once o p lay (before_this m (Hide d s offset)) _ x begun true (inl (hide_null a m.script d s offset (sym c.held-word.ensures ∙ c.if-word-eq0.true)))
+    (actor_of c.tell_inner.new.self) c.tell_inner.ensures.actor
 
 pub overflow_add-word : goal.overflow_add-word
 overflow_add-word g c =
@@ -52,7 +58,7 @@ overflow_add-word g c =
     let begun = c.requires.begun.1 in
     let some : a.reg s ≢ 0 = λ z. c.if-word-eq0.false (c.held-word.ensures ∙ z) in
     let b = within a m.script (HideLength d s offset) in
-    let on = begun b (false, hide_begins a m.script d s offset some) in
+    let on = begun b (false, inl (hide_begins a m.script d s offset some)) in
     let limits = subst (λ (m : Mutating). IsWithinLimits m.program) c.self.view_is c.self.invariant.limits in
     let object = on.guided.is_sane in
     let e : c.held-word.result ≡ a.reg s = c.held-word.ensures in
@@ -72,7 +78,7 @@ load-len-requires-clause-may g c =
     let begun = c.requires.begun.1 in
     let some : a.reg s ≢ 0 = λ z. c.if-word-eq0.false (c.held-word.ensures ∙ z) in
     let b = within a m.script (HideLength d s offset) in
-    let on = begun b (false, hide_begins a m.script d s offset some) in
+    let on = begun b (false, inl (hide_begins a m.script d s offset some)) in
     let here : word_at c.held-word.result ≡ object_in a s = ap word_at c.held-word.ensures in
     let at : word_at (c.held-word.result + 8) ≡ object_in a s + 1 = omega (arith, here) in
     hide_may o m lay d s offset x on (word_at (c.held-word.result + 8)) at
@@ -91,7 +97,7 @@ overflow_add-len g c =
     let begun = c.requires.begun.1 in
     let some : a.reg s ≢ 0 = λ z. c.if-word-eq0.false (c.held-word.ensures ∙ z) in
     let b = within a m.script (HideLength d s offset) in
-    let on = begun b (false, hide_begins a m.script d s offset some) in
+    let on = begun b (false, inl (hide_begins a m.script d s offset some)) in
     let here : word_at c.held-word.result ≡ object_in a s = ap word_at c.held-word.ensures in
     let at : word_at (c.held-word.result + 8) ≡ object_in a s + 1 = omega (arith, here) in
     let len = hide_saw o m lay d s offset x on (word_at (c.held-word.result + 8)) at c.load-len.result c.load-len.ensures.seen in
@@ -111,7 +117,7 @@ overflow_mul-len g c =
     let begun = c.requires.begun.1 in
     let some : a.reg s ≢ 0 = λ z. c.if-word-eq0.false (c.held-word.ensures ∙ z) in
     let b = within a m.script (HideLength d s offset) in
-    let on = begun b (false, hide_begins a m.script d s offset some) in
+    let on = begun b (false, inl (hide_begins a m.script d s offset some)) in
     let here : word_at c.held-word.result ≡ object_in a s = ap word_at c.held-word.ensures in
     let at : word_at (c.held-word.result + 8) ≡ object_in a s + 1 = omega (arith, here) in
     let len = hide_saw o m lay d s offset x on (word_at (c.held-word.result + 8)) at c.load-len.result c.load-len.ensures.seen in
@@ -131,7 +137,7 @@ overflow_add-word-then-offset-len g c =
     let begun = c.requires.begun.1 in
     let some : a.reg s ≢ 0 = λ z. c.if-word-eq0.false (c.held-word.ensures ∙ z) in
     let b = within a m.script (HideLength d s offset) in
-    let on = begun b (false, hide_begins a m.script d s offset some) in
+    let on = begun b (false, inl (hide_begins a m.script d s offset some)) in
     let limits = subst (λ (m : Mutating). IsWithinLimits m.program) c.self.view_is c.self.invariant.limits in
     let object = on.guided.is_sane in
     let e : c.held-word.result ≡ a.reg s = c.held-word.ensures in
@@ -153,11 +159,12 @@ returns-then-offset-len-clause-run g c lay begun =
     let x = c.args.port.now in
     let some : a.reg s ≢ 0 = λ z. c.if-word-eq0.false (c.held-word.ensures ∙ z) in
     let b = within a m.script (HideLength d s offset) in
-    let on = begun b (false, hide_begins a m.script d s offset some) in
+    let on = begun b (false, inl (hide_begins a m.script d s offset some)) in
     let here : word_at c.held-word.result ≡ object_in a s = ap word_at c.held-word.ensures in
     let at : word_at (c.held-word.result + 8) ≡ object_in a s + 1 = omega (arith, here) in
     let len = hide_saw o m lay d s offset x on (word_at (c.held-word.result + 8)) at c.load-len.result c.load-len.ensures.seen in
-    ran o p lay (before_this m (Hide d s offset)) b x begun false (hide_begins a m.script d s offset some) (actor_of c.tell_inner-then-offset-len.new.self) c.load-len.new.self
+    ran o p lay (before_this m (Hide d s offset)) b x begun false (inl (hide_begins a m.script d s offset some))
+    (actor_of c.tell_inner-then-offset-len.new.self) c.load-len.new.self
     (hide_done o m lay d s offset x on (word_at (c.held-word.result + 8)) at c.load-len.new.self c.load-len.result (actor_of c.tell_inner-then-offset-len.new.self) _ (hide_fits a m.script d s offset c.load-len.result len c.if-offset-len.true)
     (c.tell_inner-then-offset-len.ensures.actor ∙ ap (λ w. over_with a m.script (put a.reg d (w + offset)) (put a.offset d offset) a.stack Fine) c.held-word.ensures) (c.load-len.ensures.seen, c.load-len.ensures.led))
 
@@ -173,10 +180,11 @@ returns-else-offset-len-clause-run g c lay begun =
     let x = c.args.port.now in
     let some : a.reg s ≢ 0 = λ z. c.if-word-eq0.false (c.held-word.ensures ∙ z) in
     let b = within a m.script (HideLength d s offset) in
-    let on = begun b (false, hide_begins a m.script d s offset some) in
+    let on = begun b (false, inl (hide_begins a m.script d s offset some)) in
     let here : word_at c.held-word.result ≡ object_in a s = ap word_at c.held-word.ensures in
     let at : word_at (c.held-word.result + 8) ≡ object_in a s + 1 = omega (arith, here) in
     let len = hide_saw o m lay d s offset x on (word_at (c.held-word.result + 8)) at c.load-len.result c.load-len.ensures.seen in
-    ran o p lay (before_this m (Hide d s offset)) b x begun false (hide_begins a m.script d s offset some) (actor_of c.tell_inner-else-offset-len.new.self) c.load-len.new.self
+    ran o p lay (before_this m (Hide d s offset)) b x begun false (inl (hide_begins a m.script d s offset some))
+    (actor_of c.tell_inner-else-offset-len.new.self) c.load-len.new.self
     (hide_done o m lay d s offset x on (word_at (c.held-word.result + 8)) at c.load-len.new.self c.load-len.result (actor_of c.tell_inner-else-offset-len.new.self) _ (hide_misses a m.script d s offset c.load-len.result len c.if-offset-len.false)
     c.tell_inner-else-offset-len.ensures.actor (c.load-len.ensures.seen, c.load-len.ensures.led))

@@ -1,4 +1,4 @@
-use Rattle.std.proofs.Common.{◌≡◌, ◌+◌, ◌<◌, ◌≤◌, true, false, ap, ◌∙◌, arith}
+use Rattle.std.proofs.Common.{◌≡◌, ◌+◌, ◌<◌, ◌≤◌, true, false, inl, ap, ◌∙◌, arith}
 use Rattle.sg_program.specs.Scripts.{made_words}
 use Rattle.sg_rules.specs.Rules.{StoreLength, within, owning, looking}
 use Rattle.sg_rules.specs.Rules.Comes.{new_bumps, new_looks}
@@ -19,6 +19,11 @@ ports g = record {
   stays = g.P.Port.stays;
   chains = g.P.Port.chains;
   fixed = g.met.P.FragPort.fixed;
+  blocks = g.P.BlockPort.blocks;
+  heap = g.P.SweepPort.heap;
+  marks = g.P.SweepPort.marks;
+  fixed_blocks = g.met.P.BlockPort.fixed_blocks;
+  fixed_sweep = g.met.P.SweepPort.fixed_sweep;
 }
 
 pub finish-requires-clause-on : goal.finish-requires-clause-on
@@ -28,7 +33,7 @@ finish-requires-clause-on g c =
     let p = m.program in
     let a = actor_of m in
     let s = c.args.making.statement in
-    let making = c.requires.made.makes in
+    let making = c.requires.young in
     let x = c.args.port.now in
     let words : c.words-words.result ≡ made_words p s = c.words-words.ensures ∙ ap (λ k. k + 2) c.requires.made.fields_are in
     let from : c.self.inside.from ≡ m.from = ap (λ (v : Mutating). v.from) c.self.view_is in
@@ -44,7 +49,7 @@ finish-requires-clause-on g c =
     ∙ ap (λ v. within (owning a (c.self.inside.from + v) c.self.inside.to) m.script (StoreLength s c.self.inside.from)) words
     ∙ ap (λ v. within (owning a (v + made_words p s) c.self.inside.to) m.script (StoreLength s v)) from
     ∙ ap (λ v. within (owning a (a.from + made_words p s) v) m.script (StoreLength s a.from)) to in
-    let on = on_as o lay p k.program c.buffer.ensures.same.program b here same x (begun b (true, new_bumps a s m.script making room)) in
+    let on = on_as o lay p k.program c.buffer.ensures.same.program b here same x (begun b (true, inl (new_bumps a s m.script making room))) in
     (lay, on)
 
 pub seek-requires-clause-on : goal.seek-requires-clause-on
@@ -54,7 +59,7 @@ seek-requires-clause-on g c =
     let p = m.program in
     let a = actor_of m in
     let s = c.args.making.statement in
-    let making = c.requires.made.makes in
+    let making = c.requires.young in
     let x = c.args.port.now in
     let words : c.words-words.result ≡ made_words p s = c.words-words.ensures ∙ ap (λ k. k + 2) c.requires.made.fields_are in
     let from : c.self.inside.from ≡ m.from = ap (λ (v : Mutating). v.from) c.self.view_is in
@@ -63,7 +68,7 @@ seek-requires-clause-on g c =
     let begun = c.requires.begun.1 in
     let full : a.to < a.from + made_words p s = omega (arith, c.saturating_sub.ensures, c.if-words-saturating_sub.false, words, from, to) in
     let b = within a m.script (looking lay s 0) in
-    let on = begun b (false, new_looks a s m.script making full) in
+    let on = begun b (false, inl (new_looks a s m.script making full)) in
     (lay, omega arith, on)
 
 pub returns-then-words-saturating_sub-clause-run : goal.returns-then-words-saturating_sub-clause-run
@@ -73,7 +78,7 @@ returns-then-words-saturating_sub-clause-run g c lay begun =
     let p = m.program in
     let a = actor_of m in
     let s = c.args.making.statement in
-    let making = c.requires.made.makes in
+    let making = c.requires.young in
     let x = c.args.port.now in
     let words : c.words-words.result ≡ made_words p s = c.words-words.ensures ∙ ap (λ k. k + 2) c.requires.made.fields_are in
     let from : c.self.inside.from ≡ m.from = ap (λ (v : Mutating). v.from) c.self.view_is in
@@ -87,9 +92,9 @@ returns-then-words-saturating_sub-clause-run g c lay begun =
     ∙ ap (λ v. within (owning a (c.self.inside.from + v) c.self.inside.to) m.script (StoreLength s c.self.inside.from)) words
     ∙ ap (λ v. within (owning a (v + made_words p s) c.self.inside.to) m.script (StoreLength s v)) from
     ∙ ap (λ v. within (owning a (a.from + made_words p s) v) m.script (StoreLength s a.from)) to in
-    let on = on_as o lay p k.program c.buffer.ensures.same.program b here same x (begun b (true, new_bumps a s m.script making room)) in
+    let on = on_as o lay p k.program c.buffer.ensures.same.program b here same x (begun b (true, inl (new_bumps a s m.script making room))) in
     let k' = c.finish.new.self in
-    ran o p lay (before_this m s) b x begun true (new_bumps a s m.script making room) (actor_of k') c.finish.new.port
+    ran o p lay (before_this m s) b x begun true (inl (new_bumps a s m.script making room)) (actor_of k') c.finish.new.port
     (gone_as o lay p k.program c.buffer.ensures.same.program b here same x c.finish.new.port (actor_of k') (c.finish.ensures.goes lay on))
 
 pub returns-else-words-saturating_sub-clause-run : goal.returns-else-words-saturating_sub-clause-run
@@ -99,12 +104,12 @@ returns-else-words-saturating_sub-clause-run g c lay begun =
     let p = m.program in
     let a = actor_of m in
     let s = c.args.making.statement in
-    let making = c.requires.made.makes in
+    let making = c.requires.young in
     let x = c.args.port.now in
     let words : c.words-words.result ≡ made_words p s = c.words-words.ensures ∙ ap (λ k. k + 2) c.requires.made.fields_are in
     let from : c.self.inside.from ≡ m.from = ap (λ (v : Mutating). v.from) c.self.view_is in
     let to : c.self.inside.to ≡ m.to = ap (λ (v : Mutating). v.to) c.self.view_is in
     let full : a.to < a.from + made_words p s = omega (arith, c.saturating_sub.ensures, c.if-words-saturating_sub.false, words, from, to) in
     let b = within a m.script (looking lay s 0) in
-    let on = begun b (false, new_looks a s m.script making full) in
-    ran o p lay (before_this m s) b x begun false (new_looks a s m.script making full) (actor_of c.seek.new.self) c.seek.new.port (c.seek.ensures.goes lay on)
+    let on = begun b (false, inl (new_looks a s m.script making full)) in
+    ran o p lay (before_this m s) b x begun false (inl (new_looks a s m.script making full)) (actor_of c.seek.new.self) c.seek.new.port (c.seek.ensures.goes lay on)

@@ -27,6 +27,11 @@ ports g = record {
   stays = g.P.Port.stays;
   chains = g.P.Port.chains;
   fixed = g.met.P.FragPort.fixed;
+  blocks = g.P.BlockPort.blocks;
+  heap = g.P.SweepPort.heap;
+  marks = g.P.SweepPort.marks;
+  fixed_blocks = g.met.P.BlockPort.fixed_blocks;
+  fixed_sweep = g.met.P.SweepPort.fixed_sweep;
 }
 
 pub overflow_add-place : goal.overflow_add-place

@@ -21,6 +21,11 @@ ports g = record {
   stays = g.P.Port.stays;
   chains = g.P.Port.chains;
   fixed = g.met.P.FragPort.fixed;
+  blocks = g.P.BlockPort.blocks;
+  heap = g.P.SweepPort.heap;
+  marks = g.P.SweepPort.marks;
+  fixed_blocks = g.met.P.BlockPort.fixed_blocks;
+  fixed_sweep = g.met.P.SweepPort.fixed_sweep;
 }
 
 pub loop-fragment-init : goal.loop-fragment-init
@@ -140,7 +145,7 @@ ask-requires-clause-fits g c =
     let s = c.args.making.statement in
     let x = c.args.port.now in
     let words : c.words-words.result ≡ made_words p s = c.words-words.ensures ∙ ap (λ n. n + 2) c.requires.made.fields_are in
-    subst (λ (v : Mutating). IsRequestOf v.program s (Need c.words-words.result)) (sym c.loop-fragment.invariant.self_is) (needs p s c.words-words.result c.requires.made.makes words)
+    subst (λ (v : Mutating). IsRequestOf v.program s (Need c.words-words.result)) (sym c.loop-fragment.invariant.self_is) (needs p s c.words-words.result c.requires.young words)
 
 pub returns-clause-goes : goal.returns-clause-goes
 returns-clause-goes g c lay on =
@@ -169,4 +174,4 @@ returns-clause-behind g c =
     let s = c.args.making.statement in
     let x = c.args.port.now in
     let words : c.words-words.result ≡ made_words p s = c.words-words.ensures ∙ ap (λ n. n + 2) c.requires.made.fields_are in
-    behind_at m c.loop-fragment.self c.ask.new.self _ _ c.loop-fragment.invariant.self_is c.ask.ensures (needs p s c.words-words.result c.requires.made.makes words)
+    behind_at m c.loop-fragment.self c.ask.new.self _ _ c.loop-fragment.invariant.self_is c.ask.ensures (needs p s c.words-words.result c.requires.young words)

@@ -12,6 +12,8 @@ invariant-loop-fragment g l =
     let s = l.making.statement in
     record {
       self_is : l.self ≡ m;
-      gone : (lay : Constants) → IsOnPort m.program lay g.P.Port.leads g.P.Port.may g.P.Port.sees g.P.FragPort.fragments g.P.FragPort.limit l.initial.port (within (actor_of m) m.script (looking lay s l.first)) →
+      gone : (lay : Constants) →
+          IsOnPort m.program lay g.P.Port.leads g.P.Port.may g.P.Port.sees g.P.FragPort.fragments g.P.FragPort.limit g.P.BlockPort.blocks g.P.SweepPort.heap g.P.SweepPort.marks
+          l.initial.port (within (actor_of m) m.script (looking lay s l.first)) →
           HasGoneOn m.program lay g.P.Port.leads (within (actor_of m) m.script (looking lay s l.first)) l.initial.port (within (actor_of m) m.script (looking lay s l.fragment)) l.port;
     }
