@@ -20,7 +20,7 @@ use Rattle.sg_boards.specs.Boards.{TurnsAreTaken, EndsAreTaken}
 use Rattle.sg_mutate.specs.Epochs.{constants_of, AreMutatorsOf, IsOpened}
 use Rattle.sg_mutate.proofs.Listed.{those_distinct, marked, marked_fits, marked_same, marked_other, none_above, gives_as}
 use Rattle.sg_mutate.proofs.Midst.{IsPlacedAt, TakesPart, Midst, one_some, some_at, is_running}
-use Rattle.sg_mutate.proofs.Leaving.{leaves_blocks, leaves_then}
+use Rattle.sg_mutate.proofs.Leaving.{keeps_head}
 use Rattle.sg_mutate.proofs.Next.{Next, next, placed_stays, placed_gone}
 
 pub get_other : {A : Type 0} (l : List A) (i k : ℕ) (x : A) → k ≢ i → slice_get (slice_set l i x) k ≡ slice_get l k
@@ -145,7 +145,7 @@ module _ (p : Program) (g : Graph) (b : Book) (s0 : Contents) (m0 : List Mutatin
           boarded = x.boarded;
           plays = plays;
           keeps = keeps;
-          leaves = leaves_then s0 s t mid.leaves (leaves_blocks (constants_of s0) m n s t takes);
+          head = keeps_head (constants_of s0) m n s t takes ∙ mid.head;
           are = are;
           parts = parts;
           stayed = λ j y z e f gone. elim (set_at ms k j n z below f) [
