@@ -7,7 +7,7 @@ use Rattle.sg_words.specs.Lists.{Pairwise}
 use Rattle.sg_program.specs.declared.program.Statement.{Statement}
 use Rattle.sg_program.specs.declared.program.Program.{Program}
 use Rattle.sg_program.specs.declared.answers.Request.{Request}
-use Rattle.sg_program.specs.declared.answers.Request.TheVariants.{Need, Slot, Minor, Major, Sections as AllSections}
+use Rattle.sg_program.specs.declared.answers.Request.TheVariants.{Slot, Sections as AllSections}
 use Rattle.sg_graph.specs.declared.reports.Service.{Service}
 use Rattle.sg_graph.specs.Graph.{Graph}
 use Rattle.sg_graph.specs.Book.{Book}
@@ -44,6 +44,7 @@ stage_stays g h k ended stage r = absurd r
 tells_so : (p : Program) (b c : Book) → c.owed ≡ b.owed → (statement : Statement) (request : Request) → CanTell p b (Asking statement request) →
     CanTell p c (Asking statement request)
 tells_so p b c same statement AllSections can = λ j l. ap (λ (owed : ℕ → Bool). owed j) same ∙ can j l
+tells_so p b c same statement (Slot size) can = λ j l. ap (λ (owed : ℕ → Bool). owed j) same ∙ can j l
 tells_so p b c same statement request can = tt
 
 tells_stays : (p : Program) (b c : Book) → c.owed ≡ b.owed → (stage : Stage) → CanTell p b stage → CanTell p c stage

@@ -381,11 +381,12 @@ module _ (keeps : KeepsPointedInto) (keeps_major : KeepsInMajor) (stays : StaysR
               opening = record {
                 held = held_of_heap p u all.graph all.book all.holding.plain all.holding.heap;
                 ready = each_actor (λ k a. IsReady p all.graph all.book k a a.script) (λ k n e. (now k n e).ready) beyond;
-                idle = each_actor (λ k a. a.mid ≡ Idle) (λ k n e. (now k n e).idle) (λ k l. refl);
+                idle = λ k. inl (each_actor (λ k a. a.mid ≡ Idle) (λ k n e. (now k n e).idle) (λ k l. refl) k);
                 going = stopped;
                 untold = each_actor (λ k a. a.told ≡ []) (λ k n e. (now k n e).untold) (λ k l. refl);
               };
               space = record { contents = all.holding.contents; layout = all.holding.heap.0.layout };
+              fits = all.holding.heap.0.fits;
               are = are;
               stages = λ k n e. (now k n e).stage;
               going = λ ended. t.going (λ k l. sym (all.ended k) ∙ ended k l);

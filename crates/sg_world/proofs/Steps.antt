@@ -1,5 +1,5 @@
 -- The steps of a stop before its answers.
-use Rattle.std.proofs.Common.{◌≡◌, ◌≢◌, ℕ, Bool, true, false, Option, Some, None, List, [], inl, inr, sym, refl, ap, ◌∙◌, subst, ◌↔◌, ◌⊎◌}
+use Rattle.std.proofs.Common.{◌≡◌, ◌≢◌, ℕ, Bool, true, false, Option, Some, None, List, [], ◌∷◌, inl, inr, sym, refl, ap, ◌∙◌, subst, ◌↔◌, ◌⊎◌}
 use Rattle.std.specs.Prelude.{is_some, IsTrue, ◌||◌}
 use Rattle.std.specs.List.{AllByRecursion}
 use Rattle.std.proofs.lemmas.Bool.{cases_Bool}
@@ -8,7 +8,7 @@ use Rattle.sg_words.specs.declared.steps.BlockWord.{BlockWord}
 use Rattle.sg_words.proofs.Blocks.{slot_size-class}
 use Rattle.sg_words.proofs.Everywhere.{contained}
 use Rattle.sg_program.specs.declared.program.Statement.{Statement}
-use Rattle.sg_program.specs.declared.program.Statement.TheVariants.{Mature}
+use Rattle.sg_program.specs.declared.program.Statement.TheVariants.{Mature, Collect}
 use Rattle.sg_program.specs.declared.answers.Request.{Request}
 use Rattle.sg_program.specs.declared.answers.Request.TheVariants.{Need, Slot, Minor, Major, Sections as AllSections}
 use Rattle.sg_program.specs.Scripts.{IsRequestOf, made_words}
@@ -40,6 +40,8 @@ LacksRoom p b s wants = LacksWords b.fragments b.limit b.next wants.needs.items 
 class_of : (p : Program) (s : Statement) (request : Request) (more : List ℕ) → IsRequestOf p s request → AllByRecursion IsSizeClass more →
     AllByRecursion IsSizeClass (sized_by request more)
 class_of p (Mature r class) (Slot size) more asks all = (subst IsSizeClass (sym asks) (slot_size-class (made_words p (Mature r class))), all)
+class_of p (Collect false) (Slot size) more asks all = absurd asks
+class_of p (Collect true) (Slot size) more asks all = absurd asks
 class_of p s (Slot size) more asks all = absurd asks
 class_of p s (Need words) more asks all = all
 class_of p s Minor more asks all = all
@@ -62,8 +64,8 @@ told_by_room law p g b s requests wants asking are holds owes =
     (LacksWords b.fragments b.limit b.next wants.needs.items ⊎ LacksSlots p.config.blocks (block_in s) (used_in s) sizes)) (sym are.sizes)
     (subst (λ (needs : List ℕ). LacksOne p InFragments g b requests ↔
     (LacksWords b.fragments b.limit b.next needs ⊎ LacksSlots p.config.blocks (block_in s) (used_in s) (sizes_of requests))) (sym are.needs)
-    (law p g b (marks_in s) (used_in s) (word s) (block_in s) holds.1.0 requests asking (λ name stands. holds.1.1.objects.given name stands)
-    holds.1.2.blocks (λ c z l e. let q : false ≡ true = sym (owes c l) ∙ (holds.1.2.blocks.each c l).owing z e in cc q)))
+    (law p g b (marks_in s) (used_in s) (word s) (block_in s) holds.1.0 requests asking holds.1.1.laid.objects holds.1.1.laid.fragments holds.1.2.blocks
+    holds.1.2.inhabited (λ c z l e. let q : false ≡ true = sym (owes c l) ∙ (holds.1.2.blocks.each c l).owing z e in cc q)))
 
 -- where no request wants blocks, none is for a slot
 none_wants : (requests : List Asked) → some_wants wants_blocks requests ≡ false → AllByRecursion (λ (asked : Asked). wants_blocks asked.request ≡ false) requests
@@ -91,8 +93,8 @@ sizes_none [] none = refl
 sizes_none (asked ∷ more) (first, rest) = size_none asked.request (sizes_of more) first ∙ sizes_none more rest
 
 no_slots : (blocks : ℕ) (state : ℕ → BlockWord) (used : ℕ → ℕ) (sizes : List ℕ) → sizes ≡ [] → LacksSlots blocks state used sizes → ⊥
-no_slots blocks state used sizes none (NoSlot state used z more all) = absurd (cc none)
-no_slots blocks state used sizes none (SlotBefore state used z more c i there clear below rest) = absurd (cc none)
+no_slots _ _ _ _ none (NoSlot state used z more all) = absurd (cc none)
+no_slots _ _ _ _ none (SlotBefore state used z more c i there clear below rest) = absurd (cc none)
 
 -- behind a major pause blocks are owed: there the words alone tell, since who asks for a slot wants blocks in any case
 module _ (law : PlacesByWords) (p : Program) (g : Graph) (b : Book) (s : Contents) (requests : List Asked) (wants : Wants) (asking : AreAsking p g requests)

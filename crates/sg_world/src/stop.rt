@@ -118,12 +118,7 @@ fn is_wanted(alloc: Global, space: &Space, given: bool, wants: &Wants) -> Result
     if given {
         return Ok(true);
     }
-    let lacks = lacks_room(
-        alloc,
-        space,
-        wants.needs.as_slice(),
-        wants.sizes.as_slice(),
-    )?;
+    let lacks = lacks_room(alloc, space, wants.needs.as_slice(), wants.sizes.as_slice())?;
     Ok(lacks)
 }
 
