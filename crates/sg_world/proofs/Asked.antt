@@ -1,7 +1,7 @@
 -- What the requests of a stop want, and what their answers are behind its pauses.
-use Rattle.std.proofs.Common.{◌≡◌, ◌≢◌, ℕ, zero, suc, ◌+◌, ◌||◌, ◌≤◌, Bool, true, false, Option, Some, None, List, [], ◌∷◌, ◌++◌, length, map, slice_get, inl, inr, sym, refl, ap, ◌∙◌, subst, arith}
+use Rattle.std.proofs.Common.{◌≡◌, ℕ, zero, suc, ◌+◌, ◌||◌, ◌≤◌, Bool, true, false, Option, Some, None, List, [], ◌∷◌, ◌++◌, length, map, slice_get, inl, sym, refl, ap, ◌∙◌, subst, arith}
 use Rattle.std.specs.Prelude.{is_some, IsTrue}
-use Rattle.std.specs.List.{flat_map, Contains, AllByRecursion}
+use Rattle.std.specs.List.{AllByRecursion}
 use Rattle.std.proofs.lemmas.Option.{same_Some}
 use Rattle.sg_words.specs.Reach.{AreDistinct, IsFreshIn}
 use Rattle.sg_program.specs.declared.program.Statement.{Statement}
@@ -22,13 +22,11 @@ use Rattle.sg_heap.specs.Holding.{OwesNothing}
 use Rattle.sg_placing.specs.declared.placing.Room.{Room}
 use Rattle.sg_placing.specs.declared.placing.Room.TheVariants.{Fragments, SlotsToo}
 use Rattle.sg_placing.specs.Answering.{placing_in}
-use Rattle.sg_order.specs.Rest.{IsReady}
 use Rattle.sg_actor.specs.declared.mutator.Stage.{Stage}
-use Rattle.sg_actor.specs.declared.mutator.Stage.TheVariants.{Ended, Asking, Yielded}
+use Rattle.sg_actor.specs.declared.mutator.Stage.TheVariants.{Asking}
 use Rattle.sg_actor.specs.State.{Mutating}
 use Rattle.sg_mutate.specs.Epochs.{AreMutatorsOf}
-use Rattle.sg_world.specs.declared.wants.Wants.{Wants}
-use Rattle.sg_world.specs.Stopping.{asked_of, requests_of, AreWanted}
+use Rattle.sg_world.specs.Stopping.{asked_of, requests_of}
 use Rattle.sg_world.specs.Steps.{SuitsRoom}
 use Rattle.sg_world.specs.Serving.{CanTell}
 use Rattle.sg_world.specs.Worlds.{HasLeftReady}

@@ -23,7 +23,7 @@ use Rattle.sg_graph.specs.Heap.{layout_of as sections_in}
 use Rattle.sg_graph.specs.Follows.{whole_schedule}
 use Rattle.sg_graph.specs.Follows.FollowsTo.{Begins}
 use Rattle.sg_space.specs.Space.{Contents, words_of, AreShapes, IsContents, clear_space}
-use Rattle.sg_space.specs.Standing.{block_in, marks_in, page_in}
+use Rattle.sg_space.specs.Standing.{block_in, page_in}
 use Rattle.sg_rules.specs.Rules.{Actor, fresh}
 use Rattle.sg_order.specs.Rest.{IsEpochOpening}
 use Rattle.sg_order.specs.Opening.{FirstOpening, AreFirstConstants, AreFirstWords}

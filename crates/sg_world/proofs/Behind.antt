@@ -1,5 +1,5 @@
 -- The world behind an epoch: the run is over, or a stop comes next.
-use Rattle.std.proofs.Common.{◌≡◌, ◌≢◌, ℕ, zero, ◌+◌, ◌||◌, ◌≤◌, ◌↔◌, cond, true, false, not, Option, Some, None, List, [], ◌∷◌, ◌++◌, length, slice_get, inl, inr, sym, refl, ap, ◌∙◌, subst, arith}
+use Rattle.std.proofs.Common.{◌≡◌, ◌≢◌, ℕ, zero, ◌+◌, ◌≤◌, ◌↔◌, cond, true, false, not, Option, Some, None, List, [], ◌∷◌, ◌++◌, length, slice_get, inl, inr, sym, refl, ap, ◌∙◌, subst, arith}
 use Rattle.std.specs.List.{flat_map, Contains}
 use Rattle.std.proofs.lemmas.Bool.{cases_Bool}
 use Rattle.std.proofs.lemmas.Option.{same_Some, slice_get_within}

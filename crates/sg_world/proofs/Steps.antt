@@ -19,13 +19,12 @@ use Rattle.sg_graph.specs.Graph.{Graph}
 use Rattle.sg_graph.specs.Book.{Book, swept_out}
 use Rattle.sg_graph.specs.Laws.{sized_by, sizes_of, AsksNoSlot, IsAsking, AreAsking, LacksWords, LacksSlots, PlacesByWords, PlacesByRoom}
 use Rattle.sg_graph.specs.Laws.LacksSlots.{NoSlot, SlotBefore}
-use Rattle.sg_graph.specs.Stop.{Asked, InFragments, LacksOne, some_wants, wants_minor, wants_major, wants_blocks, WantsMinor, WantsMajor, WantsBlocks, MakesMinor, MakesMajor, MakesRoom}
+use Rattle.sg_graph.specs.Stop.{Asked, InFragments, LacksOne, some_wants, wants_blocks, WantsMinor, WantsMajor, WantsBlocks, MakesRoom}
 use Rattle.sg_space.specs.Space.{Contents}
 use Rattle.sg_space.specs.Standing.{word, block_in, used_in, marks_in}
 use Rattle.sg_heap.specs.Holding.{HoldsHeap, OwesNothing}
 use Rattle.sg_minor.specs.Law.{HasPaused}
 use Rattle.sg_major.specs.Law.{HasCollected}
-use Rattle.sg_major.specs.Parts.{HasNoBuffer}
 use Rattle.sg_placing.specs.declared.placing.Room.{Room}
 use Rattle.sg_placing.specs.declared.placing.Room.TheVariants.{Fragments, SlotsToo}
 use Rattle.sg_world.specs.declared.wants.Wants.{Wants}

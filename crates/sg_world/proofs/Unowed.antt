@@ -1,5 +1,5 @@
 -- A space that owes no block is as its sweep leaves it, and behind an epoch none is owed either.
-use Rattle.std.proofs.Common.{◌≡◌, ℕ, zero, suc, ◌<◌, ◌≤◌, Bool, true, false, List, [], ◌∷◌, length, get_or, inl, inr, refl, ap, sym, ◌∙◌, subst, arith}
+use Rattle.std.proofs.Common.{◌≡◌, ℕ, zero, suc, ◌≤◌, Bool, true, false, List, [], ◌∷◌, length, get_or, inl, inr, refl, ap, sym, ◌∙◌, subst, arith}
 use Rattle.std.proofs.lemmas.Bool.{cases_Bool, cases_eq, cases_lt}
 use Rattle.sg_words.specs.Blocks.{IsOwing}
 use Rattle.sg_words.specs.Words.{put}
@@ -13,7 +13,6 @@ use Rattle.sg_graph.specs.Graph.{Graph}
 use Rattle.sg_graph.specs.Book.{Book, swept_out, swept_in}
 use Rattle.sg_space.specs.Space.{Contents, IsContents}
 use Rattle.sg_space.specs.Standing.{block_in, marks_in, used_in}
-use Rattle.sg_space.specs.Swept.{HasSwept}
 use Rattle.sg_heap.specs.Holding.{HoldsHeap, OwesNothing}
 use Rattle.sg_heap.specs.Laws.{SweepLaw}
 

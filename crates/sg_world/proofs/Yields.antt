@@ -4,7 +4,7 @@ use Rattle.sg_words.specs.declared.steps.Step.{Step}
 use Rattle.sg_words.specs.declared.steps.Tick.{Tick}
 use Rattle.sg_program.specs.declared.program.Statement.{Statement}
 use Rattle.sg_program.specs.declared.program.Program.{Program}
-use Rattle.sg_rules.specs.Rules.{Constants, Task, Search, Roam, Mid, Idle, Look, SeeBlock, Ask, Retired, Yielded, Actor, looking, ends_at, onward, Comes, BlockComes}
+use Rattle.sg_rules.specs.Rules.{Constants, Task, Search, Roam, Mid, Look, SeeBlock, Ask, Yielded, Actor, looking, ends_at, onward, Comes, BlockComes}
 use Rattle.sg_rules.specs.Rules.{NextStep, Follows}
 use Rattle.sg_rules.specs.Rules.Comes.{new_looks, look_goes_on, yields, claim_goes_on}
 use Rattle.sg_rules.specs.Rules.BlockComes.{mature_begins, sees_full, sees_other, sees_sweeping, roams_on, roams_free, roams_swept}

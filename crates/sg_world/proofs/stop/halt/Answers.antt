@@ -1,4 +1,4 @@
-use Rattle.std.proofs.Common.{◌≡◌, Bool, false, sym, ◌∙◌, subst, refl}
+use Rattle.std.proofs.Common.{Bool, sym, ◌∙◌, subst, refl}
 use Rattle.sg_graph.specs.Book.{swept_out}
 use Rattle.sg_space.specs.Space.{Contents}
 use Rattle.sg_heap.specs.Holding.{HoldsHeap}

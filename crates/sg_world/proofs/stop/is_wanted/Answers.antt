@@ -1,4 +1,4 @@
-use Rattle.std.proofs.Common.{List, ℕ, false, true, ◌≡◌, ◌⊎◌, inl, inr, sym, ◌∙◌, subst}
+use Rattle.std.proofs.Common.{false, true, ◌≡◌, ◌⊎◌, inl, inr, sym, ◌∙◌, subst}
 use Rattle.sg_graph.specs.Laws.{LacksWords, LacksSlots}
 use Rattle.sg_space.specs.Standing.{block_in, used_in}
 use Rattle.sg_world.proofs.stop.is_wanted.Goals as goal

@@ -1,12 +1,8 @@
-use Rattle.std.proofs.Common.{◌≡◌, ◌≢◌, ◌↔◌, ◌⊎◌, Bool, true, false, Some, None, [], inl, inr, sym, ap, ◌∙◌, subst, refl}
-use Rattle.std.specs.Prelude.{IsTrue}
-use Rattle.sg_graph.specs.Laws.{LacksWords}
-use Rattle.sg_space.specs.Space.{Contents}
-use Rattle.sg_heap.specs.Holding.{HoldsHeap}
+use Rattle.std.proofs.Common.{Some, None, sym, subst}
 use Rattle.sg_graph.specs.declared.reports.MinorReport.{MinorReport}
 use Rattle.std.specs.Prelude.{Option}
 use Rattle.sg_world.specs.Steps.{HasMadeMajor}
-use Rattle.sg_world.proofs.Steps.{LacksRoom, told_by_room, never, no_major_behind_none, no_major, some_major}
+use Rattle.sg_world.proofs.Steps.{LacksRoom, told_by_room, never, no_major, some_major}
 use Rattle.sg_world.proofs.stop.major_pause.Goals as goal
 
 pub returns-then-not-branch-clause-made : goal.returns-then-not-branch-clause-made

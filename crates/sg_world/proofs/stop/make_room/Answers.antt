@@ -1,5 +1,5 @@
 use Rattle.sg_graph.specs.Stop.{InFragments, LacksOne}
-use Rattle.std.proofs.Common.{◌≡◌, true, false, Bool, [], sym, ◌∙◌, subst}
+use Rattle.std.proofs.Common.{Bool, [], sym, subst}
 use Rattle.sg_placing.specs.declared.placing.Room.TheVariants.{Fragments, SlotsToo}
 use Rattle.sg_world.specs.Steps.{HasMadeRoom}
 use Rattle.sg_world.proofs.Steps.{told_by_words, never, room_without, room_in_fragments, room_in_slots}

@@ -1,4 +1,4 @@
-use Rattle.std.proofs.Common.{◌≡◌, ◌+◌, ℕ, List, length, refl, sym, ap, ◌∙◌, subst, arith}
+use Rattle.std.proofs.Common.{◌≡◌, ◌+◌, ℕ, List, length, refl, sym, ◌∙◌, subst, arith}
 use Rattle.sg_program.specs.declared.program.Program.{Program}
 use Rattle.sg_placing.specs.Answering.{placing_in}
 use Rattle.sg_actor.specs.State.{Mutating}
