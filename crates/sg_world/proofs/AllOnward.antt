@@ -1,5 +1,6 @@
 -- All mutators go on behind the pauses of a stop, one after another.
-use Rattle.std.proofs.Common.{◌≡◌, ℕ, ◌+◌, ◌<◌, Bool, Some, List, [], ◌∷◌, ◌++◌, length, slice_get, get_or, take, drop, set, inl, inr, sym, refl, ap, ◌∙◌, subst, arith, append-nil}
+use Rattle.std.proofs.Common.{◌≡◌, ℕ, ◌+◌, ◌<◌, Bool, Some, List, [], ◌∷◌, ◌++◌, length, slice_get, get_or}
+use Rattle.std.proofs.Common.{take, drop, set, inl, inr, sym, refl, ap, ◌∙◌, subst, arith, append-nil}
 use Rattle.std.proofs.lemmas.List.{length-take}
 use Rattle.std.proofs.lemmas.Option.{slice_get_within, slice_get-get_or}
 use Rattle.std.proofs.lemmas.List.Concat.{flat_map-append}
@@ -55,7 +56,8 @@ pub fits_stays : (p : Program) (b c : Book) → c.owed ≡ b.owed → (room : Ro
 fits_stays p b c same Fragments fits = tt
 fits_stays p b c same SlotsToo fits = λ j l. ap (λ (owed : ℕ → Bool). owed j) same ∙ fits j l
 
-serves_more : (p : Program) (how : Placing) (g : Graph) (b : Book) (asked more : List Asked) (services others : List Service) (h : Graph) (c : Book) (h1 : Graph) (c1 : Book) →
+serves_more : (p : Program) (how : Placing) (g : Graph) (b : Book) (asked more : List Asked) (services others : List Service)
+    (h : Graph) (c : Book) (h1 : Graph) (c1 : Book) →
     Serves p how g b asked services h c → Serves p how h c more others h1 c1 → Serves p how g b (asked ++ more) (services ++ others) h1 c1
 serves_more p how g b [] more [] others h c h1 c1 one rest =
     subst (λ (x : Graph). Serves p how x b more others h1 c1) one.0 (subst (λ (x : Book). Serves p how h x more others h1 c1) one.1 rest)

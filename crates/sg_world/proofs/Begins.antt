@@ -1,5 +1,6 @@
 -- A world before the first epoch.
-use Rattle.std.proofs.Common.{◌≡◌, ℕ, zero, suc, ◌+◌, ◌≤◌, true, false, Some, List, [], ◌∷◌, ◌++◌, length, map, replicate, get_or, slice_index_or, slice_get, inl, inr, sym, refl, ap, ◌∙◌, subst, arith, length-append}
+use Rattle.std.proofs.Common.{◌≡◌, ℕ, zero, suc, ◌+◌, ◌≤◌, true, false, Some, List, [], ◌∷◌, ◌++◌, length, map, replicate}
+use Rattle.std.proofs.Common.{get_or, slice_index_or, slice_get, inl, inr, sym, refl, ap, ◌∙◌, subst, arith, length-append}
 use Rattle.std.specs.List.{All, AllByRecursion}
 use Rattle.std.proofs.lemmas.Bool.{cases_lt}
 use Rattle.std.proofs.lemmas.List.{length-map}
@@ -85,7 +86,8 @@ first_words s shapes sections e = subst (λ t. AreFirstWords (words_of t)) (sym 
   marks = clear_word sections.blocks;
 })
 
-first_constants : (p : Program) (s : Contents) (shapes : List Shape) → s ≡ clear_space (sections_in p) shapes → AreFirstConstants p (constants_of s) (words_of s)
+first_constants : (p : Program) (s : Contents) (shapes : List Shape) → s ≡ clear_space (sections_in p) shapes →
+    AreFirstConstants p (constants_of s) (words_of s)
 first_constants p s shapes e = subst (λ t. AreFirstConstants p (constants_of t) (words_of t)) (sym e)
     (record { fragments = refl; limit = omega arith; marks = refl })
 

@@ -1,5 +1,6 @@
 -- The world behind an epoch: the run is over, or a stop comes next.
-use Rattle.std.proofs.Common.{◌≡◌, ◌≢◌, ℕ, zero, ◌+◌, ◌≤◌, ◌↔◌, cond, true, false, not, Option, Some, None, List, [], ◌∷◌, ◌++◌, length, slice_get, inl, inr, sym, refl, ap, ◌∙◌, subst, arith}
+use Rattle.std.proofs.Common.{◌≡◌, ◌≢◌, ℕ, zero, ◌+◌, ◌≤◌, ◌↔◌, cond, true, false, not, Option, Some, None, List}
+use Rattle.std.proofs.Common.{[], ◌∷◌, ◌++◌, length, slice_get, inl, inr, sym, refl, ap, ◌∙◌, subst, arith}
 use Rattle.std.specs.List.{flat_map, Contains}
 use Rattle.std.proofs.lemmas.Bool.{cases_Bool}
 use Rattle.std.proofs.lemmas.Option.{same_Some, slice_get_within}
@@ -28,7 +29,8 @@ use Rattle.sg_order.specs.OneOrder.{IsOneOrder}
 use Rattle.sg_order.specs.Serving.{StaysReady}
 use Rattle.sg_order.specs.Held.{HeldIsSound, HeldWhoever}
 use Rattle.sg_actor.specs.declared.mutator.Stage.{Stage}
-use Rattle.sg_actor.specs.declared.mutator.Stage.TheVariants.{Between, Within, Claiming, OpeningBlock, TakingSlot, TakingOver, Sweeping, BehindSweep, Ended, Asking, Yielded}
+use Rattle.sg_actor.specs.declared.mutator.Stage.TheVariants.{Between, Within, Claiming, OpeningBlock, TakingSlot, TakingOver}
+use Rattle.sg_actor.specs.declared.mutator.Stage.TheVariants.{Sweeping, BehindSweep, Ended, Asking, Yielded}
 use Rattle.sg_actor.specs.State.{Mutating, actor_of, mid_of, leave_of, IsCounted}
 use Rattle.sg_actor.specs.Turning.{IsResting}
 use Rattle.sg_mutate.specs.Epochs.{constants_of, parted, HasLeftAs, IsOver}

@@ -140,21 +140,43 @@ module _ (name : List ℕ) (one : Script)
   runnable_then : (k : ℕ) → AllByRecursion (IsRunnable q) (script_of q k)
   runnable_then zero = subst (AllByRecursion (IsRunnable q)) (sym first.out) (
     run_mature 0 (omega arith),
-    (run_mature 1 (omega arith), (run_mature 2 (omega arith), (run_mature 3 (omega arith),
-    (record { good = good_drop_one; run = tt; small = omega arith }, (run_mature 4 (omega arith), tt))))),
+    (
+      run_mature 1 (omega arith),
+      (
+        run_mature 2 (omega arith),
+        (
+          run_mature 3 (omega arith),
+          (record { good = good_drop_one; run = tt; small = omega arith }, (run_mature 4 (omega arith), tt)),
+        ),
+      ),
+    ),
   )
   runnable_then (suc k) = tt
 
-  pub can_fill : CanRun (record { config = settings; classes = record { name = name; shape = record { fields = 62; kind = PtrFree } } ∷ []; mutators = one ∷ [] })
+  pub can_fill : CanRun (record {
+    config = settings;
+    classes = record { name = name; shape = record { fields = 62; kind = PtrFree } } ∷ [];
+    mutators = one ∷ [];
+  })
   can_fill = record {
     limits = record {
       settings = within;
       classes = omega arith;
       fields = (omega arith, tt);
       scripts = (
-        good_script q one (Mature 0 0 ∷ Mature 1 0 ∷ Mature 2 0 ∷ Mature 3 0 ∷ Drop 1 ∷ Mature 4 0 ∷ []) first
-            (good_mature 0 (omega arith), (good_mature 1 (omega arith), (good_mature 2 (omega arith), (good_mature 3 (omega arith),
-            (good_drop_one, (good_mature 4 (omega arith), tt)))))),
+        good_script q one (Mature 0 0 ∷ Mature 1 0 ∷ Mature 2 0 ∷ Mature 3 0 ∷ Drop 1 ∷ Mature 4 0 ∷ []) first (
+          good_mature 0 (omega arith),
+          (
+            good_mature 1 (omega arith),
+            (
+              good_mature 2 (omega arith),
+              (
+                good_mature 3 (omega arith),
+                (good_drop_one, (good_mature 4 (omega arith), tt)),
+              ),
+            ),
+          ),
+        ),
         tt,
       );
       statements = let a : length (written_out one.items) ≡ 6 = ap length first.out in omega arith;

@@ -67,7 +67,8 @@ told_by_room law p g b s requests wants asking are holds owes =
     holds.1.2.inhabited (λ c z l e. let q : false ≡ true = sym (owes c l) ∙ (holds.1.2.blocks.each c l).owing z e in cc q)))
 
 -- where no request wants blocks, none is for a slot
-none_wants : (requests : List Asked) → some_wants wants_blocks requests ≡ false → AllByRecursion (λ (asked : Asked). wants_blocks asked.request ≡ false) requests
+none_wants : (requests : List Asked) → some_wants wants_blocks requests ≡ false →
+    AllByRecursion (λ (asked : Asked). wants_blocks asked.request ≡ false) requests
 none_wants [] none = tt
 none_wants (asked ∷ more) none = let both = or_none (wants_blocks asked.request) (some_wants wants_blocks more) none in (both.0, none_wants more both.1)
   where
@@ -99,7 +100,8 @@ no_slots _ _ _ _ none (SlotBefore state used z more c i there clear below rest) 
 module _ (law : PlacesByWords) (p : Program) (g : Graph) (b : Book) (s : Contents) (requests : List Asked) (wants : Wants) (asking : AreAsking p g requests)
     (are : AreWanted requests wants) where
   by_words : some_wants wants_blocks requests ≡ false → LacksRoom p b s wants → LacksOne p InFragments g b requests
-  by_words none (inl l) = (law p g b requests asking (no_slot requests none)).1 (subst (λ (needs : List ℕ). LacksWords b.fragments b.limit b.next needs) are.needs l)
+  by_words none (inl l) = (law p g b requests asking (no_slot requests none)).1
+      (subst (λ (needs : List ℕ). LacksWords b.fragments b.limit b.next needs) are.needs l)
   by_words none (inr l) =
       absurd (no_slots p.config.blocks (block_in s) (used_in s) wants.sizes.items (are.sizes ∙ sizes_none requests (none_wants requests none)) l)
 
@@ -225,7 +227,8 @@ module _ (p : Program) (g : Graph) (b : Book) (requests : List Asked) (wants : W
         still (Some report) e = inr ((λ w. none (wanted_blocks w)), refl)
 
     pub room_in_slots : (IsTrue wants.blocks ⊎ Lacks) → (t : Contents) → HoldsHeap p t g (swept_out b) → HasMadeRoom p g b requests true SlotsToo t
-    room_in_slots given t swept = record { book = swept_out b; makes = out; heap = swept; fits = λ j l. refl; suits = tt; shows = λ e j l. refl; rests = λ e j l. refl }
+    room_in_slots given t swept =
+        record { book = swept_out b; makes = out; heap = swept; fits = λ j l. refl; suits = tt; shows = λ e j l. refl; rests = λ e j l. refl }
       where
         out : (report : Option MajorReport) → is_some report ≡ true → MakesRoom p g b requests report (swept_out b)
         out None e = absurd (cc e)
@@ -236,8 +239,9 @@ pub never : (given : Bool) (A : Type 0) → given ≡ false → (given ≡ true 
 never given A no_one told a = let q : false ≡ true = sym no_one ∙ told.1 a in cc q
 
 -- all steps together
-pub halted_by : (p : Program) (g : Graph) (b : Book) (words : List ℕ) (requests : List Asked) (minor : Option MinorReport) (major : Option MajorReport) (room : Room)
-    (s t u v : Contents) → HoldsHeap p s g (swept_out b) → (made : HasMadeMinor p g (swept_out b) words requests minor t) →
+pub halted_by : (p : Program) (g : Graph) (b : Book) (words : List ℕ) (requests : List Asked) (minor : Option MinorReport)
+    (major : Option MajorReport) (room : Room) (s t u v : Contents) → HoldsHeap p s g (swept_out b) →
+    (made : HasMadeMinor p g (swept_out b) words requests minor t) →
     (more : HasMadeMajor p g made.book words requests minor major u) → HasMadeRoom p g more.book requests (is_some major) room v →
     HasHalted p g b words requests minor major room v
 halted_by p g b words requests minor major room s t u v heap made more last = record {

@@ -37,7 +37,8 @@ wants_none requests m stage wants none are =
     subst (λ (xs : List Asked). AreWanted xs wants) (sym (append-nil requests) ∙ ap (λ xs. requests ++ xs) (sym none)) are
 
 -- with one request more
-pub wants_one : (requests : List Asked) (m : Mutating) (stage : Stage) (request : Request) (old new : Wants) → AsksFor m stage request → AreWanted requests old →
+pub wants_one : (requests : List Asked) (m : Mutating) (stage : Stage) (request : Request) (old new : Wants) → AsksFor m stage request →
+    AreWanted requests old →
     new.minor ≡ (old.minor || wants_minor request) → new.major ≡ (old.major || wants_major request) → new.blocks ≡ (old.blocks || wants_blocks request) →
     new.needs.items ≡ old.needs.items ++ needed_by request [] → new.sizes.items ≡ old.sizes.items ++ sized_by request [] →
     AreWanted (requests ++ asked_of m stage) new

@@ -19,7 +19,8 @@ abbrev pub HoldsAny : Contents → Type 0
 HoldsAny s = (p : Program) × (g : Graph) × (b : Book) × HoldsHeap p s g b
 
 -- a minor pause was made where it is wanted, and the space holds the graph by the book behind it
-pub record HasMadeMinor (p : Program) (g : Graph) (b : Book) (words : List ℕ) (requests : List Asked) (report : Option MinorReport) (t : Contents) : Type 0 where
+pub record HasMadeMinor (p : Program) (g : Graph) (b : Book) (words : List ℕ) (requests : List Asked) (report : Option MinorReport)
+    (t : Contents) : Type 0 where
   pub book : Book
   pub makes : MakesMinor p g b words requests report g book
   pub copies : (minor : MinorReport) → report ≡ Some minor → CopiesInOrder p g b words book

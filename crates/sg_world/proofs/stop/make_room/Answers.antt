@@ -8,7 +8,8 @@ use Rattle.sg_world.proofs.stop.make_room.Goals as goal
 pub returns-then-not-major-clause-made : goal.returns-then-not-major-clause-made
 returns-then-not-major-clause-made c p g b requests holds owes asking are =
     subst (λ (major : Bool). HasMadeRoom p g b requests major Fragments c.args.space.now) (sym c.if-not-major.true)
-    (room_without p g b requests c.args.wants.now are (LacksOne p InFragments g b requests) ((λ l. l), (λ l. l)) c.args.space.now holds [] (owes c.if-not-major.true))
+    (room_without p g b requests c.args.wants.now are (LacksOne p InFragments g b requests) ((λ l. l), (λ l. l)) c.args.space.now holds []
+    (owes c.if-not-major.true))
 
 pub returns-then-not-branch-clause-made : goal.returns-then-not-branch-clause-made
 returns-then-not-branch-clause-made c p g b requests holds owes asking are =
