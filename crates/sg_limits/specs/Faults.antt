@@ -144,12 +144,12 @@ pub record KeepsLimits (found : List Numbered) : Type 0 where
 abbrev pub IsPairClass : List Class → List ℕ → Type 0
 IsPairClass classes name = (c : ℕ) × (class : Class) × (slice_get classes c ≡ Some class) × (class.name ≡ name) × (class.shape.kind ≡ Ephemeron)
 
--- the line is of the language and isn't run yet: new objects of the major heap, large vectors, weak links, finalization, pairs
+-- the line is of the language and isn't run yet: large vectors, weak links, finalization, pairs
 pub data IsLater (before : List Sentence) : Sentence → Type 0 where
-  Old : (r : ℕ) (name : List ℕ) → IsLater before (Makes AsMature r name)
   Wide : (count r : ℕ) (name : List ℕ) → most_fields < count → IsLater before (Makes (AsVector count) r name)
   LinkSet : (w r : ℕ) (long : Bool) → IsLater before (Says (WSet w r long))
   LinkGet : (r w : ℕ) → IsLater before (Says (WGet r w))
   Registers : (r : ℕ) → IsLater before (Says (Final r))
   Ready : (r : ℕ) → IsLater before (Says (NextFin r))
   PairOf : (r : ℕ) (name : List ℕ) → IsPairClass (classes_in before) name → IsLater before (Makes AsNew r name)
+  OldPairOf : (r : ℕ) (name : List ℕ) → IsPairClass (classes_in before) name → IsLater before (Makes AsMature r name)

@@ -143,10 +143,10 @@ module _ (p : Program) (lay : Constants) (s : Contents) (is : IsSpaceBy p lay s)
   may_come_block _ _ _ _ (takes_over a t rest c z) sane = (block_there c sane.there).0
   may_come_block _ _ _ _ (misses_sweep a t rest c z found) sane = (block_there c sane.there).0
   may_come_block _ _ _ _ (stores_occupancy a t rest c z) sane = (block_there c sane.there).1
-  may_come_block _ _ _ _ (clears_first a t rest c z i j from fits marked clear more) sane = zero_there c z j 0 sane.0.there fits (omega arith)
+  may_come_block _ _ _ _ (clears_first a t rest c z i j from fits marked clear more) sane = zero_there c z j 0 sane.there fits (omega arith)
   may_come_block _ _ _ _ (clears_next a t rest c z i f more) sane = zero_there c z i f sane.sweeping.there sane.fits sane.word
   may_come_block _ _ _ _ (clears_last a t rest c z i f last) sane = zero_there c z i f sane.sweeping.there sane.fits sane.word
-  may_come_block _ _ _ _ (ends_sweep a t rest c z i marked) sane = (block_there c sane.0.there).0
+  may_come_block _ _ _ _ (ends_sweep a t rest c z i marked) sane = (block_there c sane.there).0
   may_come_block _ _ _ _ (roams_on a rest c) sane = tt
   may_come_block _ _ _ _ (retires a rest c saw set) sane = tt
   may_come_block _ _ _ _ (roams_free a rest c) sane = (block_there c (sane tt)).0

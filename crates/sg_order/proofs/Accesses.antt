@@ -127,6 +127,7 @@ module _ (p : Program) (lay : Constants) (w : Words) (g : Graph) (b : Book) (sai
       number = t.number;
       limits = t.limits;
       words = t.words;
+      marks = t.marks;
     }
 
     pub later_stored : (fld : ℕ → ℕ → Entry) → ((m : ℕ) → IsKnown w.word g b m → IsKnown (put w.word y val) g b m) →

@@ -1,9 +1,9 @@
 -- The statements with an object test, those that make an object, and those that ask in any case.
-use Rattle.std.proofs.Common.{◌≡◌, ℕ, Bool, None, Some}
+use Rattle.std.proofs.Common.{◌≡◌, ℕ, Bool, None, Some, inl, inr}
 use Rattle.sg_program.specs.declared.program.Statement.{Statement}
 use Rattle.sg_program.specs.declared.program.Statement.TheVariants.{New, NewV, Mature, Put, Get, PutD, GetD, Num, Move, Hide, Unhide, Drop, Push, Pop, GPut, GGet, WSet, WGet, Final, NextFin, Same, Collect, Sections}
 use Rattle.sg_program.specs.declared.answers.Request.{Request}
-use Rattle.sg_program.specs.Scripts.{IsMaking, IsCollecting}
+use Rattle.sg_program.specs.Scripts.{IsMaking, IsMature, MakesObject, IsCollecting}
 use Rattle.sg_program.specs.Tests.{Test, test_of}
 
 none_is_some : (test : Test) → None ≡ Some test → ⊥
@@ -63,6 +63,16 @@ by_making P one vector (NextFin r) e = absurd e
 by_making P one vector (Same r s) e = absurd e
 by_making P one vector (Collect major) e = absurd e
 by_making P one vector Sections e = absurd e
+
+-- what holds of the statement that makes one in the major heap holds of each that does
+pub by_mature : (P : Statement → Type 0) → ((r class : ℕ) → P (Mature r class)) → (s : Statement) → IsMature s → P s
+by_mature P one (Mature r class) e = one r class
+by_mature P one s e = absurd e
+
+-- and what holds of these three holds of each that makes an object
+pub by_object : (P : Statement → Type 0) → ((r class : ℕ) → P (New r class)) → ((r class count : ℕ) → P (NewV r class count)) →
+    ((r class : ℕ) → P (Mature r class)) → (s : Statement) → MakesObject s → P s
+by_object P one vector mature s e = elim e [ inl making ↦ by_making P one vector s making | inr made ↦ by_mature P mature s made ]
 
 -- what holds of a collection and of the question what stands in each section holds of each statement that asks in any case
 pub by_collecting : (P : Statement → Type 0) → ((major : Bool) → P (Collect major)) → P Sections → (s : Statement) (request : Request) →

@@ -1,5 +1,5 @@
 -- Each rule by which a mutator goes on keeps the relation: a new object gets its place in a buffer or in a fragment.
-use Rattle.std.proofs.Common.{◌≡◌, ℕ, suc, ◌+◌, ◌-◌, ◌<◌, ◌≤◌, min, max, true, List, ◌∷◌, inl, inr, sym, refl, ap, ◌∙◌, subst, le_refl, arith}
+use Rattle.std.proofs.Common.{◌≡◌, ◌≢◌, ℕ, suc, ◌+◌, ◌-◌, ◌<◌, ◌≤◌, min, max, true, List, ◌∷◌, inl, inr, sym, refl, ap, ◌∙◌, subst, le_refl, arith}
 use Rattle.std.proofs.lemmas.Bool.{cases_eq}
 use Rattle.std.specs.List.{AllByRecursion}
 use Rattle.sg_words.specs.Address.{byte_at}
@@ -9,9 +9,11 @@ use Rattle.sg_program.specs.declared.program.Statement.{Statement}
 use Rattle.sg_program.specs.declared.program.Program.{Program}
 use Rattle.sg_program.specs.declared.answers.Answer.{Answer}
 use Rattle.sg_program.specs.declared.answers.Answer.TheVariants.{At}
-use Rattle.sg_program.specs.Scripts.{IsMaking, made_class, made_fields, made_words, IsSmall}
+use Rattle.sg_program.specs.Scripts.{IsMaking, MakesObject, made_class, made_fields, made_words, IsSmall}
 use Rattle.sg_graph.specs.Graph.{Entry, Graph}
-use Rattle.sg_graph.specs.Book.{Book, Books, placed, share}
+use Rattle.sg_graph.specs.Book.{Book, Books, Young, Old, placed, share, nursery_end, slot_words}
+use Rattle.sg_graph.specs.Blocks.{IsTakenAt, AreBlocks}
+use Rattle.sg_words.specs.Sections.{nursery_base}
 use Rattle.sg_graph.specs.Heap.{Owner, Of, Frag, Buf}
 use Rattle.sg_rules.specs.Rules.{Constants, Mid, Idle, Claim, StoreLength, Actor, before, within, owning, taken}
 use Rattle.sg_rules.specs.Resting.{IsRunnable}
@@ -45,7 +47,6 @@ module _ (p : Program) (lay : Constants) (w : Words) (g : Graph) (b : Book) (sai
               (λ r s. let v = mine y r s in absurd (o (let z : Buf j ≡ Buf k = sym e ∙ v in cc)))
         ];
         frags = λ f y l p q. let e = t.laid.fragments.owns f y l p q in range-keeps owner x hi _ (Frag f) y e (λ r s. let v = mine y r s in cc);
-        in_object = let i = t.laid.buffers.inside k (omega arith) in (i.0, omega arith);
         in_buffers = λ j l. elim (cases_eq j k) [
           | inl e ↦ let u = put-at b.from k hi j e in let v : b.to j ≡ b.to k = ap b.to e in let i = t.laid.buffers.inside k (omega arith) in
               (omega arith, omega arith)
@@ -62,21 +63,67 @@ module _ (p : Program) (lay : Constants) (w : Words) (g : Graph) (b : Book) (sai
       AllByRecursion (IsRunnable p) (g.mutator k).script → IsSmall (made_words p s)
   is_small s rest entry answers m run = let l = (runnable_as p lay w g b said k entry (s ∷ rest) answers m run).0.small in omega arith
 
+  -- a young object changes nothing in the blocks
+  blocks_young : (n m x : ℕ) (next from to : ℕ → ℕ) (owner' : ℕ → Owner) → Place p g b k m x next from to owner owner' →
+      AreBlocks p lay.marks w.block w.used w.word (put g.size (suc g.count) n) (put b.stands (suc g.count) true) (put b.address (suc g.count) x)
+      (put b.section (suc g.count) Young) b.owed owner'
+  blocks_young n m x next from to owner' pl = record {
+    placed = λ o l q old. elim (cases_eq o (suc g.count)) [
+      | inl e ↦ absurd (let z : Young ≡ Old = sym (put-at b.section (suc g.count) Young o e) ∙ old in cc)
+      | inr d ↦
+          let stood = sym (put-other b.stands (suc g.count) true o d) ∙ q in
+          let h = t.blocks.placed o l stood (sym (put-other b.section (suc g.count) Young o d) ∙ old) in (
+            h.0,
+            h.1,
+            subst (λ a. IsTakenAt p (lay.marks h.0) a (slot_words (put g.size (suc g.count) n o)) h.0 (w.block h.0) (w.used h.0))
+                (sym (put-other b.address (suc g.count) x o d))
+                (subst (λ z. IsTakenAt p (lay.marks h.0) (b.address o) (slot_words z) h.0 (w.block h.0) (w.used h.0))
+                (sym (put-other g.size (suc g.count) n o d)) h.2),
+          )
+    ];
+    each = λ c l. let e = t.blocks.each c l in record {
+      filled = λ s i o f u. let h = e.filled s i o f u in let d = fresh h.0 h.1.standing in (
+        h.0,
+        record {
+          some = h.1.some;
+          standing = put-other b.stands (suc g.count) true h.0 d ∙ h.1.standing;
+          old = put-other b.section (suc g.count) Young h.0 d ∙ h.1.old;
+          at = put-other b.address (suc g.count) x h.0 d ∙ h.1.at;
+          sized = ap slot_words (put-other g.size (suc g.count) n h.0 d) ∙ h.1.sized;
+        },
+      );
+      bare = e.bare;
+      owing = e.owing;
+      kept = e.kept;
+      unmarked = e.unmarked;
+      within = e.within;
+    };
+    clear = λ c l y i j none clean. t.blocks.clear c l y i j (λ o e. none o (pl.old o y e)) clean;
+    sized = t.blocks.sized;
+  }
+    where
+      fresh : (m : ℕ) → b.stands m ≡ true → m ≢ suc g.count
+      fresh m q e = let l = t.laid.objects.given m q in absurd (omega arith)
+
   -- the object of a statement has its place
   makes : (s : Statement) → IsMaking s → (x : ℕ) (next wnext from to : ℕ → ℕ) (owner' : ℕ → Owner) →
-      Place p g b k (made_words p s) x next from to owner owner' → ((f : ℕ) → f < b.fragments → wnext f ≡ byte_at (next f)) →
+      Place p g b k (made_words p s) x next from to owner owner' → (nursery_base ≤ x) × (x + made_words p s ≤ nursery_end p) →
+      ((f : ℕ) → f < b.fragments → wnext f ≡ byte_at (next f)) →
       (mid : Mid) → IsQuiet mid → (a : Actor) (rest : List Statement) (st : Stands p lay w g b said k a) →
       IsMutator g said k st.entry (s ∷ rest) st.answers →
       Books p g b k s (At (suc g.count)) (record (placed b (suc g.count) x) { next = next; from = from; to = to }) → (ax af at : ℕ) → ax ≡ x → af ≡ from k →
       at ≡ to k →
       Kept p lay w g b said k mid true (record w { next = wnext }) (within (owning a af at) rest (StoreLength s ax))
-  makes s making x next wnext from to owner' pl nexts mid quiet a rest st m books ax af at ex ef et =
+  makes s making x next wnext from to owner' pl inside nexts mid quiet a rest st m books ax af at ex ef et =
       let run = (runnable_as p lay w g b said k st.entry (s ∷ rest) st.answers m st.runnable).0 in
-      places p lay w g b said k owner t (made_class s) (made_fields p s) x next wnext from to owner' pl (made_known p s making run)
-      (made_sized p s making run) (made_no_pair p s making run) nexts
-      mid quiet a rest s st (record { runnable = run; makes = making }) refl refl m
-      (does_making p g k (record (g.mutator k) { register = st.entry; script = s ∷ rest }) s rest making) books
-      (kinds_making s st.entry (g.mutator k).stack (suc g.count) making) (piled_making s st.entry (g.mutator k).stack making) ax af at ex ef et
+      let made : MakesObject s = inl making in
+      places p lay w g b said k owner t (made_class s) (made_fields p s) x next wnext from to owner' pl Young (inl (refl, inside.0, inside.1))
+      (λ y i j. let lo = inside.0 in let hi = inside.1 in t.laid.clear.clear y (omega arith) (omega arith) (pl.free y i j))
+      w.used (blocks_young (made_fields p s) (made_words p s) x next from to owner' pl)
+      (made_known p s made run) (made_sized p s made run) (made_no_pair p s made run) nexts
+      mid quiet a rest s st run made refl refl m
+      (does_making p g k (record (g.mutator k) { register = st.entry; script = s ∷ rest }) s rest made) books
+      (kinds_making s st.entry (g.mutator k).stack (suc g.count) made) (piled_making s st.entry (g.mutator k).stack made) ax af at ex ef et
 
   -- the deciding load of a statement whose object fits into the buffer
   pub bumps : (a : Actor) (rest : List Statement) (s : Statement) → IsMaking s → a.from + made_words p s ≤ a.to → Stands p lay w g b said k (before a s rest) →
@@ -85,8 +132,8 @@ module _ (p : Program) (lay : Constants) (w : Words) (g : Graph) (b : Book) (sai
       let ef : a.from ≡ b.from k = st.from_is in
       let et : a.to ≡ b.to k = st.to_is in
       let fits : b.from k + made_words p s ≤ b.to k = omega arith in
-      makes s making (b.from k) b.next w.next (put b.from k (b.from k + made_words p s)) b.to _ (bump_place (made_words p s) (omega arith) fits) t.words Idle
-      tt
+      makes s making (b.from k) b.next w.next (put b.from k (b.from k + made_words p s)) b.to _ (bump_place (made_words p s) (omega arith) fits)
+      (let i = t.laid.buffers.inside k (omega arith) in (i.0, omega arith)) t.words Idle tt
       (before a s rest) rest st st.at (books_making p g b k s (suc g.count) _ making
       (is_small s rest st.entry st.answers st.at st.runnable, inl (record { room = fits; after = refl })))
       a.from (a.from + made_words p s) a.to ef (ap (λ x. x + made_words p s) ef ∙ sym (put-same b.from k _)) et
@@ -126,7 +173,6 @@ module _ (p : Program) (lay : Constants) (w : Words) (g : Graph) (b : Book) (sai
           | inr o ↦ let u = put-other b.next f hi i o in let e = t.laid.fragments.owns i y l (omega arith) q in keeps (Frag i) y e
               (λ r s. let z = ours y r s in o (let zz : Frag i ≡ Frag f = sym e ∙ z in cc))
         ];
-        in_object = let i = t.laid.fragments.inside f lf in let u = i.2 in (i.0, omega arith);
         in_buffers = λ j l. elim (cases_eq j k) [
           | inl e ↦ let u = put-at b.from k mid j e in let v = put-at b.to k hi j e in let i = t.laid.fragments.inside f lf in let lo = i.0 in let up = i.2 in
               (omega arith, omega arith)
@@ -158,6 +204,7 @@ module _ (p : Program) (lay : Constants) (w : Words) (g : Graph) (b : Book) (sai
       let l2 : b.next f + take ≤ b.limit f = omega arith in
       makes s st.at.0 (b.next f) (put b.next f (b.next f + take)) (put w.next f (byte_at (b.next f + take))) (put b.from k (b.next f + m))
       (put b.to k (b.next f + take)) _ (claim_place f m take lf (omega arith) l1 l2)
+      (let i = t.laid.fragments.inside f lf in let u = i.2 in (i.0, omega arith))
       (λ j q. elim (cases_eq j f) [
         | inl e ↦ put-at w.next f _ j e ∙ sym (ap byte_at (put-at b.next f (b.next f + take) j e))
         | inr o ↦ put-other w.next f _ j o ∙ t.words j q ∙ sym (ap byte_at (put-other b.next f (b.next f + take) j o))

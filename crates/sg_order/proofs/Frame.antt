@@ -16,11 +16,12 @@ use Rattle.sg_program.specs.Tests.{Test}
 use Rattle.sg_graph.specs.Book.{Book, word_of}
 use Rattle.sg_graph.specs.Epoch.{by_address}
 use Rattle.sg_rules.specs.Rules.{Constants, StackWord, Mid, Idle, TestTag, TestLength, Access, MarkCard, AccessGlobal, Look, Claim, StoreLength, StoreTag, HideLength, Ask, Left, Yielded, Actor}
+use Rattle.sg_rules.specs.Rules.{Task, Search, Roam, SeeBlock, TakeBlock, SeeUsed, TakeSlot, TakeOver, StoreOccupancy, ClearSlots, ClearWords, Retired}
 use Rattle.sg_order.specs.Rest.{kinds_in}
 use Rattle.sg_rules.specs.Resting.{IsRunnable}
 use Rattle.sg_order.specs.Rest.{StandsAt}
 use Rattle.sg_graph.specs.Heap.{IsKnown, IsKnownEntry}
-use Rattle.sg_order.proofs.Relation.{IsGiven, AreGiven, IsMutator, Tight, AsksForRoom, Tested, Placed, AtMid, Keeps, Stacked, Stands, Later}
+use Rattle.sg_order.proofs.Relation.{IsGiven, AreGiven, IsMutator, Tight, AsksForRoom, Tested, Placed, AtTask, AtMid, Keeps, Stacked, Stands, Later}
 
 address_later : (b c : Book) (answer : Answer) → IsGiven b.stands answer → ((n : ℕ) → b.stands n ≡ true → c.address n ≡ b.address n) →
     by_address c answer ≡ by_address b answer
@@ -172,7 +173,7 @@ module _ (p : Program) (lay : Constants) (w : Words) (g : Graph) (b : Book) (sai
   asked : (s : Statement) → AsksForRoom p lay b j s → AsksForRoom p lay c j s
   asked (New r class) t = tight (made_words p (New r class)) lay.fragments t
   asked (NewV r class count) t = tight (made_words p (NewV r class count)) lay.fragments t
-  asked (Mature r class) t = absurd t
+  asked (Mature r class) t = tt
   asked (Put r i x) t = absurd t
   asked (Get d r i) t = absurd t
   asked (PutD r i x) t = absurd t
@@ -193,6 +194,11 @@ module _ (p : Program) (lay : Constants) (w : Words) (g : Graph) (b : Book) (sai
   asked (Same r x) t = absurd t
   asked (Collect major) t = tt
   asked Sections t = tt
+
+  task : (entry : ℕ → Entry) (answers : List Answer) (rest : List Statement) (t : Task) → AtTask p g said j entry answers rest t →
+      AtTask p h said' j entry answers rest t
+  task entry answers rest (Search s) m = (m.0, moved _ _ _ m.1)
+  task entry answers rest Roam m = moved _ _ _ m
 
   pub mid_later : (entry : ℕ → Entry) (answers : List Answer) (rest : List Statement) (mid : Mid) → ((r : ℕ) → IsKnownEntry w.word g b (entry r)) →
       AtMid p lay w g b said j entry answers rest mid → AtMid p lay v h c said' j entry answers rest mid
@@ -217,6 +223,15 @@ module _ (p : Program) (lay : Constants) (w : Words) (g : Graph) (b : Book) (sai
         ap (λ y. v.word (y + 1)) (sym at) ∙ l.length_word m.0.name m.0.stands m.0.some (ap (λ y. w.word (y + 1)) at ∙ m.1 ∙ sym size) ∙ size),
   )
   mid_later entry answers rest (HideLength d s offset) q m = (m.0, m.1, m.2, moved _ _ _ m.3)
+  mid_later entry answers rest (SeeBlock t begins i) q m = task _ _ _ t m
+  mid_later entry answers rest (TakeBlock s i) q m = task _ _ _ (Search s) m
+  mid_later entry answers rest (SeeUsed s i) q m = task _ _ _ (Search s) m
+  mid_later entry answers rest (TakeSlot s i x) q m = task _ _ _ (Search s) m
+  mid_later entry answers rest (TakeOver t i z) q m = task _ _ _ t m
+  mid_later entry answers rest (StoreOccupancy t i z) q m = task _ _ _ t m
+  mid_later entry answers rest (ClearSlots t i z x) q m = task _ _ _ t m
+  mid_later entry answers rest (ClearWords t i z x f) q m = task _ _ _ t m
+  mid_later entry answers rest Retired q m = moved _ _ _ m
   mid_later entry answers rest (Ask s) q m = (asked s m.0, moved _ _ _ m.1)
   mid_later entry answers rest (Left s) q m = (asked s m.0, moved _ _ _ m.1)
 

@@ -114,6 +114,7 @@ module _ (p : Program) (lay : Constants) (w : Words) (g : Graph) (b : Book) (sai
       number = t.number;
       limits = t.limits;
       words = t.words;
+      marks = t.marks;
     }
 
     pub global_stored : {after : Mid} → Change p lay w g b said k after (write w (Word (globals_base (layout_of p) + x)) (byte_at (b.address n)))

@@ -7,7 +7,7 @@ use Rattle.sg_words.specs.Words.{Words}
 use Rattle.sg_program.specs.declared.program.Program.{Program}
 use Rattle.sg_graph.specs.Graph.{Graph}
 use Rattle.sg_graph.specs.Book.{Book, Old, slot_words, IsInBlock, IsInSlot}
-use Rattle.sg_graph.specs.Blocks.{AreSettled}
+use Rattle.sg_graph.specs.Blocks.{AreBlocks, AreSettled}
 use Rattle.sg_graph.specs.Heap.{Owner}
 use Rattle.sg_order.specs.Held.{HeldIsSound, HeldWhoever, RunnableMakes}
 use Rattle.sg_words.proofs.Blocks.{slot_fits}
@@ -49,11 +49,12 @@ pub held_is_sound : HeldIsSound
 held_is_sound p lay w g b held = record {
   apart = apart_by p lay w g b held.owner (record {
     laid = held.heap.laid;
-    blocks = held.settled.blocks;
+    blocks = subst (λ m. AreBlocks p m w.block w.used w.word g.size b.stands b.address b.section b.owed held.owner) held.marks held.settled.blocks;
     plain = held.plain;
     number = held.number;
     limits = held.limits;
     words = held.nexts;
+    marks = held.marks;
   });
   slotted = slotted p w g b held.owner held.settled;
   one_size = one_size p w g b held.owner held.settled;
@@ -74,6 +75,7 @@ held_whoever p lay w g b mutator held = record {
   number = held.number;
   limits = held.limits;
   nexts = held.nexts;
+  marks = held.marks;
 }
 
 pub runnable_makes : RunnableMakes

@@ -1,49 +1,68 @@
 -- From the atomic steps of the mutators to one order of whole statements, from an epoch's opening on.
-use Rattle.std.proofs.Common.{false, ◌≡◌, ℕ, ◌+◌, ◌<◌, ◌≤◌, ◌==◌, true, List, [], ◌∷◌, map, inl, inr, sym, refl, ap, ◌∙◌, subst, le_refl, zero-le, arith}
-use Rattle.std.proofs.lemmas.Bool.{cases_eq, eqb-true}
+use Rattle.std.proofs.Common.{Bool, false, ◌≡◌, ℕ, ◌+◌, ◌<◌, ◌≤◌, ◌==◌, true, List, [], ◌∷◌, map, inl, inr, sym, refl, ap, ◌∙◌, subst, le_refl, zero-le, arith}
+use Rattle.std.proofs.lemmas.Bool.{cases_eq, cases_Bool, eqb-true}
 use Rattle.std.specs.List.{AllByRecursion}
-use Rattle.sg_words.specs.Words.{Words, after}
-use Rattle.sg_words.specs.Events.{ticks}
+use Rattle.sg_words.specs.Words.{Words, after, Legal}
+use Rattle.sg_words.specs.Lists.{has}
+use Rattle.sg_words.specs.Events.{Event, ticks}
 use Rattle.sg_program.specs.declared.program.Statement.{Statement}
+use Rattle.sg_program.specs.declared.program.Statement.TheVariants.{Mature}
 use Rattle.sg_program.specs.declared.program.Program.{Program}
 use Rattle.sg_program.specs.declared.answers.Answer.{Answer}
-use Rattle.sg_program.specs.Scripts.{script_of, IsMaking, made_words}
+use Rattle.sg_program.specs.Scripts.{script_of, IsMaking, made_words, made_slot}
 use Rattle.sg_program.specs.Invariants.{FindKinds}
 use Rattle.sg_graph.specs.Graph.{Entry, Graph, Ref, Int, Inner, no_objects}
-use Rattle.sg_graph.specs.Book.{Book, empty_book, word_of, Young, Old, nursery_end, HasNoPlace, IsApart}
+use Rattle.sg_graph.specs.Book.{Book, empty_book, word_of, Young, Old, nursery_end, HasNoPlace, IsApart, IsWordOf, IsClosed, block_at, slot_words, swept_in}
+use Rattle.sg_words.proofs.Blocks.{slot_in}
+use Rattle.sg_order.proofs.BlockGround.{in_size}
+use Rattle.sg_graph.specs.Laws.{BlocksGo}
 use Rattle.sg_words.specs.Sections.{nursery_base}
 use Rattle.sg_graph.specs.Epoch.{by_address}
 use Rattle.sg_words.specs.Lists.{Pairwise}
-use Rattle.sg_graph.specs.Heap.{Owner, Of, Frag, Nobody, IsKnownEntry, IsHeap, layout_of}
+use Rattle.sg_graph.specs.Heap.{Owner, Of, Frag, Nobody, IsKnownEntry, IsHeap}
 use Rattle.sg_graph.specs.Blocks.{AreBlocks, AreSettled}
-use Rattle.sg_words.specs.Blocks.{card_of, IsOf, IsOwing}
-use Rattle.sg_words.specs.declared.steps.BlockWord.TheVariants.{Free, Swept, Sweeping}
-use Rattle.sg_rules.specs.Rules.{Constants, StackWord, Mid, Claim, Left, Actor, fresh}
-use Rattle.sg_order.specs.Rest.{Holds, IsReady, IsHeld, IsEpochOpening, before_it, IsOver, kinds_in}
+use Rattle.sg_words.specs.Blocks.{IsOf, IsOwing}
+use Rattle.sg_words.specs.declared.steps.BlockWord.TheVariants.{Free, Swept, Need, Sweeping}
+use Rattle.sg_rules.specs.Rules.{Constants, Roam, StackWord, Mid, Idle, Claim, Left, SeeBlock, Actor, fresh, owning}
+use Rattle.sg_order.specs.Rest.{Holds, IsReady, IsHeld, IsFirst, IsEpochOpening, before_it, IsOver, AreOver, kinds_in}
 use Rattle.sg_rules.specs.Resting.{IsRunnable}
 use Rattle.sg_order.specs.Rest.{StandsAt}
 use Rattle.sg_order.specs.Opening.{AreFirstConstants, AreFirstWords, AreFirstScripts, FirstOpening}
-use Rattle.sg_order.specs.OneOrder.{HasPrepared, OneOrder}
+use Rattle.sg_order.specs.OneOrder.{HasPrepared, IsHoused, IsAtEnd, OneOrder}
+use Rattle.sg_order.specs.Knowing.{IsPast, IsPassed, KnowsAt}
+use Rattle.sg_order.specs.Sweep.{no_winner, winners, swept_of}
+use Rattle.sg_words.proofs.Members.{not-in}
 use Rattle.sg_words.proofs.Puts.{within_range, range-in, range-below}
 use Rattle.sg_order.proofs.Events.{range-was}
 use Rattle.sg_order.proofs.Cases.{by_making}
-use Rattle.sg_order.proofs.Relation.{Ground, IsMutator, Tight, AsksForRoom, AtMid, Stacked, Stands, WritesHeader, IsNeeded, Marks, World}
+use Rattle.sg_order.proofs.Relation.{Ground, IsMutator, Tight, AsksForRoom, AtMid, Stacked, Stands}
+use Rattle.sg_order.proofs.Beside.{World}
 use Rattle.sg_order.proofs.Loads.{same_object}
 use Rattle.sg_order.proofs.Stopping.{wanted_so, wanted_at_opening}
-use Rattle.sg_order.proofs.Whole.{one_by_one}
+use Rattle.sg_order.proofs.Once.{AreLawful, taken_is_past, untaken_needs, sweep_law}
+use Rattle.sg_graph.specs.Statements.{name_in}
+use Rattle.sg_order.specs.Serving.{StaysPut}
+use Rattle.sg_order.proofs.Serving.{all_stay, stays_ready}
+use Rattle.sg_order.proofs.Whole.{Explained, lawful_runs, one_by_one}
+use Rattle.sg_order.proofs.Ending.{by_over, swept_is, swept_now, owed_still, sweeper_there, sweeper_alone, object_there, seeks, held_end, closed_end}
+
+-- what holds of each point at which an actor begins
+by_first : (P : Mid → Type 0) → P Idle → P (SeeBlock Roam true 0) → (mid : Mid) → IsFirst mid → P mid
+by_first P idle roam mid first = elim first [ inl e ↦ subst P (sym e) idle | inr e ↦ subst P (sym e) roam ]
 
 -- an epoch opens with every object headed and every mutator between two statements
-pub at_opening : (p : Program) (lay : Constants) (w : Words) (g : Graph) (b : Book) (actors : ℕ → Actor) → IsEpochOpening p lay w g b actors →
-    World p lay w g b (λ _. []) actors
-at_opening p lay w g b actors o = record {
+pub at_opening : (p : Program) (lay : Constants) (w : Words) (g : Graph) (b : Book) (by : ℕ → ℕ) (actors : ℕ → Actor) → IsEpochOpening p lay w g b actors →
+    World p lay g.count w g b (λ _. []) by actors
+at_opening p lay w g b by actors o = record {
   owner = o.held.owner;
   ground = record {
     laid = o.held.heap.laid;
-    blocks = o.held.settled.blocks;
+    blocks = subst (λ m. AreBlocks p m w.block w.used w.word g.size b.stands b.address b.section b.owed o.held.owner) o.held.marks o.held.settled.blocks;
     plain = o.held.plain;
     number = o.held.number;
     limits = o.held.limits;
     words = o.held.nexts;
+    marks = o.held.marks;
   };
   stands = λ k. let ready = o.ready k in record {
     entry = (g.mutator k).register;
@@ -56,15 +75,21 @@ at_opening p lay w g b actors o = record {
     given = tt;
     from_is = ready.from_is;
     to_is = ready.to_is;
-    at = subst (λ (mid : Mid). AtMid p lay w g b (λ _. []) k (g.mutator k).register [] (actors k).script mid) (sym (o.idle k))
-        (record { register_is = refl; script_is = ready.script_is; asleep = ready.asleep; says = refl });
+    at = by_first (λ (mid : Mid). AtMid p lay w g b (λ _. []) k (g.mutator k).register [] (actors k).script mid)
+        (record { register_is = refl; script_is = ready.script_is; asleep = ready.asleep; says = refl })
+        (record { register_is = refl; script_is = ready.script_is; asleep = ready.asleep; says = refl }) (actors k).mid (o.idle k);
     fits = subst (λ script. FindKinds (kinds_in (g.mutator k)) script) (sym ready.script_is) ready.kinds;
     runnable = subst (λ script. AllByRecursion (IsRunnable p) script) (sym ready.script_is) ready.runnable;
   };
   headed = λ n l q. inl (o.held.heap.headed n l q);
-  resting = record { settled = o.held.settled.settled; inhabited = o.held.settled.inhabited; owes = o.held.settled.owes };
+  beside = λ k. record {
+    at = by_first (λ (mid : Mid). KnowsAt p lay w b.owed by k mid) tt (tt, λ m. absurd m) (actors k).mid (o.idle k);
+    mine = λ c z l e q. absurd (o.held.settled.settled c z l e);
+    fills = λ c z l e q. inl (o.held.settled.inhabited c z l e);
+  };
   carded = λ card q. inl (subst (λ x. w.card x ≡ 1) q.at
       (o.held.settled.cards.dirty q.name q.index q.target q.some q.standing q.old q.inside q.strong q.refers q.one q.young));
+  lower = λ n j new q l lo. absurd (let u = o.held.heap.laid.objects.given n q in omega arith);
 }
   where
     a_offset : ℕ → ℕ → ℕ
@@ -91,16 +116,9 @@ at_opening p lay w g b actors o = record {
 -- a mutator that is over is where the graph's mutator is
 pub at_rest : (p : Program) (lay : Constants) (w : Words) (g : Graph) (b : Book) (said : ℕ → List Answer) (k : ℕ) (a : Actor)
     (s : Stands p lay w g b said k a) → IsOver a.mid → IsMutator g said k s.entry (before_it a.mid a.script) s.answers
-at_rest p lay w g b said k a s over = go a.mid over s.at
-  where
-    go : (mid : Mid) → IsOver mid → AtMid p lay w g b said k s.entry s.answers a.script mid → IsMutator g said k s.entry (before_it mid a.script) s.answers
-    go mid over = elim over [
-      | inl e ↦ subst (λ mid. AtMid p lay w g b said k s.entry s.answers a.script mid → IsMutator g said k s.entry (before_it mid a.script) s.answers) (sym e) (λ m. m)
-      | inr gone ↦ elim gone [
-        | inl e ↦ subst (λ mid. AtMid p lay w g b said k s.entry s.answers a.script mid → IsMutator g said k s.entry (before_it mid a.script) s.answers) (sym e.1) (λ m. m.1)
-        | inr e ↦ subst (λ mid. AtMid p lay w g b said k s.entry s.answers a.script mid → IsMutator g said k s.entry (before_it mid a.script) s.answers) (sym e) (λ m. m)
-      ]
-    ]
+at_rest p lay w g b said k a s over =
+    by_over (λ mid. AtMid p lay w g b said k s.entry s.answers a.script mid → IsMutator g said k s.entry (before_it mid a.script) s.answers)
+    (λ m. m) (λ r m. m.1) (λ m. m) (λ m. m) (λ begins c m. m) a.mid over s.at
 
 -- the places of a stack hold what they keep
 held_stack : (w : ℕ → ℕ) (g : Graph) (b : Book) (slots : List StackWord) (entries : List Entry) → Stacked w g b slots entries →
@@ -160,68 +178,6 @@ module _ (p : Program) (lay : Constants) (w : Words) (g : Graph) (b : Book) (sai
         behind = m.5;
       }
 
--- who is over writes no header
-over_makes_none : (x : ℕ) (mid : Mid) → IsOver mid → WritesHeader x mid → ⊥
-over_makes_none x mid over = elim over [
-  | inl e ↦ subst (λ mid. WritesHeader x mid → ⊥) (sym e) (λ m. m)
-  | inr gone ↦ elim gone [
-    | inl e ↦ subst (λ mid. WritesHeader x mid → ⊥) (sym e.1) (λ m. m)
-    | inr e ↦ subst (λ mid. WritesHeader x mid → ⊥) (sym e) (λ m. m)
-  ]
-]
-
--- nor marks a card
-over_marks_none : (card : ℕ) (mid : Mid) → IsOver mid → Marks card mid → ⊥
-over_marks_none card mid over = elim over [
-  | inl e ↦ subst (λ mid. Marks card mid → ⊥) (sym e) (λ m. m)
-  | inr gone ↦ elim gone [
-    | inl e ↦ subst (λ mid. Marks card mid → ⊥) (sym e.1) (λ m. m)
-    | inr e ↦ subst (λ mid. Marks card mid → ⊥) (sym e) (λ m. m)
-  ]
-]
-
--- where all are over, the words hold the graph
-pub held_at_rest : (p : Program) (lay : Constants) (w : Words) (g : Graph) (b : Book) (said : ℕ → List Answer) (actors : ℕ → Actor) →
-    World p lay w g b said actors → ((k : ℕ) → IsOver (actors k).mid) → IsHeld p lay w g b
-held_at_rest p lay w g b said actors wo over = record {
-  owner = wo.owner;
-  heap = record {
-    laid = wo.ground.laid;
-    headed = λ n l q. elim (wo.headed n l q) [ inl h ↦ h | inr m ↦ absurd (over_makes_none (b.address n) (actors m.0).mid (over m.0) m.1) ];
-  };
-  settled = record {
-    blocks = wo.ground.blocks;
-    settled = wo.resting.settled;
-    inhabited = wo.resting.inhabited;
-    owes = wo.resting.owes;
-    cards = record {
-      dirty = λ n i m some standing old inside strong refers one young.
-          let need : IsNeeded p g b (card_of (layout_of p) (b.address n + 2 + i)) = record {
-            name = n;
-            index = i;
-            target = m;
-            some = some;
-            standing = standing;
-            old = old;
-            inside = inside;
-            strong = strong;
-            refers = refers;
-            one = one;
-            young = young;
-            at = refl;
-          } in
-          elim (wo.carded (card_of (layout_of p) (b.address n + 2 + i)) need) [
-            | inl dirty ↦ dirty
-            | inr j ↦ absurd (over_marks_none (card_of (layout_of p) (b.address n + 2 + i)) (actors j.0).mid (over j.0) j.1)
-          ];
-    };
-  };
-  plain = wo.ground.plain;
-  number = wo.ground.number;
-  limits = wo.ground.limits;
-  nexts = wo.ground.words;
-}
-
 pub apart_by : (p : Program) (lay : Constants) (w : Words) (g : Graph) (b : Book) (owner : ℕ → Owner) → Ground p lay w g b owner → IsApart p g b
 apart_by p lay w g b owner t = record {
   apart = λ m n x q r. same_object p lay w g b (λ _. []) 0 owner t m n x q.stands r.stands q.above q.below r.above r.below;
@@ -231,10 +187,112 @@ apart_by p lay w g b owner t = record {
   ];
 }
 
-pub is_one_order : OneOrder
-is_one_order p lay w g b es actors last opening legal follows =
-    let x = one_by_one p lay es w g b (λ _. []) actors last (at_opening p lay w g b actors opening) legal follows in
+-- an object that has a word in a block has it in a slot whose bit is set
+housed_there : (p : Program) (lay : Constants) (w : Words) (g : Graph) (b : Book) (owner : ℕ → Owner) → Ground p lay w g b owner → (c name y : ℕ) →
+    c < p.config.blocks → IsWordOf g b name y → block_at p c ≤ y → y < block_at p c + 256 → IsHoused p lay (w.block c) (w.used c) c y
+housed_there p lay w g b owner t c name y l of from to =
+    let some = of.some in
+    let stands = of.stands in
+    let above = of.above in
+    let below = of.below in
+    elim (t.laid.objects.inside name some stands) [
+      | inl young ↦ absurd (let top = young.2 in omega arith)
+      | inr old ↦
+          let h = t.blocks.placed name some stands old.0 in
+          let z = slot_words (g.size name) in
+          let fit = in_size p lay w g b owner t name some stands in
+          let at = h.2.address in
+          let within = slot_in (nursery_end p) h.0 z h.2.slot y h.2.fits (omega arith) (omega arith) in
+          let lo = within.0 in
+          let hi = within.1 in
+          let same : h.0 ≡ c = omega arith in
+          subst (λ d. IsHoused p lay (w.block d) (w.used d) d y) same
+          (record { size = z; slot = h.2.slot; of = h.2.of; fits = h.2.fits; from = omega arith; to = omega arith; taken = h.2.taken })
+    ]
+
+-- where all are over, the book in which what was swept isn't owed any more
+module _ (p : Program) (lay : Constants) (es : List Event) (w : Words) (g : Graph) (b : Book) (actors last : ℕ → Actor)
+    (opening : IsEpochOpening p lay w g b actors) (legal : Legal w (ticks es)) (x : Explained p lay g.count es w g b (λ _. []) no_winner last) where
+  abbrev v : Words
+  v = after w (ticks es)
+
+  abbrev end : Book
+  end = swept_in x.book (swept_of es)
+
+  law : AreLawful p lay w no_winner es
+  law = lawful_runs p lay es w no_winner g x.graph b x.book x.order x.runs
+
+  -- what is owed then was owed as the epoch began, and nobody took it over
+  needs : (c : ℕ) → c < p.config.blocks → end.owed c ≡ true → (s : ℕ) × (v.block c ≡ Need s)
+  needs c l e = elim (cases_Bool (has c (swept_of es))) [
+    | inl h ↦ absurd (let z : false ≡ true = sym (swept_now x.book (swept_of es) c h) ∙ e in cc)
+    | inr n ↦
+        let out = not-in c (swept_of es) n in
+        let was : b.owed c ≡ true = sym (ap (λ (f : ℕ → Bool). f c) x.owed) ∙ sym (owed_still x.book (swept_of es) c out) ∙ e in
+        let need = opening.held.settled.owes c l was in
+        (need.0, untaken_needs p lay c need.0 es w no_winner legal law out need.1)
+  ]
+
+  owes : (c s : ℕ) → c < p.config.blocks → v.block c ≡ Need s → end.owed c ≡ true
+  owes c s l e = elim (cases_Bool (has c (swept_of es))) [
+    | inl h ↦ absurd (subst IsPast e (taken_is_past p lay c es w no_winner legal law h))
+    | inr n ↦ owed_still x.book (swept_of es) c (not-in c (swept_of es) n)
+        ∙ (x.world.ground.blocks.each c l).owing s (subst (λ state. IsOwing state s) (sym e) refl)
+  ]
+
+  ready_end : (k : ℕ) → IsOver (last k).mid → IsReady p x.graph end k (last k) (before_it (last k).mid (last k).script)
+  ready_end k over =
+      let ready = ready_at_rest p lay v x.graph x.book x.says k (last k) (x.world.stands k) over in
+      let same = swept_is x.book (swept_of es) in
+      let stays : (n : ℕ) → StaysPut x.graph x.book x.graph end n = λ n. record {
+        stands = λ q. ap (λ (c : Book). c.stands n) same ∙ q;
+        address = λ q. ap (λ (c : Book). c.address n) same;
+        size = λ q. refl;
+      } in
+      let after = stays_ready p x.graph x.graph x.book end k (last k) (before_it (last k).mid (last k).script) ready
+      (record { register = refl; stack = refl; script = refl; asleep = λ e. ready.script_is ∙ ready.asleep e })
+      (record {
+        registers = λ r. stays (name_in ((x.graph.mutator k).register r));
+        stack = all_stay x.graph x.book x.graph end stays (x.graph.mutator k).stack;
+      }) in
+      subst (λ (a : Actor). IsReady p x.graph end k a (before_it (last k).mid (last k).script))
+      (λ i. owning (last k) ((ap (λ (c : Book). c.from k) same ∙ sym ready.from_is) i) ((ap (λ (c : Book). c.to k) same ∙ sym ready.to_is) i)) after
+
+  at_end : AreOver last → IsAtEnd p lay g.count b x.graph x.book end v last
+  at_end over =
+      let same = swept_is x.book (swept_of es) in
+      let held = held_end p lay g.count v x.graph x.book x.says (winners no_winner es) last x.world over end.owed needs owes in
+      let closed = closed_end p lay g.count v x.graph x.book x.says (winners no_winner es) last x.world over end.owed needs owes b.owed in
+      record {
+        only_owed = same;
+        ready = λ k. ready_end k (over k);
+        held = subst (λ c. IsHeld p lay v x.graph c) (sym same) held;
+        searched = λ k r class j e l.
+            let at = subst (λ mid. KnowsAt p lay v x.book.owed (winners no_winner es) k mid) e (x.world.beside k).at in
+            let passed = subst (λ owed. IsPassed v owed (made_slot p (Mature r class)) j) x.owed (at j l) in
+            subst (λ c. IsClosed p b.owed x.graph c j (made_slot p (Mature r class))) (sym same) (closed (made_slot p (Mature r class)) j l passed);
+        lowest = λ n j new lo.
+            let stands : x.book.stands n ≡ true = ap (λ (c : Book). c.stands n) (sym same) ∙ new.stands in
+            let old : x.book.section n ≡ Old = ap (λ (c : Book). c.section n) (sym same) ∙ new.old in
+            let at : x.book.address n ≡ end.address n = ap (λ (c : Book). c.address n) (sym same) in
+            let l : j < p.config.blocks = below n j (omega (arith, new.new)) stands old (omega (arith, lo, at)) in
+            let passed = subst (λ owed. IsPassed v owed (slot_words (x.graph.size n)) j) x.owed
+            (x.world.lower n j new.new stands l (omega (arith, lo, at))) in
+            subst (λ c. IsClosed p b.owed x.graph c j (slot_words (x.graph.size n))) (sym same) (closed (slot_words (x.graph.size n)) j l passed);
+      }
+    where
+      -- a block below an old object is one of the heap's
+      below : (n j : ℕ) → 1 ≤ n → x.book.stands n ≡ true → x.book.section n ≡ Old → block_at p j + 256 ≤ x.book.address n → j < p.config.blocks
+      below n j some stands old lo = elim (x.world.ground.laid.objects.inside n some stands) [
+        | inl y ↦ absurd (let e : Young ≡ Old = sym y.0 ∙ old in cc)
+        | inr y ↦ let hi = y.2 in omega arith
+      ]
+
+pub is_one_order : BlocksGo → OneOrder
+is_one_order go p lay w g b es actors last opening legal follows =
+    let x = one_by_one go p lay g.count es w g b (λ _. []) no_winner actors last (at_opening p lay w g b no_winner actors opening) legal follows in
     let v = after w (ticks es) in
+    let by = winners no_winner es in
     record {
       order = x.order;
       graph = x.graph;
@@ -251,14 +309,29 @@ is_one_order p lay w g b es actors last opening legal follows =
       tight = λ k s making e. no_place p lay v x.graph x.book x.says x.world.owner x.world.ground k (last k) (x.world.stands k) s making e;
       prepared = λ k s f seen e. has_prepared p lay v x.graph x.book x.says x.world.owner x.world.ground k (last k) (x.world.stands k) s f seen e;
       yielded = λ k e. (wanted_so p lay es w actors last legal follows (wanted_at_opening w actors opening.going opening.idle)).yielded k e;
-      held = held_at_rest p lay v x.graph x.book x.says last x.world;
+      given = λ name e. x.world.ground.laid.objects.given name e;
+      owed = x.owed;
+      runs = x.runs;
+      sweep = sweep_law p lay es w b.owed no_winner legal (law p lay es w g b actors last opening legal x) x.were_owed;
+      blocks = record {
+        owner = x.world.owner;
+        blocks = x.world.ground.blocks;
+        marks = x.world.ground.marks;
+        housed = λ c name y l of from to. housed_there p lay v x.graph x.book x.world.owner x.world.ground c name y l of from to;
+        swept_by = sweeper_there p lay g.count v x.graph x.book x.says by last x.world;
+        one_sweeper = sweeper_alone p lay g.count v x.graph x.book x.says by last x.world;
+        inhabited = object_there p lay g.count v x.graph x.book x.says by last x.world;
+        known = λ k. (x.world.beside k).at;
+        seeking = seeks p lay g.count v x.graph x.book x.says by last x.world;
+      };
+      ended = at_end p lay es w g b actors last opening legal x;
     }
 
 -- before any step: the two words at address 0 stand for nothing, and the nursery is the fragment's
 first_owner : Program → ℕ → Owner
 first_owner p = within_range (within_range (λ _. Nobody) 0 2 (Of 0)) nursery_base (nursery_end p) (Frag 0)
 
-module _ (p : Program) (lay : Constants) (w : Words) (scripts : AreFirstScripts p) (first : AreFirstConstants p lay) (opening : AreFirstWords w) where
+module _ (p : Program) (lay : Constants) (w : Words) (scripts : AreFirstScripts p) (first : AreFirstConstants p lay w) (opening : AreFirstWords w) where
   nil : (n : ℕ) → (n == 0) ≡ true → n ≡ 0
   nil n q = eqb-true n 0 q
 
@@ -359,6 +432,7 @@ module _ (p : Program) (lay : Constants) (w : Words) (scripts : AreFirstScripts 
       number = sym first.fragments;
       limits = λ f l. let e : 0 ≡ f = omega arith in sym first.limit ∙ ap lay.limit e;
       nexts = λ f l. let e : f ≡ 0 = omega arith in ap w.next e ∙ opening.next;
+      marks = first.marks;
     };
     ready = λ k. record {
       regs = λ r. record { word_is = refl; stands = refl };
@@ -370,7 +444,7 @@ module _ (p : Program) (lay : Constants) (w : Words) (scripts : AreFirstScripts 
       kinds = scripts.kinds k;
       runnable = scripts.runnable k;
     };
-    idle = λ k. refl;
+    idle = λ k. inl refl;
     going = opening.stop;
     untold = λ k. refl;
   }

@@ -15,6 +15,7 @@ use Rattle.sg_graph.specs.Epoch.{by_address}
 use Rattle.sg_graph.specs.Invariants.{IsPlain}
 use Rattle.sg_graph.specs.Heap.{Owner, IsKnownEntry, IsLaid}
 use Rattle.sg_rules.specs.Rules.{Constants, StackWord, Mid, Idle, TestTag, TestLength, Access, MarkCard, AccessGlobal, Look, Claim, StoreLength, StoreTag, HideLength, Ask, Left, Yielded, Actor, within, over, over_with}
+use Rattle.sg_rules.specs.Rules.{SeeBlock, TakeBlock, SeeUsed, TakeSlot, TakeOver, StoreOccupancy, ClearSlots, ClearWords, Retired}
 use Rattle.sg_order.specs.Rest.{kind_of_entry, kinds_in}
 use Rattle.sg_rules.specs.Resting.{IsRunnable}
 use Rattle.sg_order.specs.Rest.{StandsAt}
@@ -74,9 +75,10 @@ ground_mutators p lay w g b owner m t = record {
   number = t.number;
   limits = t.limits;
   words = t.words;
+  marks = t.marks;
 }
 
-later_mutators : (p : Program) (w : Words) (g : Graph) (b : Book) (said : ℕ → List Answer) (v : Words) (h : Graph) (c : Book) (k : ℕ) (m : Mutator)
+pub later_mutators : (p : Program) (w : Words) (g : Graph) (b : Book) (said : ℕ → List Answer) (v : Words) (h : Graph) (c : Book) (k : ℕ) (m : Mutator)
     (answers : List Answer) →
     Later p w g b said v h c said k → Later p w g b said v (record h { mutator = put h.mutator k m }) c (put said k answers) k
 later_mutators p w g b said v h c k m answers l = record {
@@ -107,6 +109,7 @@ ground_aside p lay w g b owner stop card t = record {
   number = t.number;
   limits = t.limits;
   words = t.words;
+  marks = t.marks;
 }
 
 pub later_aside : (p : Program) (w : Words) (g : Graph) (b : Book) (said : ℕ → List Answer) (k stop : ℕ) (card : ℕ → ℕ) →
@@ -167,6 +170,15 @@ no_header (Claim s f seen) q x m = m
 no_header (StoreLength s y) q x m = q
 no_header (StoreTag s y) q x m = q
 no_header (HideLength d s offset) q x m = m
+no_header (SeeBlock t begins c) q x m = m
+no_header (TakeBlock s c) q x m = m
+no_header (SeeUsed s c) q x m = m
+no_header (TakeSlot s c i) q x m = m
+no_header (TakeOver t c z) q x m = m
+no_header (StoreOccupancy t c z) q x m = m
+no_header (ClearSlots t c z i) q x m = m
+no_header (ClearWords t c z i f) q x m = m
+no_header Retired q x m = m
 no_header (Ask s) q x m = m
 no_header (Left s) q x m = m
 no_header Yielded q x m = m
@@ -183,6 +195,15 @@ no_mark (Claim s f seen) q x m = m
 no_mark (StoreLength s y) q x m = m
 no_mark (StoreTag s y) q x m = m
 no_mark (HideLength d s offset) q x m = m
+no_mark (SeeBlock t begins c) q x m = m
+no_mark (TakeBlock s c) q x m = m
+no_mark (SeeUsed s c) q x m = m
+no_mark (TakeSlot s c i) q x m = m
+no_mark (TakeOver t c z) q x m = m
+no_mark (StoreOccupancy t c z) q x m = m
+no_mark (ClearSlots t c z i) q x m = m
+no_mark (ClearWords t c z i f) q x m = m
+no_mark Retired q x m = m
 no_mark (Ask s) q x m = m
 no_mark (Left s) q x m = m
 no_mark Yielded q x m = m
@@ -311,7 +332,7 @@ module _ (p : Program) (lay : Constants) (w : Words) (g : Graph) (b : Book) (sai
       (stack_later w g b v h c ch.later.known ch.later.stands ch.later.address ch.later.size slots (g.mutator k).stack q)
 
   -- a deciding step: a whole statement of the graph's mutator
-  pub turned : (mid : Mid) → IsQuiet mid → (v : Words) (h : Graph) (c : Book) (a : Actor) → Change p lay w g b said k a.mid v h c →
+  unfoldable pub turned : (mid : Mid) → IsQuiet mid → (v : Words) (h : Graph) (c : Book) (a : Actor) → Change p lay w g b said k a.mid v h c →
       Heads w g b mid v h c a.mid → (s : Statement) (rest : List Statement) (entry : ℕ → Entry) (answers : List Answer)
       (register : ℕ → Entry) (stack : List Entry) (answer : Answer) →
       IsMutator g said k entry (s ∷ rest) answers →

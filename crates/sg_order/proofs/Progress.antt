@@ -21,7 +21,8 @@ use Rattle.sg_program.specs.Tests.{Test, test_of}
 use Rattle.sg_graph.specs.Graph.{Graph}
 use Rattle.sg_graph.specs.Book.{Book}
 use Rattle.sg_graph.specs.Heap.{Owner}
-use Rattle.sg_rules.specs.Rules.{Constants, StackWord, TestTag, TestLength, Access, AccessGlobal, Look, Claim, HideLength, Actor, before, within, object_in, taken, global_word, IsLength, Comes}
+use Rattle.sg_rules.specs.Rules.{Constants, StackWord, TestTag, TestLength, Access, AccessGlobal, Look, Claim, HideLength, Actor, before, within, object_in, taken, global_word, IsLength, Search, onward, Comes}
+use Rattle.sg_rules.specs.Rules.BlockComes.{mature_begins}
 use Rattle.sg_rules.specs.Rules.Comes.{test_null, test_begins, loads_tag, loads_length, test_fails, put_stores, put_stores_old, marks_card, putd_stores, get_loads, getd_loads, global_begins, gput_stores, gget_loads, num_sets, drop_clears, move_sets, push_sets, pop_sets, hide_null, hide_begins, hide_fits, hide_misses, unhide_sets, same_tells, new_bumps, new_looks, look_finds, look_goes_on, stop_asks, asks, yields, claim_wins, claim_moves, claim_goes_on, stores_length, stores_tag}
 use Rattle.sg_rules.specs.Acting.{Acts}
 use Rattle.sg_order.proofs.Relation.{Ground, Stands}
@@ -31,7 +32,7 @@ use Rattle.sg_order.proofs.Globals.{within_globals}
 use Rattle.sg_order.proofs.Sanity.{is_reference, stacked, runs}
 
 -- what a call for a load, for a store and for an exchange can see
-loads : (w : Words) (place : Place) (other : Step) → call_of other ≡ Loads place → Saw w other → other ≡ Load place (read w place)
+pub loads : (w : Words) (place : Place) (other : Step) → call_of other ≡ Loads place → Saw w other → other ≡ Load place (read w place)
 loads w place (Load q saw) e seen = let at : q ≡ place = cc in ap₂ Load at (sym seen ∙ ap (read w) at)
 loads w place (Store q new) e seen = cc
 loads w place (Won q from new) e seen = cc
@@ -63,13 +64,13 @@ swaps w place from to (Lost q old new found) e seen =
 swaps w place from to (OnBlock step) e seen = cc
 
 -- the mutator makes this step, and is some mutator then
-abbrev GoesOn : Program → Constants → Actor → Step → Type 0
+abbrev pub GoesOn : Program → Constants → Actor → Step → Type 0
 GoesOn p lay a other = (b : Actor) × Acts p lay a other b
 
 module _ (p : Program) (lay : Constants) (w : Words) (g : Graph) (b : Book) (said : ℕ → List Answer) (k : ℕ) (owner : ℕ → Owner)
     (t : Ground p lay w g b owner) where
   by_rule : (a : Actor) (step : Step) (d : Bool) (a' : Actor) → Comes p lay a step d a' → (other : Step) → other ≡ step → GoesOn p lay a other
-  by_rule a step d a' rule other e = subst (λ o. GoesOn p lay a o) (sym e) (a', (d, rule))
+  by_rule a step d a' rule other e = subst (λ o. GoesOn p lay a o) (sym e) (a', (d, inl rule))
 
   module _ (a : Actor) (rest : List Statement) where
     -- a statement begins where no stop is asked for
@@ -101,7 +102,7 @@ module _ (p : Program) (lay : Constants) (w : Words) (g : Graph) (b : Book) (sai
     begins_any : (s : Statement) → Stands p lay w g b said k (before a s rest) → GoesOn p lay (before a s rest) (Load Stop 0)
     begins_any (New r class) st = begins_making (New r class) tt
     begins_any (NewV r class count) st = begins_making (NewV r class count) tt
-    begins_any (Mature r class) st = absurd (runs p lay w g b said owner t k _ st (Mature r class) rest st.at).run
+    begins_any (Mature r class) st = (within a rest (onward p (Search (Mature r class)) 0), (false, inr (mature_begins a (Mature r class) rest tt)))
     begins_any (Put r i s) st = begins_test (Put r i s) _ refl
     begins_any (Get d r i) st = begins_test (Get d r i) _ refl
     begins_any (PutD r i s) st = begins_test (PutD r i s) _ refl
@@ -126,7 +127,7 @@ module _ (p : Program) (lay : Constants) (w : Words) (g : Graph) (b : Book) (sai
     begins_any Sections st = by_rule _ _ _ _ (stop_asks a Sections rest AllSections tt) _ refl
 
     -- the load of the stop word: the statement begins, or the mutator yields
-    begins : (s : Statement) → Stands p lay w g b said k (before a s rest) → (other : Step) → call_of other ≡ Loads Stop → Saw w other →
+    pub begins : (s : Statement) → Stands p lay w g b said k (before a s rest) → (other : Step) → call_of other ≡ Loads Stop → Saw w other →
         GoesOn p lay (before a s rest) other
     begins s st other e saw = elim (cases_eq w.stop 0) [
       | inl z ↦ subst (λ o. GoesOn p lay (before a s rest) o) (sym (loads w Stop other e saw ∙ ap (Load Stop) z)) (begins_any s st)

@@ -5,38 +5,39 @@ use Rattle.sg_words.specs.Address.{byte_at}
 use Rattle.sg_words.specs.Words.{put, Words}
 use Rattle.sg_words.specs.Sections.{nursery_base, globals_base}
 use Rattle.sg_words.specs.Blocks.{card_of}
-use Rattle.sg_words.specs.declared.steps.BlockWord.TheVariants.{Swept, Need, Sweeping}
 use Rattle.sg_program.specs.declared.program.Statement.{Statement}
-use Rattle.sg_program.specs.declared.program.Statement.TheVariants.{New, NewV, Hide, Collect, Sections}
+use Rattle.sg_program.specs.declared.program.Statement.TheVariants.{New, NewV, Mature, Hide, Collect, Sections}
 use Rattle.sg_program.specs.declared.program.Program.{Program}
 use Rattle.sg_program.specs.declared.answers.Answer.{Answer}
 use Rattle.sg_program.specs.declared.answers.Answer.TheVariants.{At, Nil, Null, Number, Fine, Yes, No, Field, Full}
 use Rattle.sg_desc.specs.Shapes.{has_field, is_strong}
-use Rattle.sg_program.specs.Scripts.{kind_of, words_for, IsMaking, made_in, made_class, made_fields, made_words}
+use Rattle.sg_program.specs.Scripts.{kind_of, words_for, IsMaking, IsMature, made_in, made_class, made_fields, made_words}
 use Rattle.sg_program.specs.Invariants.{FindKinds}
 use Rattle.sg_graph.specs.Graph.{Entry, Ref, Graph}
 use Rattle.sg_program.specs.Tests.{Test, test_of}
-use Rattle.sg_graph.specs.Book.{Book, Section, Young, Old, IsShort, LacksRoom, word_of, block_at}
+use Rattle.sg_graph.specs.Book.{Book, Section, Young, Old, IsShort, LacksRoom, word_of}
 use Rattle.sg_graph.specs.Epoch.{Turn, by_address}
 use Rattle.sg_words.specs.Lists.{Pairwise}
 use Rattle.sg_graph.specs.Invariants.{IsPlain}
 use Rattle.sg_graph.specs.Heap.{Owner, IsHeaded, IsKnown, IsKnownEntry, IsLaid, layout_of}
 use Rattle.sg_graph.specs.Blocks.{AreBlocks}
 use Rattle.sg_rules.specs.Rules.{Constants, StackWord, Mid, Idle, TestTag, TestLength, Access, MarkCard, AccessGlobal, Look, Claim, StoreLength, StoreTag, HideLength, Ask, Left, Yielded, Actor, IsGlobal}
+use Rattle.sg_rules.specs.Rules.{Task, Search, Roam, SeeBlock, TakeBlock, SeeUsed, TakeSlot, TakeOver, StoreOccupancy, ClearSlots, ClearWords, Retired}
 use Rattle.sg_rules.specs.Sane.{IsHeading, IsCard}
 use Rattle.sg_order.specs.Rest.{kinds_in, Holds}
 use Rattle.sg_rules.specs.Resting.{IsRunnable}
 use Rattle.sg_order.specs.Rest.{StandsAt}
 
--- what no mutator's private state enters into: the words hold the graph, the blocks are as their own words say, and the fragments are
--- the book's
+-- what no mutator's private state enters into: the words hold the graph, the blocks are as their own words say, the fragments are the
+-- book's, and the marks the constants'
 pub record Ground (p : Program) (lay : Constants) (w : Words) (g : Graph) (b : Book) (owner : ℕ → Owner) : Type 0 where
   pub laid : IsLaid p w.word g b owner
-  pub blocks : AreBlocks p w.marks w.block w.used w.word g.size b.stands b.address b.section b.owed owner
+  pub blocks : AreBlocks p lay.marks w.block w.used w.word g.size b.stands b.address b.section b.owed owner
   pub plain : IsPlain p g
   pub number : b.fragments ≡ lay.fragments
   pub limits : (f : ℕ) → f < b.fragments → b.limit f ≡ lay.limit f
   pub words : (f : ℕ) → f < b.fragments → w.next f ≡ byte_at (b.next f)
+  pub marks : w.marks ≡ lay.marks
 
 -- the object in this answer stands
 abbrev pub IsGiven : (ℕ → Bool) → Answer → Type 0
@@ -66,10 +67,12 @@ pub record Tight (b : Book) (k n f : ℕ) : Type 0 where
   pub short : IsShort b k n
   pub below : (j : ℕ) → j < f → LacksRoom b n j
 
--- a statement that asks: a new object, for which neither the buffer nor any fragment has room, or one that asks in any case
+-- a statement that asks: a new object, for which neither the buffer nor any fragment has room; one of the major heap, of whose slots
+-- more is known elsewhere; or one that asks in any case
 abbrev pub AsksForRoom : Program → Constants → Book → ℕ → Statement → Type 0
 AsksForRoom p lay b k (New r class) = Tight b k (made_words p (New r class)) lay.fragments
 AsksForRoom p lay b k (NewV r class count) = Tight b k (made_words p (NewV r class count)) lay.fragments
+AsksForRoom p lay b k (Mature r class) = Unit {0}
 AsksForRoom p lay b k (Collect major) = Unit {0}
 AsksForRoom p lay b k Sections = Unit {0}
 AsksForRoom p lay b k s = ⊥
@@ -89,7 +92,7 @@ pub record Tested (p : Program) (g : Graph) (entry : ℕ → Entry) (s : Stateme
   pub some : name ≢ 0
   pub finds : has_field test.sort (kind_of p (g.class name)) (g.size name) test.field ≡ true
 
--- the new object with this name has its place in the nursery, and mutator k of the graph is ahead: it has its answer
+-- the new object with this name has its place, and mutator k of the graph is ahead: it has its answer
 pub record Placed (p : Program) (g : Graph) (b : Book) (said : ℕ → List Answer) (k : ℕ) (entry : ℕ → Entry) (answers : List Answer) (rest : List Statement)
     (s : Statement) (x : ℕ) : Type 0 where
   pub name : ℕ
@@ -100,6 +103,11 @@ pub record Placed (p : Program) (g : Graph) (b : Book) (said : ℕ → List Answ
   pub class_is : g.class name ≡ made_class s
   pub heading : IsHeading p s x
   pub ahead : IsMutator g said k (put entry (made_in s) (Ref name)) rest (answers ++ At name ∷ [])
+
+-- a search has its statement still to come, and the sweeper is in none
+abbrev pub AtTask : Program → Graph → (ℕ → List Answer) → ℕ → (ℕ → Entry) → List Answer → List Statement → Task → Type 0
+AtTask p g said k entry answers rest (Search s) = IsMature s × IsMutator g said k entry (s ∷ rest) answers
+AtTask p g said k entry answers rest Roam = IsMutator g said k entry rest answers
 
 -- The graph's mutator, by where the mutator of the program stands in its statement. From the deciding step on it is ahead.
 abbrev pub AtMid : Program → Constants → Words → Graph → Book → (ℕ → List Answer) → ℕ → (ℕ → Entry) → List Answer → List Statement → Mid → Type 0
@@ -120,6 +128,15 @@ AtMid p lay w g b said k entry answers rest (StoreTag s x) = Placed p g b said k
 AtMid p lay w g b said k entry answers rest (HideLength d s offset) =
     (name : ℕ) × (entry s ≡ Ref name) × (name ≢ 0) × IsMutator g said k entry (Hide d s offset ∷ rest) answers
 AtMid p lay w g b said k entry answers rest (Ask s) = AsksForRoom p lay b k s × IsMutator g said k entry (s ∷ rest) answers
+AtMid p lay w g b said k entry answers rest (SeeBlock t begins c) = AtTask p g said k entry answers rest t
+AtMid p lay w g b said k entry answers rest (TakeBlock s c) = AtTask p g said k entry answers rest (Search s)
+AtMid p lay w g b said k entry answers rest (SeeUsed s c) = AtTask p g said k entry answers rest (Search s)
+AtMid p lay w g b said k entry answers rest (TakeSlot s c i) = AtTask p g said k entry answers rest (Search s)
+AtMid p lay w g b said k entry answers rest (TakeOver t c z) = AtTask p g said k entry answers rest t
+AtMid p lay w g b said k entry answers rest (StoreOccupancy t c z) = AtTask p g said k entry answers rest t
+AtMid p lay w g b said k entry answers rest (ClearSlots t c z i) = AtTask p g said k entry answers rest t
+AtMid p lay w g b said k entry answers rest (ClearWords t c z i f) = AtTask p g said k entry answers rest t
+AtMid p lay w g b said k entry answers rest Retired = IsMutator g said k entry rest answers
 AtMid p lay w g b said k entry answers rest Yielded = IsMutator g said k entry rest answers
 AtMid p lay w g b said k entry answers rest (Left s) = AsksForRoom p lay b k s × IsMutator g said k entry (s ∷ rest) answers
 
@@ -238,29 +255,3 @@ pub record Kept (p : Program) (lay : Constants) (w : Words) (g : Graph) (b : Boo
   pub cards : Cards p g b mid v h c a.mid
   pub ground : Ground p lay v h c owner
   pub stands : Stands p lay v h c said' k a
-
--- what a step leaves of the blocks' own words: by the rules of today all
-pub record SameBlocks (w v : Words) : Type 0 where
-  pub block : v.block ≡ w.block
-  pub used : v.used ≡ w.used
-  pub marks : v.marks ≡ w.marks
-
--- an old object stands in block c
-abbrev pub HasObject : Program → Book → ℕ → Type 0
-HasObject p b c = (n : ℕ) × (1 ≤ n) × (b.stands n ≡ true) × (block_at p c ≤ b.address n) × (b.address n < block_at p c + 256)
-
--- no block is being swept, each swept one has an object, and the owed ones are still to be swept
-pub record AreResting (p : Program) (w : Words) (b : Book) : Type 0 where
-  pub settled : (c s : ℕ) → c < p.config.blocks → w.block c ≡ Sweeping s → ⊥
-  pub inhabited : (c s : ℕ) → c < p.config.blocks → w.block c ≡ Swept s → HasObject p b c
-  pub owes : (c : ℕ) → c < p.config.blocks → b.owed c ≡ true → (s : ℕ) × (w.block c ≡ Need s)
-
--- the relation for all mutators: each object is headed, or a mutator is about to write its header; and each card that is needed is
--- dirty, or a mutator is about to mark it
-pub record World (p : Program) (lay : Constants) (w : Words) (g : Graph) (b : Book) (said : ℕ → List Answer) (actors : ℕ → Actor) : Type 0 where
-  pub owner : ℕ → Owner
-  pub ground : Ground p lay w g b owner
-  pub stands : (k : ℕ) → Stands p lay w g b said k (actors k)
-  pub headed : (n : ℕ) → 1 ≤ n → b.stands n ≡ true → IsHeaded w.word g b n ⊎ ((k : ℕ) × WritesHeader (b.address n) (actors k).mid)
-  pub resting : AreResting p w b
-  pub carded : (card : ℕ) → IsNeeded p g b card → (w.card card ≡ 1) ⊎ ((k : ℕ) × Marks card (actors k).mid)

@@ -17,11 +17,15 @@ use Rattle.sg_graph.specs.Graph.{Entry, Ref, Int, Inner, Graph}
 use Rattle.sg_graph.specs.Book.{Book, word_of}
 use Rattle.sg_graph.specs.Heap.{Owner}
 use Rattle.sg_rules.specs.Rules.{Constants, StackWord, Mid, Idle, TestTag, TestLength, Access, MarkCard, AccessGlobal, Look, Claim, StoreLength, StoreTag, HideLength, Ask, Left, Yielded, Actor, sections_of, IsInHeap, IsReference}
+use Rattle.sg_rules.specs.Rules.{Task, Search, Roam, SeeBlock, TakeBlock, SeeUsed, TakeSlot, TakeOver, StoreOccupancy, ClearSlots, ClearWords, Retired}
 use Rattle.sg_rules.specs.Resting.{IsRunnable}
-use Rattle.sg_rules.specs.Sane.{HasBuffer, HoldsInner, RestsOn, IsSaneAt, IsSane}
+use Rattle.sg_rules.specs.Sane.{HasBuffer, HoldsInner, RestsOn, IsSearching, IsOnTask, IsSweeping, IsSaneAt, IsSane}
+use Rattle.sg_words.specs.Blocks.{IsOf}
+use Rattle.sg_order.specs.Knowing.{Sweeps, KnowsAt}
 use Rattle.sg_order.specs.Rest.{kind_of_entry, StandsAt}
 use Rattle.sg_order.proofs.Accesses.{reference_field, plain_field}
-use Rattle.sg_order.proofs.Relation.{Ground, IsMutator, AtMid, Keeps, Stands}
+use Rattle.sg_order.proofs.Relation.{Ground, IsMutator, AtTask, AtMid, Keeps, Stands}
+use Rattle.sg_order.proofs.Beside.{Beside}
 use Rattle.sg_order.proofs.Moves.{kinds_of, fits_as, runnable_as}
 use Rattle.sg_order.proofs.Loads.{is_ref, reg_at, known_at, object_at}
 
@@ -124,23 +128,38 @@ module _ (p : Program) (lay : Constants) (w : Words) (g : Graph) (b : Book) (sai
     pub runs : (s : Statement) (rest : List Statement) → IsMutator g said k st.entry (s ∷ rest) st.answers → IsRunnable p s
     runs s rest is = (runnable_as p lay w g b said k st.entry (s ∷ rest) st.answers is st.runnable).0
 
-    sane_at : (mid : Mid) → AtMid p lay w g b said k st.entry st.answers a.script mid → IsSaneAt p lay a mid
-    sane_at Idle at = λ s rest script.
+    searching : (s : Statement) (c : ℕ) → AtTask p g said k st.entry st.answers a.script (Search s) → c < p.config.blocks → IsSearching p s c
+    searching s c at there = record { runnable = runs s a.script at.1; makes = at.0; there = there }
+
+    on_task : (u : Task) (c : ℕ) → AtTask p g said k st.entry st.answers a.script u → c < p.config.blocks → IsOnTask p u c
+    on_task (Search s) c at there = searching s c at there
+    on_task Roam c at there = there
+
+    -- a block that is being swept has slots of a size class
+    in_sweep : (by : ℕ → ℕ) (u : Task) (c z : ℕ) → AtTask p g said k st.entry st.answers a.script u → Sweeps p w.block by k c z → IsSweeping p u c z
+    in_sweep by u c z at own = record {
+      task = on_task u c at own.there;
+      there = own.there;
+      class = t.blocks.sized c z own.there (subst (λ state. IsOf state z) (sym own.word) refl);
+    }
+
+    sane_at : (by : ℕ → ℕ) (mid : Mid) → AtMid p lay w g b said k st.entry st.answers a.script mid → KnowsAt p lay w b.owed by k mid → IsSaneAt p lay a mid
+    sane_at by Idle at knows = λ s rest script.
         let is = subst (λ statements. IsMutator g said k st.entry statements st.answers) script at in
         record { runnable = runs s rest is; rests = rests_on s (fits_as p lay w g b said k st.entry (s ∷ rest) st.answers is st.fits).0 }
-    sane_at (TestTag s test) at = record {
+    sane_at by (TestTag s test) at knows = record {
       runnable = runs s a.script at.1;
       tests = at.0.tests;
       object = in_register test.register at.0.name at.0.holds at.0.some;
     }
-    sane_at (TestLength s test class) at =
+    sane_at by (TestLength s test class) at knows =
         let n = at.0 in
         let stands = (known_at p lay w g b said k owner t a st test.register n.name n.holds).0 in
         let some = n.some in (
           record { runnable = runs s a.script at.2; tests = n.tests; object = in_register test.register n.name n.holds n.some },
           subst (λ c. c < length p.classes) (sym at.1) (t.laid.objects.shaped n.name (omega arith) stands).0,
         )
-    sane_at (Access s) at =
+    sane_at by (Access s) at knows =
         let test = at.0 in
         let n = at.1 in
         let stands = (known_at p lay w g b said k owner t a st test.register n.name n.holds).0 in
@@ -152,10 +171,10 @@ module _ (p : Program) (lay : Constants) (w : Words) (g : Graph) (b : Book) (sai
           testing = record { runnable = runs s a.script at.2; tests = n.tests; object = in_register test.register n.name n.holds n.some };
           inside = omega (arith, object, ends, below);
         }
-    sane_at (MarkCard s card) at = at.0
-    sane_at (AccessGlobal s) at = (runs s a.script at.1, at.0)
-    sane_at (Look s f) at = (record { runnable = runs s a.script at.3; makes = at.0 }, at.1)
-    sane_at (Claim s f seen) at =
+    sane_at by (MarkCard s card) at knows = at.0
+    sane_at by (AccessGlobal s) at knows = (runs s a.script at.1, at.0)
+    sane_at by (Look s f) at knows = (record { runnable = runs s a.script at.3; makes = at.0 }, at.1)
+    sane_at by (Claim s f seen) at knows =
         let there : f < b.fragments = let l = at.1 in omega (arith, t.number) in
         record {
           maker = record { runnable = runs s a.script at.4; makes = at.0 };
@@ -164,12 +183,26 @@ module _ (p : Program) (lay : Constants) (w : Words) (g : Graph) (b : Book) (sai
           room = at.3;
           inside = omega (arith, t.limits f there, (t.laid.fragments.inside f there).2);
         }
-    sane_at (StoreLength s x) at = at.heading
-    sane_at (StoreTag s x) at = at.0.heading
-    sane_at (HideLength d s offset) at = in_register s at.0 at.1 at.2
-    sane_at (Ask s) at = tt
-    sane_at (Left s) at = tt
-    sane_at Yielded at = tt
+    sane_at by (StoreLength s x) at knows = at.heading
+    sane_at by (StoreTag s x) at knows = at.0.heading
+    sane_at by (HideLength d s offset) at knows = in_register s at.0 at.1 at.2
+    sane_at by (SeeBlock u begins c) at knows = λ may. on_task u c at (knows.1 may)
+    sane_at by (TakeBlock s c) at knows = searching s c at knows.1
+    sane_at by (SeeUsed s c) at knows = searching s c at knows.1
+    sane_at by (TakeSlot s c i) at knows = (searching s c at knows.1, knows.3)
+    sane_at by (TakeOver u c z) at knows = record { task = on_task u c at knows.1; there = knows.1; class = knows.2 }
+    sane_at by (StoreOccupancy u c z) at knows = in_sweep by u c z at knows.1
+    sane_at by (ClearSlots u c z i) at knows = in_sweep by u c z at knows.1.sweeps
+    sane_at by (ClearWords u c z i f) at knows = record {
+      sweeping = in_sweep by u c z at knows.1.mid.sweeps;
+      fits = knows.1.fits;
+      word = knows.1.more;
+      unmarked = knows.1.unmarked;
+    }
+    sane_at by Retired at knows = tt
+    sane_at by (Ask s) at knows = tt
+    sane_at by (Left s) at knows = tt
+    sane_at by Yielded at knows = tt
 
-    pub is_sane : IsSane p lay a
-    is_sane = sane_at a.mid st.at
+    pub is_sane : (by : ℕ → ℕ) → Beside p lay w b by k a.mid → IsSane p lay a
+    is_sane by be = sane_at by a.mid st.at be.at

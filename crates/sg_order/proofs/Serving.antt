@@ -11,7 +11,7 @@ use Rattle.sg_program.specs.declared.program.Program.{Program}
 use Rattle.sg_program.specs.declared.answers.Answer.{Answer}
 use Rattle.sg_program.specs.declared.answers.Answer.TheVariants.{At, Fine, Full}
 use Rattle.sg_program.specs.Kinds.{kinds_after}
-use Rattle.sg_program.specs.Scripts.{fields_of, words_for, made_in, IsMaking}
+use Rattle.sg_program.specs.Scripts.{fields_of, words_for, made_in, MakesObject}
 use Rattle.sg_program.specs.Invariants.{FindKinds}
 use Rattle.sg_graph.specs.Graph.{Entry, Ref, Int, Inner, Mutator, Graph, grown, advanced}
 use Rattle.sg_graph.specs.Statements.{Answers, hands_after, heap_after, setting, name_in}
@@ -75,6 +75,16 @@ record StandsNew (b : Book) (name : ℕ) (c : Book) : Type 0 where
   from_is : c.from ≡ b.from
   to_is : c.to ≡ b.to
 
+-- in a slot
+stands_slotted : (p : Program) (g : Graph) (b : Book) (fields name j i : ℕ) (c : Book) → TakesSlot p g b fields name j i c → StandsNew b name c
+stands_slotted p g b fields name j i c takes = record {
+  address = slot_at p j (slot_words fields) i;
+  stands_are = ap (λ (d : Book). d.stands) takes.after;
+  address_are = ap (λ (d : Book). d.address) takes.after;
+  from_is = ap (λ (d : Book). d.from) takes.after;
+  to_is = ap (λ (d : Book). d.to) takes.after;
+}
+
 -- in a fragment or in a slot
 stands_placed : (p : Program) (how : Placing) (g : Graph) (b : Book) (fields name : ℕ) (c : Book) → PlacesNew p how g b fields name c → StandsNew b name c
 stands_placed p how g b fields name c = go how
@@ -88,20 +98,11 @@ stands_placed p how g b fields name c = go how
       to_is = ap (λ (d : Book). d.to) takes.after;
     }
 
-    in_slot : (j i : ℕ) → TakesSlot p g b fields name j i c → StandsNew b name c
-    in_slot j i takes = record {
-      address = slot_at p j (slot_words fields) i;
-      stands_are = ap (λ (d : Book). d.stands) takes.after;
-      address_are = ap (λ (d : Book). d.address) takes.after;
-      from_is = ap (λ (d : Book). d.from) takes.after;
-      to_is = ap (λ (d : Book). d.to) takes.after;
-    }
-
     go : (how : Placing) → PlacesNew p how g b fields name c → StandsNew b name c
     go InFragments places = in_fragment places.0 places.1
     go InSlotsToo places = elim places [
       | inl young ↦ in_fragment young.0 young.1
-      | inr old ↦ in_slot old.1.0 old.1.1 old.1.2
+      | inr old ↦ stands_slotted p g b fields name old.1.0 old.1.1 c old.1.2
     ]
 
 module _ (p : Program) (lay : Constants) (w : Words) (g : Graph) (b : Book) (k : ℕ) (a : Actor) (held : IsHeld p lay w g b) where
@@ -164,7 +165,7 @@ module _ (p : Program) (lay : Constants) (w : Words) (g : Graph) (b : Book) (k :
         awake e = let q : s ∷ rest ≡ [] = ready.asleep e in cc
 
     -- a new object's register
-    making : IsMaking s → (name word : ℕ) → c.stands name ≡ true → word ≡ byte_at (c.address name) →
+    making : MakesObject s → (name word : ℕ) → c.stands name ≡ true → word ≡ byte_at (c.address name) →
         AreReadyBehind p g b k (done (setting m (made_in s) (Ref name))) c (record a { reg = put a.reg (made_in s) word; script = rest; mid = Idle }) rest
     making makes name word stands is =
         behind (put m.register (made_in s) (Ref name)) (put a.reg (made_in s) word)
@@ -209,21 +210,18 @@ module _ (p : Program) (lay : Constants) (w : Words) (g : Graph) (b : Book) (k :
       old : b.stands name ≡ true → name ≢ suc g.count
       old q e = let l = held.heap.laid.objects.given name q in omega arith
 
-  -- a new object of the nursery is answered, wherever it stands
-  made : (s : Statement) (rest : List Statement) → IsMaking s → (how : Placing) (class fields name : ℕ) (h : Graph) (c : Book) → IsReady p g b k a (s ∷ rest) →
-      name ≡ suc g.count → h ≡ advanced (grown p g k class fields) k (setting m (made_in s) (Ref name)) rest → PlacesNew p how g b fields name c →
+  -- a new object is answered, wherever it stands
+  made : (s : Statement) (rest : List Statement) → MakesObject s → (class fields name : ℕ) (h : Graph) (c : Book) → IsReady p g b k a (s ∷ rest) →
+      name ≡ suc g.count → h ≡ advanced (grown p g k class fields) k (setting m (made_in s) (Ref name)) rest → StandsNew b name c →
       AreReadyBehind p g b k h c (record a { reg = put a.reg (made_in s) (byte_at (c.address name)); script = rest; mid = Idle }) rest
-  made s rest makes how class fields name h c ready is after places =
+  made s rest makes class fields name h c ready is after new =
       subst (λ q. AreReadyBehind p g b k q c (record a { reg = put a.reg (made_in s) (byte_at (c.address name)); script = rest; mid = Idle }) rest) (sym after)
       (making s rest ready (grown p g k class fields) c
       (grown_stays class fields c (subst (λ n. StandsNew b n c) is new)) refl new.from_is new.to_is makes name (byte_at (c.address name))
       (ap (λ (f : ℕ → Bool). f name) new.stands_are ∙ put-same b.stands name true) refl)
-    where
-      new : StandsNew b name c
-      new = stands_placed p how g b fields name c places
 
   -- a new object has no place
-  missed : (s : Statement) (rest : List Statement) → IsMaking s → (h : Graph) (c : Book) → IsReady p g b k a (s ∷ rest) →
+  missed : (s : Statement) (rest : List Statement) → MakesObject s → (h : Graph) (c : Book) → IsReady p g b k a (s ∷ rest) →
       h ≡ advanced g k (setting m (made_in s) (Ref 0)) rest → c ≡ b →
       AreReadyBehind p g b k h c (record a { reg = put a.reg (made_in s) 0; script = rest; mid = Idle }) rest
   missed s rest makes h c ready after places =
@@ -243,16 +241,20 @@ module _ (p : Program) (lay : Constants) (w : Words) (g : Graph) (b : Book) (k :
       (λ r. holds_on g b (advanced g k m rest) b (a.reg r) (a.offset r) (m.register r) (record { stands = λ q. q; address = λ q. refl; size = λ q. refl })
       (ready.regs r)) kinds))
 
-  -- the answers of the statements that ask; an object of the major heap isn't asked for yet
+  -- the answers of the statements that ask
   answers : (how : Placing) (s : Statement) (rest : List Statement) (answer : Answer) (h : Graph) (c : Book) → IsReady p g b k a (s ∷ rest) →
       Answers p g m s answer → h ≡ advanced (heap_after p g k m s answer) k (hands_after m s answer) rest → Places p how g b s answer c →
       AreReadyBehind p g b k h c (served a s rest (by_address c answer)) rest
   answers how (New r class) rest (At name) h c ready is after places =
-      made (New r class) rest tt how class (fields_of p class) name h c ready is after places.1
-  answers how (NewV r class count) rest (At name) h c ready is after places = made (NewV r class count) rest tt how class count name h c ready is after places.1
-  answers how (New r class) rest Full h c ready is after places = missed (New r class) rest tt h c ready after places.2
-  answers how (NewV r class count) rest Full h c ready is after places = missed (NewV r class count) rest tt h c ready after places.2
-  answers how (Mature r class) rest answer h c ready is after places = absurd ready.runnable.0.run
+      made (New r class) rest (inl tt) class (fields_of p class) name h c ready is after (stands_placed p how g b (fields_of p class) name c places.1)
+  answers how (NewV r class count) rest (At name) h c ready is after places =
+      made (NewV r class count) rest (inl tt) class count name h c ready is after (stands_placed p how g b count name c places.1)
+  answers how (Mature r class) rest (At name) h c ready is after places =
+      made (Mature r class) rest (inr tt) class (fields_of p class) name h c ready is after
+      (stands_slotted p g b (fields_of p class) name places.0 places.1 c places.2)
+  answers how (New r class) rest Full h c ready is after places = missed (New r class) rest (inl tt) h c ready after places.2
+  answers how (NewV r class count) rest Full h c ready is after places = missed (NewV r class count) rest (inl tt) h c ready after places.2
+  answers how (Mature r class) rest Full h c ready is after places = missed (Mature r class) rest (inr tt) h c ready after places.1
   answers how (Collect major) rest Fine h c ready is after places = told (Collect major) rest h c ready ready.kinds.1 after places
   answers how Sections rest Fine h c ready is after places = told Sections rest h c ready ready.kinds.1 after places
   answers how s rest answer h c ready is after places = absurd places

@@ -13,10 +13,13 @@ use Rattle.sg_rules.specs.Rules.{Constants, Actor, Follows}
 use Rattle.sg_order.specs.OneOrder.{IsOneOrder, OpensSoFar, GoesSoFar, IsSoFar, OrdersSoFar, AreGoing, GoesAlways}
 use Rattle.sg_words.proofs.Puts.{put-all}
 use Rattle.sg_order.proofs.Events.{part-own, part-none, ticks-own}
-use Rattle.sg_order.proofs.Relation.{World}
+use Rattle.sg_order.proofs.Beside.{World}
+use Rattle.sg_graph.specs.Laws.{BlocksGo}
+use Rattle.sg_order.specs.Sweep.{no_winner, winners}
 use Rattle.sg_order.proofs.Whole.{Explained, one_by_one}
 use Rattle.sg_order.proofs.Sanity.{is_sane}
 use Rattle.sg_order.proofs.Progress.{goes_on}
+use Rattle.sg_order.proofs.BlockProgress.{goes_on_blocks}
 use Rattle.sg_order.proofs.Law.{at_opening, is_one_order}
 
 after_more : (w : Words) (ss ts : List Tick) → after w (ss ++ ts) ≡ after (after w ss) ts
@@ -68,25 +71,29 @@ goes_so_far p lay g b w actors k a v so went =
           (so.follows j));
     }
 
-pub orders_so_far : OrdersSoFar
-orders_so_far p lay g b w actors so = subst (λ v. IsOneOrder p lay g b so.events v actors) so.is
-    (is_one_order p lay so.opened g b so.events so.first actors so.opening so.legal so.follows)
+pub orders_so_far : BlocksGo → OrdersSoFar
+orders_so_far go p lay g b w actors so = subst (λ v. IsOneOrder p lay so.opened g b so.events v actors) so.is
+    (is_one_order go p lay so.opened g b so.events so.first actors so.opening so.legal so.follows)
 
 -- in the midst of an epoch one order explains what came so far, and the words and the mutators stand to the graph after it
-pub explained_so_far : (p : Program) (lay : Constants) (g : Graph) (b : Book) (w : Words) (actors : ℕ → Actor) → (so : IsSoFar p lay g b w actors) →
-    Explained p lay so.events so.opened g b (λ _. []) actors
-explained_so_far p lay g b w actors so =
-    one_by_one p lay so.events so.opened g b (λ _. []) so.first actors (at_opening p lay so.opened g b so.first so.opening) so.legal so.follows
+explained_so_far : BlocksGo → (p : Program) (lay : Constants) (g : Graph) (b : Book) (w : Words) (actors : ℕ → Actor) → (so : IsSoFar p lay g b w actors) →
+    Explained p lay g.count so.events so.opened g b (λ _. []) no_winner actors
+explained_so_far go p lay g b w actors so =
+    one_by_one go p lay g.count so.events so.opened g b (λ _. []) no_winner so.first actors
+    (at_opening p lay so.opened g b no_winner so.first so.opening) so.legal so.follows
 
-going : (p : Program) (lay : Constants) (w : Words) (g : Graph) (b : Book) (said : ℕ → List Answer) (actors : ℕ → Actor) →
-    World p lay w g b said actors → AreGoing p lay w actors
-going p lay w g b said actors wo = record {
-  sane = λ k. is_sane p lay w g b said wo.owner wo.ground k (actors k) (wo.stands k);
-  goes_on = λ k step a other acts e saw.
-      goes_on p lay w g b said k wo.owner wo.ground (actors k) step acts.0 a acts.1 (wo.stands k) other e saw;
+going : (p : Program) (lay : Constants) (first : ℕ) (w : Words) (g : Graph) (b : Book) (said : ℕ → List Answer) (by : ℕ → ℕ) (actors : ℕ → Actor) →
+    World p lay first w g b said by actors → AreGoing p lay w actors
+going p lay first w g b said by actors wo = record {
+  sane = λ k. is_sane p lay w g b said wo.owner wo.ground k (actors k) (wo.stands k) by (wo.beside k);
+  goes_on = λ k step a other acts e saw. elim acts.1 [
+    | inl comes ↦ goes_on p lay w g b said k wo.owner wo.ground (actors k) step acts.0 a comes (wo.stands k) other e saw
+    | inr comes ↦ goes_on_blocks p lay w g b said by k wo.owner wo.ground (actors k) step acts.0 a comes (wo.stands k) (wo.beside k) other e saw
+  ];
 }
 
-pub goes_always : GoesAlways
-goes_always p lay g b w actors so =
-    let x = explained_so_far p lay g b w actors so in
-    subst (λ v. AreGoing p lay v actors) so.is (going p lay (after so.opened (ticks so.events)) x.graph x.book x.says actors x.world)
+pub goes_always : BlocksGo → GoesAlways
+goes_always go p lay g b w actors so =
+    let x = explained_so_far go p lay g b w actors so in
+    subst (λ v. AreGoing p lay v actors) so.is
+    (going p lay g.count (after so.opened (ticks so.events)) x.graph x.book x.says (winners no_winner so.events) actors x.world)

@@ -7,9 +7,11 @@ use Rattle.sg_words.specs.Events.{Event, ticks, part}
 use Rattle.sg_words.proofs.Puts.{put-same, put-other, put-all, put-at}
 use Rattle.sg_program.specs.declared.program.Statement.{Statement}
 use Rattle.sg_program.specs.declared.program.Program.{Program}
-use Rattle.sg_rules.specs.Rules.{Constants, Mid, Idle, Look, Ask, Left, Yielded, Actor, looking, Comes, Follows}
+use Rattle.sg_rules.specs.Rules.{Constants, Task, Search, Roam, Mid, Idle, Look, Ask, Left, Yielded, SeeBlock, Actor, looking, ends_at, onward}
+use Rattle.sg_rules.specs.Rules.{Comes, BlockComes, NextStep, Follows}
+use Rattle.sg_rules.specs.Rules.BlockComes.{mature_begins, sees_full, sees_other, sees_sweeping, roams_on, roams_free, roams_swept}
 use Rattle.sg_rules.specs.Rules.Comes.{test_null, test_begins, loads_tag, loads_length, test_fails, put_stores, put_stores_old, marks_card, putd_stores, get_loads, getd_loads, global_begins, gput_stores, gget_loads, num_sets, drop_clears, move_sets, push_sets, pop_sets, hide_null, hide_begins, hide_fits, hide_misses, unhide_sets, same_tells, new_bumps, new_looks, look_finds, look_goes_on, stop_asks, asks, yields, claim_wins, claim_moves, claim_goes_on, stores_length, stores_tag}
-use Rattle.sg_order.specs.Rest.{IsWanted}
+use Rattle.sg_order.specs.Rest.{IsWanted, IsFirst}
 use Rattle.sg_order.proofs.Events.{part-same, part-other}
 
 abbrev is_left : Mid → Bool
@@ -31,6 +33,16 @@ looks_quietly lay s f = elim (cases_Bool (nat_lt f lay.fragments)) [
   | inl e ↦ ap is_yielded (cond-true (nat_lt f lay.fragments) (Look s f) (Ask s) e)
   | inr e ↦ ap is_yielded (cond-false (nat_lt f lay.fragments) (Look s f) (Ask s) e)
 ]
+
+goes_quietly : (p : Program) (t : Task) (c : ℕ) → is_yielded (onward p t c) ≡ false
+goes_quietly p t c = elim (cases_Bool (nat_lt c p.config.blocks)) [
+  | inl e ↦ ap is_yielded (cond-true (nat_lt c p.config.blocks) (SeeBlock t false c) (ends_at t) e)
+  | inr e ↦ ap is_yielded (cond-false (nat_lt c p.config.blocks) (SeeBlock t false c) (ends_at t) e) ∙ ends t
+]
+  where
+    ends : (t : Task) → is_yielded (ends_at t) ≡ false
+    ends (Search s) = refl
+    ends Roam = refl
 
 -- what a step does to the stop word: it stays, or its actor leaves with a statement; who has left makes no step; and who yields found
 -- the word set
@@ -82,20 +94,37 @@ module _ (p : Program) (lay : Constants) (w : Words) where
   stopping _ _ _ _ (stores_length a s rest x) saw = quiet w _ _ _ refl refl refl
   stopping _ _ _ _ (stores_tag a s rest x) saw = quiet w _ _ _ refl refl refl
 
+  stopping_blocks : (a : Actor) (e : Step) (d : Bool) (b : Actor) → BlockComes p lay a e d b → Saw w e → Stops w a e b
+  stopping_blocks _ _ _ _ (mature_begins a s rest mature) saw = quiet w _ _ _ refl refl (goes_quietly p (Search s) 0)
+  stopping_blocks _ _ _ _ (sees_full a s rest c u full) saw = quiet w _ _ _ refl refl (goes_quietly p (Search s) (c + 1))
+  stopping_blocks _ _ _ _ (sees_other a s rest begins c z o) saw = quiet w _ _ _ refl refl (goes_quietly p (Search s) (c + 1))
+  stopping_blocks _ _ _ _ (sees_sweeping a t rest begins c z may) saw = quiet w _ _ _ refl refl (goes_quietly p t (c + 1))
+  stopping_blocks _ _ _ _ (roams_on a rest c) saw = quiet w _ _ _ refl refl (goes_quietly p Roam c)
+  stopping_blocks _ _ _ _ (roams_free a rest c) saw = quiet w _ _ _ refl refl (goes_quietly p Roam (c + 1))
+  stopping_blocks _ _ _ _ (roams_swept a rest c z) saw = quiet w _ _ _ refl refl (goes_quietly p Roam (c + 1))
+  stopping_blocks _ _ _ _ c saw = quiet w _ _ _ refl refl refl
+
+  stops : (a : Actor) (e : Step) (d : Bool) (b : Actor) → NextStep p lay a e d b → Saw w e → Stops w a e b
+  stops a e d b comes saw = elim comes [ inl comes ↦ stopping a e d b comes saw | inr comes ↦ stopping_blocks a e d b comes saw ]
+
 -- where the stop word is set, or some mutator has yielded, a mutator has left with a statement
 pub record Wanted (w : Words) (actors : ℕ → Actor) : Type 0 where
   pub stop : w.stop ≢ 0 → IsWanted actors
   pub yielded : (k : ℕ) → (actors k).mid ≡ Yielded → IsWanted actors
 
-pub wanted_at_opening : (w : Words) (actors : ℕ → Actor) → w.stop ≡ 0 → ((k : ℕ) → (actors k).mid ≡ Idle) → Wanted w actors
+pub wanted_at_opening : (w : Words) (actors : ℕ → Actor) → w.stop ≡ 0 → ((k : ℕ) → IsFirst (actors k).mid) → Wanted w actors
 wanted_at_opening w actors going idle = record {
   stop = λ set. absurd (set going);
-  yielded = λ k y. absurd (not_yielded Idle refl (sym (idle k) ∙ y));
+  yielded = λ k y. elim (idle k) [
+    | inl e ↦ absurd (not_yielded Idle refl (sym e ∙ y))
+    | inr e ↦ absurd (not_yielded (SeeBlock Roam true 0) refl (sym e ∙ y))
+  ];
 }
 
-module _ (p : Program) (lay : Constants) (w : Words) (actors : ℕ → Actor) (k : ℕ) (e : Step) (d : Bool) (b : Actor) (comes : Comes p lay (actors k) e d b) (saw : Saw w e) (so : Wanted w actors) where
+module _ (p : Program) (lay : Constants) (w : Words) (actors : ℕ → Actor) (k : ℕ) (e : Step) (d : Bool) (b : Actor)
+    (comes : NextStep p lay (actors k) e d b) (saw : Saw w e) (so : Wanted w actors) where
   step : Stops w (actors k) e b
-  step = stopping p lay w (actors k) e d b comes saw
+  step = stops p lay w (actors k) e d b comes saw
 
   -- who waits makes no step, so it waits still
   waits : IsWanted actors → IsWanted (put actors k b)
@@ -120,9 +149,13 @@ module _ (p : Program) (lay : Constants) (w : Words) (actors : ℕ → Actor) (k
     ];
   }
 
-pub wanted_so : (p : Program) (lay : Constants) (es : List Event) (w : Words) (actors last : ℕ → Actor) → Legal w (ticks es) → ((k : ℕ) → Follows p lay (actors k) (part k es) (last k)) →
+pub wanted_so : (p : Program) (lay : Constants) (es : List Event) (w : Words) (actors last : ℕ → Actor) → Legal w (ticks es) →
+    ((k : ℕ) → Follows p lay (actors k) (part k es) (last k)) →
     Wanted w actors → Wanted (after w (ticks es)) last
-wanted_so p lay [] w actors last legal follows so = record { stop = λ set. over (so.stop set); yielded = λ k y. over (so.yielded k (ap (λ (a : Actor). a.mid) (sym (follows k)) ∙ y)) }
+wanted_so p lay [] w actors last legal follows so = record {
+  stop = λ set. over (so.stop set);
+  yielded = λ k y. over (so.yielded k (ap (λ (a : Actor). a.mid) (sym (follows k)) ∙ y));
+}
   where
     over : IsWanted actors → IsWanted last
     over (k, s, gone) = (k, s, ap (λ (a : Actor). a.mid) (follows k) ∙ gone)
@@ -130,5 +163,6 @@ wanted_so p lay (e ∷ es) w actors last legal follows so =
     let k = e.by in
     let mine = subst (λ q. Follows p lay (actors k) q (last k)) (part-same e es) (follows k) in
     wanted_so p lay es (after_step w e.tick.step) (put actors k mine.0) last legal.1
-    (put-all (λ j a. Follows p lay a (part j es) (last j)) actors k mine.0 mine.2 (λ j n. subst (λ q. Follows p lay (actors j) q (last j)) (part-other j e es n) (follows j)))
+    (put-all (λ j a. Follows p lay a (part j es) (last j)) actors k mine.0 mine.2
+    (λ j n. subst (λ q. Follows p lay (actors j) q (last j)) (part-other j e es n) (follows j)))
     (wanted_step p lay w actors k e.tick.step e.tick.decides mine.0 mine.1 legal.0 so)

@@ -3,7 +3,7 @@ use Rattle.std.specs.Prelude.{◌≡◌, ◌≢◌, ℕ, ◌+◌, ◌<◌, ◌�
 use Rattle.std.specs.Int.{bit_at}
 use Rattle.sg_words.specs.declared.steps.BlockWord.{BlockWord}
 use Rattle.sg_words.specs.declared.steps.BlockWord.TheVariants.{Free, Swept, Need, Sweeping}
-use Rattle.sg_words.specs.Blocks.{slots}
+use Rattle.sg_words.specs.Blocks.{IsSizeClass, slots}
 use Rattle.sg_words.specs.Words.{Words}
 use Rattle.sg_program.specs.declared.program.Statement.{Statement}
 use Rattle.sg_program.specs.declared.program.Statement.TheVariants.{Mature}
@@ -67,7 +67,7 @@ pub record IsMidSlot (p : Program) (lay : Constants) (w : Words) (by : ℕ → �
   pub fits : i < slots z
   pub unmarked : bit_at (lay.marks c) i ≡ 0
   pub front : IsZeroTo p w.word c z i f
-  pub few : f ≤ z
+  pub more : f < z
 
 -- what actor k knows of the blocks, where `by` says who won each block's last exchange
 abbrev pub KnowsAt : Program → Constants → Words → (ℕ → Bool) → (ℕ → ℕ) → ℕ → Mid → Type 0
@@ -76,7 +76,7 @@ KnowsAt p lay w owed by k (TakeBlock s c) = HasPassed p w owed (Search s) c × (
 KnowsAt p lay w owed by k (SeeUsed s c) = HasPassed p w owed (Search s) c × (c < p.config.blocks) × IsFitting p w s c
 KnowsAt p lay w owed by k (TakeSlot s c i) =
     HasPassed p w owed (Search s) c × (c < p.config.blocks) × IsFitting p w s c × (i < slots (made_slot p s)) × AreTaken (w.used c) i
-KnowsAt p lay w owed by k (TakeOver t c z) = HasPassed p w owed t c × (c < p.config.blocks)
+KnowsAt p lay w owed by k (TakeOver t c z) = HasPassed p w owed t c × (c < p.config.blocks) × IsSizeClass z
 KnowsAt p lay w owed by k (StoreOccupancy t c z) = HasPassed p w owed t c × Sweeps p w.block by k c z
 KnowsAt p lay w owed by k (ClearSlots t c z i) = HasPassed p w owed t c × IsMidSweep p lay w by k c z i
 KnowsAt p lay w owed by k (ClearWords t c z i f) = HasPassed p w owed t c × IsMidSlot p lay w by k c z i f

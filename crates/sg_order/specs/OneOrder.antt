@@ -64,9 +64,12 @@ pub record AreBlocksSoFar (p : Program) (lay : Constants) (g : Graph) (b : Book)
   pub known : (k : ℕ) → KnowsAt p lay v b.owed (winners no_winner es) k (last k).mid
   pub seeking : (k : ℕ) (s : Statement) → Seeks s (last k).mid → IsSeeking g k (last k) s
 
--- Where all actors are over, the words hold the graph by the book in which what was swept isn't owed any more; by that book no block has a place for
--- who left since it found no slot, and no block below a new object of the major heap has one for it.
-pub record IsAtEnd (p : Program) (lay : Constants) (count : ℕ) (b : Book) (graph : Graph) (c : Book) (v : Words) (last : ℕ → Actor) : Type 0 where
+-- Where all actors are over, the words hold the graph by the book c, which differs from that of the last statement only in what is owed: what was swept
+-- isn't any more; each actor stands by it where the graph's mutator stands; by it no block has a place for who left since it found no slot, and no block
+-- below a new object of the major heap has one for it.
+pub record IsAtEnd (p : Program) (lay : Constants) (count : ℕ) (b : Book) (graph : Graph) (book c : Book) (v : Words) (last : ℕ → Actor) : Type 0 where
+  pub only_owed : c ≡ record book { owed = c.owed }
+  pub ready : (k : ℕ) → IsReady p graph c k (last k) (before_it (last k).mid (last k).script)
   pub held : IsHeld p lay v graph c
   pub searched : (k r class j : ℕ) → (last k).mid ≡ Left (Mature r class) → j < p.config.blocks → IsClosed p b.owed graph c j (made_slot p (Mature r class))
   pub lowest : (n j : ℕ) → IsNewOld count c n → block_at p j + 256 ≤ c.address n → IsClosed p b.owed graph c j (slot_words (graph.size n))
@@ -96,7 +99,7 @@ pub record IsOneOrder (p : Program) (lay : Constants) (w : Words) (g : Graph) (b
   pub runs : Runs p lay w no_winner g b es order graph book
   pub sweep : IsSweep p lay w b.owed es
   pub blocks : AreBlocksSoFar p lay graph book es v last
-  pub ended : AreOver last → IsAtEnd p lay g.count b graph (swept_in book (swept_of es)) v last
+  pub ended : AreOver last → IsAtEnd p lay g.count b graph book (swept_in book (swept_of es)) v last
 
 -- every legal list of steps of mutators that follow their programs from an epoch's opening on has one order
 abbrev pub OneOrder : Type 0

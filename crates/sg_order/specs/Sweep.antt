@@ -18,6 +18,7 @@ use Rattle.sg_graph.specs.Graph.{Graph}
 use Rattle.sg_graph.specs.Book.{Book, IsWordOf, slot_at}
 use Rattle.sg_graph.specs.Epoch.{Said, Turn, IsNewOld}
 use Rattle.sg_rules.specs.Rules.{Constants}
+use Rattle.sg_rules.specs.Careful.{IsUnmarkedWord}
 
 -- who won the last exchange of a block's word: while the block is being swept, its sweeper
 abbrev pub winner_after : (ℕ → ℕ) → ℕ → Step → ℕ → ℕ
@@ -32,14 +33,6 @@ winners by (e ∷ es) = winners (winner_after by e.by e.tick.step) es
 abbrev pub no_winner : ℕ → ℕ
 no_winner _ = 0
 
--- x is a word of slot i of z words of block c, and the slot isn't marked
-pub record IsUnmarkedWord (p : Program) (lay : Constants) (c z i x : ℕ) : Type 0 where
-  pub there : c < p.config.blocks
-  pub fits : i < slots z
-  pub unmarked : bit_at (lay.marks c) i ≡ 0
-  pub from : slot_at p c z i ≤ x
-  pub to : x < slot_at p c z i + z
-
 -- actor k is who sweeps block c, of slots of z words
 abbrev pub IsSweeperOf : Words → (ℕ → ℕ) → ℕ → ℕ → ℕ → Type 0
 IsSweeperOf w by k c z = (w.block c ≡ Sweeping z) × (by c ≡ k)
@@ -51,7 +44,7 @@ abbrev pub IsLawfulOn : Program → Constants → Words → (ℕ → ℕ) → �
 IsLawfulOn p lay w by k (WonBlock c seen new) =
     ((z : ℕ) × (seen ≡ Free) × (new ≡ Swept z)) ⊎ ((z : ℕ) × (seen ≡ Need z) × (new ≡ Sweeping z))
 IsLawfulOn p lay w by k (StoreUsed c new) = (z : ℕ) × IsSweeperOf w by k c z × (new ≡ lay.marks c)
-IsLawfulOn p lay w by k (Zero x) = (c z i : ℕ) × IsSweeperOf w by k c z × IsUnmarkedWord p lay c z i x
+IsLawfulOn p lay w by k (Zero x) = (c z : ℕ) × (c < p.config.blocks) × IsSweeperOf w by k c z × IsUnmarkedWord p lay c z x
 IsLawfulOn p lay w by k (StoreBlock c new) = (z : ℕ) × IsSweeperOf w by k c z × (new ≡ swept_word (Need z) (lay.marks c))
 IsLawfulOn p lay w by k (OrUsed c i found) = (z : ℕ) × (w.block c ≡ Swept z) × (i < slots z)
 IsLawfulOn p lay w by k (LoadBlock c saw) = Unit {0}
@@ -69,7 +62,8 @@ IsLawful p lay w by k step = Unit {0}
 abbrev pub IsHarmlessOn : Program → Constants → Words → Graph → Book → BlockStep → Type 0
 IsHarmlessOn p lay w g b (Zero x) =
     ((n : ℕ) → IsWordOf g b n x → ⊥)
-    × ((c z i : ℕ) → c < p.config.blocks → w.block c ≡ Sweeping z → i < slots z → bit_at (lay.marks c) i ≡ 1 → slot_at p c z i ≤ x → x < slot_at p c z i + z → ⊥)
+    × ((c z i : ℕ) → c < p.config.blocks → w.block c ≡ Sweeping z → i < slots z → bit_at (lay.marks c) i ≡ 1 →
+    slot_at p c z i ≤ x → x < slot_at p c z i + z → ⊥)
 IsHarmlessOn p lay w g b step = Unit {0}
 
 abbrev pub IsHarmless : Program → Constants → Words → Graph → Book → Step → Type 0

@@ -3,11 +3,15 @@ ghost use Rattle.sg_order.specs.Opening.{FirstOpening};
 ghost use Rattle.sg_order.specs.Held.{HeldIsSound, HeldWhoever, RunnableMakes};
 ghost use Rattle.sg_order.specs.Serving.{StaysReady, ServesReady};
 
-/// The law of one order: every legal list of atomic steps of mutators that follow their programs is explained by one
-/// order of whole statements, that of the deciding steps.
+use sg_graph::blocks_go;
+
+/// The law of one order: every legal list of atomic steps of mutators, and of a background sweeper, that follow their programs is
+/// explained by one order of whole statements, that of the deciding steps; each owed block is swept at most once, and by one of them.
 pub fn one_order()
     ensures { OneOrder }
-{}
+{
+    blocks_go();
+}
 
 /// An epoch's opening is its midst before any step.
 pub fn opens_so_far()
@@ -22,13 +26,17 @@ pub fn goes_so_far()
 /// The midst of an epoch has one order of whole statements.
 pub fn orders_so_far()
     ensures { OrdersSoFar }
-{}
+{
+    blocks_go();
+}
 
 /// In the midst of an epoch no mutator is ever stuck: whatever its next call sees, a rule goes on; and each mutator is sane by
 /// itself.
 pub fn goes_always()
     ensures { GoesAlways }
-{}
+{
+    blocks_go();
+}
 
 /// The first epoch of a program opens from words that are all zero, with no object.
 pub fn first_opening()

@@ -11,7 +11,7 @@ use Rattle.sg_program.specs.declared.program.Statement.TheVariants.{WSet, WGet, 
 use Rattle.sg_text.specs.declared.line.Line.{Line}
 use Rattle.sg_text.specs.Lines.{Maker, AsNew, AsVector, AsMature, Sentence, Heads, Sets, Declares, Begins, Repeats, Ends, Makes, Says}
 use Rattle.sg_grammar.specs.Text.{IsClassName, StandsFor}
-use Rattle.sg_limits.specs.Faults.{class_in, classes_in, wants_vector, IsFit, IsMisnamed, IsPairClass, IsLater, Old, Wide, LinkSet, LinkGet, Registers, Ready, PairOf}
+use Rattle.sg_limits.specs.Faults.{class_in, classes_in, wants_vector, IsFit, IsMisnamed, IsPairClass, IsLater, Wide, LinkSet, LinkGet, Registers, Ready, PairOf, OldPairOf}
 use Rattle.sg_parse.specs.Names.{HaveOwnNames, IsMadeLater, IsDoneLater, IsLaterBy}
 use Rattle.sg_text.specs.Reading.{sentence_of}
 use Rattle.sg_parse.specs.Indices.{HasNoneIn, IsFirstIn}
@@ -135,9 +135,10 @@ made_named lines i maker r name named at = let fit = made_fit lines i maker r na
 pair_front : (lines : List Sentence) (i : ℕ) (name : List ℕ) → IsPairClass (classes_in (take i lines)) name → IsPairClass (classes_in lines) name
 pair_front lines i name pair = (pair.0, pair.1, front_class lines i pair.0 pair.1 pair.2, pair.3, pair.4)
 
-pair_above : (lines : List Sentence) (i : ℕ) (r : ℕ) (name : List ℕ) → HasNoneIn IsMisnamed lines → slice_get lines i ≡ Some (Makes AsNew r name) → IsPairClass (classes_in lines) name → IsPairClass (classes_in (take i lines)) name
-pair_above lines i r name named at pair =
-    let fit = made_fit lines i AsNew r name named at in
+pair_above : (lines : List Sentence) (i : ℕ) (maker : Maker) (r : ℕ) (name : List ℕ) → HasNoneIn IsMisnamed lines → slice_get lines i ≡ Some (Makes maker r name)
+    → IsPairClass (classes_in lines) name → IsPairClass (classes_in (take i lines)) name
+pair_above lines i maker r name named at pair =
+    let fit = made_fit lines i maker r name named at in
     let same : pair.0 ≡ fit.0 = distinct_named lines named pair.0 fit.0 name (class_name _ pair.0 pair.1 name pair.2 pair.3) fit.1.named in
     let class : pair.1 ≡ fit.2.class = same_Some pair.1 fit.2.class (sym pair.2 ∙ ap (λ (n : ℕ). slice_get (classes_in lines) n) same ∙ front_class lines i fit.0 fit.2.class fit.2.there) in
     (fit.0, fit.2.class, fit.2.there, fit.2.named, sym (ap (λ (d : Class). d.shape.kind) class) ∙ pair.4)
@@ -150,9 +151,9 @@ done_later before (NextFin r) h = Ready r
 done_later before s h = absurd h
 
 made_later : (lines : List Sentence) (i : ℕ) (maker : Maker) (r : ℕ) (name : List ℕ) → HasNoneIn IsMisnamed lines → slice_get lines i ≡ Some (Makes maker r name) → IsMadeLater (classes_in lines) maker name → IsLater (take i lines) (Makes maker r name)
-made_later lines i AsNew r name named at h = PairOf r name (pair_above lines i r name named at h)
+made_later lines i AsNew r name named at h = PairOf r name (pair_above lines i AsNew r name named at h)
 made_later lines i (AsVector count) r name named at h = Wide count r name h
-made_later lines i AsMature r name named at h = Old r name
+made_later lines i AsMature r name named at h = OldPairOf r name (pair_above lines i AsMature r name named at h)
 
 later_is : (lines : List Sentence) (i : ℕ) (line : Sentence) → HasNoneIn IsMisnamed lines → slice_get lines i ≡ Some line → IsLaterBy (classes_in lines) line → IsLater (take i lines) line
 later_is lines i (Makes maker r name) named at h = made_later lines i maker r name named at h
@@ -160,19 +161,19 @@ later_is lines i (Says statement) named at h = done_later (take i lines) stateme
 later_is lines i line named at h = absurd h
 
 later_by : (before : List Sentence) (classes : List Class) (line : Sentence) → ((name : List ℕ) → IsPairClass (classes_in before) name → IsPairClass classes name) → IsLater before line → IsLaterBy classes line
-later_by before classes line pairs (Old r name) = tt
 later_by before classes line pairs (Wide count r name wide) = wide
 later_by before classes line pairs (LinkSet w r long) = tt
 later_by before classes line pairs (LinkGet r w) = tt
 later_by before classes line pairs (Registers r) = tt
 later_by before classes line pairs (Ready r) = tt
 later_by before classes line pairs (PairOf r name pair) = pairs name pair
+later_by before classes line pairs (OldPairOf r name pair) = pairs name pair
 
 -- where the classes above the line have these in front
 pub later_front : (before : List Sentence) (classes : List Class) (line : Sentence) → ((name : List ℕ) → IsPairClass classes name → IsPairClass (classes_in before) name) → IsLaterBy classes line → IsLater before line
 later_front before classes (Makes AsNew r name) pairs h = PairOf r name (pairs name h)
 later_front before classes (Makes (AsVector count) r name) pairs h = Wide count r name h
-later_front before classes (Makes AsMature r name) pairs h = Old r name
+later_front before classes (Makes AsMature r name) pairs h = OldPairOf r name (pairs name h)
 later_front before classes (Says statement) pairs h = done_later before statement h
 later_front before classes line pairs h = absurd h
 

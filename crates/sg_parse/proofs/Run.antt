@@ -1,10 +1,11 @@
 -- A program that is read from lines of which none isn't run yet: all its statements are run.
-use Rattle.std.proofs.Common.{◌≡◌, ℕ, inl, inr, Option, Some, List, [], ◌∷◌, ◌++◌, length, take, slice_get, refl, sym, ap, subst, ◌∙◌, append_assoc}
+use Rattle.std.proofs.Common.{◌≡◌, ◌≢◌, ℕ, inl, inr, Option, Some, List, [], ◌∷◌, ◌++◌, length, take, slice_get, refl, sym, ap, subst, ◌∙◌, append_assoc}
 use Rattle.std.specs.List.{AllByRecursion}
 use Rattle.std.proofs.lemmas.Bool.{cases_lt}
 use Rattle.std.proofs.lemmas.Grind.{flat_map-append}
 use Rattle.std.proofs.lemmas.List.{append-nil}
 use Rattle.std.proofs.Math.Seq.{take-append_seam}
+use Rattle.sg_desc.specs.declared.shapes.Descriptor.TheVariants.{Ephemeron}
 use Rattle.sg_program.specs.declared.program.Class.{Class}
 use Rattle.sg_program.specs.declared.program.Statement.{Statement}
 use Rattle.sg_program.specs.declared.program.Statement.TheVariants.{New, NewV, Mature, WSet, WGet, Final, NextFin}
@@ -12,7 +13,7 @@ use Rattle.sg_program.specs.declared.program.Item.{Item}
 use Rattle.sg_program.specs.declared.program.Script.{Script}
 use Rattle.sg_program.specs.declared.program.Program.{Program}
 use Rattle.sg_words.specs.Lists.{Pairwise}
-use Rattle.sg_program.specs.Scripts.{shape_at, item_text, written}
+use Rattle.sg_program.specs.Scripts.{shape_at, kind_of, item_text, written}
 use Rattle.sg_program.specs.Laws.{ItemsUnfold}
 use Rattle.sg_words.proofs.Everywhere.{all_append, all_front, all_back}
 use Rattle.sg_text.specs.Lines.{Maker, AsNew, AsVector, AsMature, made_by, Sentence, Heads, Begins, Repeats, Ends, Makes, Says, IsLine}
@@ -56,12 +57,16 @@ run_says p (Final r) fine = absurd (fine.1 tt)
 run_says p (NextFin r) fine = absurd (fine.1 tt)
 run_says p s fine = tt
 
-run_makes : (p : Program) (maker : Maker) (r class : ℕ) (name : List ℕ) → StandsFor p.classes name class → IsFine p (Makes maker r name) → IsBuilt p (made_by maker r class)
-run_makes p AsNew r class name stands fine =
+-- an object of a class that isn't one of pairs
+run_single : (p : Program) (class : ℕ) (name : List ℕ) → StandsFor p.classes name class → ¬ IsPairClass p.classes name → kind_of p class ≢ Ephemeron
+run_single p class name stands fine =
     let k = name_of_class p.classes class name stands.named in
-    λ pair. fine.1 (class, k.0, k.1, k.2, sym (ap (λ (o : Option Class). (shape_at o).kind) k.1) ∙ pair)
+    λ pair. fine (class, k.0, k.1, k.2, sym (ap (λ (o : Option Class). (shape_at o).kind) k.1) ∙ pair)
+
+run_makes : (p : Program) (maker : Maker) (r class : ℕ) (name : List ℕ) → StandsFor p.classes name class → IsFine p (Makes maker r name) → IsBuilt p (made_by maker r class)
+run_makes p AsNew r class name stands fine = run_single p class name stands fine.1
 run_makes p (AsVector count) r class name stands fine = elim (cases_lt 62 count) [ inl wide ↦ absurd (fine.1 wide) | inr few ↦ few ]
-run_makes p AsMature r class name stands fine = absurd (fine.1 tt)
+run_makes p AsMature r class name stands fine = run_single p class name stands fine.1
 
 -- ---- the statements of items and of scripts
 

@@ -50,7 +50,7 @@ IsNaming lines (Misnamed index) = IsFirstIn IsMisnamed lines index
 abbrev pub IsMadeLater : List Class → Maker → List ℕ → Type 0
 IsMadeLater classes AsNew name = IsPairClass classes name
 IsMadeLater classes (AsVector count) name = most_fields < count
-IsMadeLater classes AsMature name = Unit {0}
+IsMadeLater classes AsMature name = IsPairClass classes name
 
 -- a statement that names no class isn't run yet
 abbrev pub IsDoneLater : Statement → Type 0

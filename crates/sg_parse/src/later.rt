@@ -37,9 +37,8 @@ fn is_made_later(maker: &Maker, name: &[u8], names: &Names<'_>) -> bool
     ensures { IsTrue result ↔ IsMadeLater (classes_of names.now) (maker_of maker.now) name.now }
 {
     match maker {
-        Maker::Fixed => is_pair(names, name),
+        Maker::Fixed | Maker::Mature => is_pair(names, name),
         Maker::Vector { count } => *count > limits::MOST_FIELDS,
-        Maker::Mature => true,
     }
 }
 
@@ -160,9 +159,14 @@ mod tests {
                 Some(2),
             ),
             (
-                &[plain, begin, make(Maker::Mature, b"a"), ready],
+                &[pair, begin, make(Maker::Mature, b"p"), ready],
                 None,
                 Some(2),
+            ),
+            (
+                &[plain, begin, make(Maker::Mature, b"a"), ready],
+                None,
+                Some(3),
             ),
             (&[refs, begin, vector, wide, ready], None, Some(3)),
             (&[begin, minor, Line::End, begin, registers], None, Some(4)),

@@ -15,7 +15,7 @@ fn told(alloc: Global, text: &str) -> Result<String, AllocError> {
 // The words of the nursery and the statements of a text, or how it is refused.
 #[test]
 fn texts_are_read_or_refused(rt: HostRuntime) -> Result<(), Fail> {
-    let rows: [(&str, &str); 25] = [
+    let rows: [(&str, &str); 27] = [
         ("sgen 1\nmutator\nend\n", "4096 0"),
         (
             "sgen 1\nnursery 512\nclass A plain 2\nmutator\nnew r0 A\nrepeat 3\ndrop r3\nrepeat 3\nend\nend\nend\n",
@@ -48,6 +48,14 @@ fn texts_are_read_or_refused(rt: HostRuntime) -> Result<(), Fail> {
         (
             "sgen 1\nclass P pair\nmutator\nnew r0 P\nend\n",
             "Later { line: 4 }",
+        ),
+        (
+            "sgen 1\nclass P pair\nmutator\nmature r0 P\nend\n",
+            "Later { line: 4 }",
+        ),
+        (
+            "sgen 1\nclass P pair\nclass A plain 3\nmutator\nmature r0 A\nmature r1 A\nend\n",
+            "4096 2",
         ),
         (
             "sgen 1\nmutator\ngput 63 r1\ngget r2 0\nend\nmutator\ngget r3 63\nend\n",

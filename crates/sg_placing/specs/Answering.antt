@@ -1,6 +1,7 @@
 -- The answer to a statement at a stop, by the graph and the book that the space holds.
 use Rattle.std.specs.Prelude.{◌≡◌, ℕ, List}
 use Rattle.sg_program.specs.declared.program.Statement.{Statement}
+use Rattle.sg_program.specs.declared.program.Statement.TheVariants.{Mature}
 use Rattle.sg_program.specs.declared.program.Program.{Program}
 use Rattle.sg_program.specs.declared.answers.Answer.{Answer}
 use Rattle.sg_graph.specs.Graph.{Graph}
@@ -23,6 +24,11 @@ placing_in SlotsToo = InSlotsToo
 abbrev pub FitsRoom : Program → Book → Room → Type 0
 FitsRoom p b Fragments = Unit {0}
 FitsRoom p b SlotsToo = OwesNothing p b
+
+-- and so a statement that makes an object of the major heap is answered only where none is
+abbrev pub FitsStatement : Program → Book → Statement → Type 0
+FitsStatement p b (Mature r class) = OwesNothing p b
+FitsStatement p b s = Unit {0}
 
 -- The statement s, with which mutator k has left, has this answer at a stop, with these statements before the mutator then, and the space holds
 -- the graph and the book behind it.

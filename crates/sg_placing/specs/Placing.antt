@@ -9,7 +9,7 @@ use Rattle.sg_words.specs.Blocks.{slots, slot_base}
 use Rattle.sg_words.specs.declared.steps.BlockWord.TheVariants.{Free, Swept}
 use Rattle.sg_program.specs.declared.program.Program.{Program}
 use Rattle.sg_program.specs.declared.program.Statement.{Statement}
-use Rattle.sg_program.specs.declared.program.Statement.TheVariants.{New, NewV, Collect, Sections}
+use Rattle.sg_program.specs.declared.program.Statement.TheVariants.{New, NewV, Mature, Collect, Sections}
 use Rattle.sg_program.specs.declared.answers.Answer.{Answer}
 use Rattle.sg_program.specs.declared.answers.Answer.TheVariants.{At, Fine, Full}
 use Rattle.sg_program.specs.Scripts.{fields_of, words_for}
@@ -82,6 +82,12 @@ pub record FillsSlot (s : Contents) (class fields : ℕ) (t : Contents) (a : ℕ
   pub at : a ≡ byte_at (slot_base s.layout block (slot_words fields) slot)
   pub after : t ≡ headed (occupied s block (slot_words fields) slot) (word_at a) class fields
 
+-- a new object of this class, with so many fields, stands in a slot at this answer's address, or there is none for it
+abbrev pub IsMadeOld : Contents → ℕ → ℕ → Answer → Contents → Type 0
+IsMadeOld s class fields (At a) t = FillsSlot s class fields t a
+IsMadeOld s class fields Full t = HasNoClearSlot s (slot_words fields) × (t ≡ s)
+IsMadeOld s class fields answer t = ⊥
+
 -- A new object of this class, with so many fields, stands at this answer's address, or has no place. Where slots are given too, it takes one
 -- only where no fragment has room.
 abbrev pub IsMade : Room → Contents → ℕ → ℕ → Answer → Contents → Type 0
@@ -91,10 +97,12 @@ IsMade SlotsToo s class fields (At a) t = HoldsNew s class fields t a ⊎ (HasNo
 IsMade SlotsToo s class fields Full t = HasNowhere s (words_for fields) × HasNoClearSlot s (slot_words fields) × (t ≡ s)
 IsMade room s class fields answer t = ⊥
 
--- the statement's answer at a stop, and what becomes of the space
+-- The statement's answer at a stop, and what becomes of the space. An object that is made in the major heap stands in a slot, wherever those
+-- of the nursery may be placed.
 abbrev pub IsServing : Program → Room → Contents → Statement → Answer → Contents → Type 0
 IsServing p room s (New r class) answer t = IsMade room s class (fields_of p class) answer t
 IsServing p room s (NewV r class count) answer t = IsMade room s class count answer t
+IsServing p room s (Mature r class) answer t = IsMadeOld s class (fields_of p class) answer t
 IsServing p room s (Collect major) Fine t = t ≡ s
 IsServing p room s Sections Fine t = t ≡ s
 IsServing p room s statement answer t = ⊥

@@ -13,8 +13,9 @@ ghost use Rattle.sg_space.specs.Space.{IsContents};
 ghost use Rattle.sg_frag.specs.Plain.{KeepsSections};
 ghost use Rattle.sg_heap.specs.Holding.{HoldsHeap};
 ghost use Rattle.sg_rules.specs.Resting.{IsRunnable};
-ghost use Rattle.sg_placing.specs.Answering.{placing_in, FitsRoom, HasAnswered};
-ghost use Rattle.sg_placing.specs.Placing.{EndsInside, HasByteAddresses, HoldsNew, HasNowhere, HasClearSlot, LacksClearSlot, HasNoClearSlot, FillsSlot, IsMade, headed};
+ghost use Rattle.sg_placing.specs.Answering.{placing_in, FitsRoom, FitsStatement, HasAnswered};
+ghost use Rattle.sg_placing.specs.Placing.{EndsInside, HasByteAddresses, HoldsNew, HasNowhere, IsMade, headed};
+ghost use Rattle.sg_placing.specs.Placing.{HasClearSlot, LacksClearSlot, HasNoClearSlot, FillsSlot, IsMadeOld};
 
 use sg_blocks::{size_for, slots};
 use sg_graph::{Answer, Program, Statement, blocks_go};
@@ -37,9 +38,11 @@ pub fn answer_to(program: &Program, space: &mut Space, asking: Statement, room: 
     requires few { length program.now.classes ≤ 256 }
     requires run { IsRunnable program.now asking }
     requires asks { (request : Request) × IsRequestOf program.now asking request }
-    requires held { (g : Graph) × (b : Book) × HoldsHeap program.now space.old g b × IsPlain program.now g × FitsRoom program.now b room }
+    requires held { (g : Graph) × (b : Book) × HoldsHeap program.now space.old g b × IsPlain program.now g ×
+        FitsRoom program.now b room × FitsStatement program.now b asking }
     ensures answered { (g : Graph) (b : Book) (k : ℕ) (rest : List AnyStatement) → HoldsHeap program.now space.old g b → IsPlain program.now g →
-        FitsRoom program.now b room → (g.mutator k).script ≡ asking ∷ rest → HasAnswered program.now (placing_in room) g b k asking rest result space.new }
+        FitsRoom program.now b room → FitsStatement program.now b asking → (g.mutator k).script ≡ asking ∷ rest →
+        HasAnswered program.now (placing_in room) g b k asking rest result space.new }
     ensures contents { IsContents space.new }
     ensures keeps { KeepsSections space.old space.new }
     ensures stop { space.new.stop ≡ space.old.stop }
@@ -50,6 +53,7 @@ pub fn answer_to(program: &Program, space: &mut Space, asking: Statement, room: 
     match asking {
         Statement::New { class, .. } => make(space, class, fields_of(program, class), room),
         Statement::NewV { class, count, .. } => make(space, class, count, room),
+        Statement::Mature { class, .. } => make_old(space, class, fields_of(program, class)),
         Statement::Collect { .. } => Answer::Fine,
         Statement::Sections => Answer::Fine,
         _ => unreachable!(),
@@ -73,10 +77,23 @@ fn make(space: &mut Space, class: u16, fields: u32, room: Room) -> Answer
     }
     match room {
         Room::Fragments => Answer::Full,
-        Room::SlotsToo => match place_in_slot(space, class, fields) {
-            Some(at) => Answer::At(at),
-            None => Answer::Full,
-        },
+        Room::SlotsToo => make_old(space, class, fields),
+    }
+}
+
+/// A new object of this class, with so many fields, in a slot of the major heap, or none where there is no slot for it.
+fn make_old(space: &mut Space, class: u16, fields: u32) -> Answer
+    requires contents { IsContents space.old }
+    requires class { class < 256 }
+    requires fields { fields ≤ 62 }
+    ensures made { IsMadeOld space.old class fields result space.new }
+    ensures contents { IsContents space.new }
+    ensures keeps { KeepsSections space.old space.new }
+    ensures stop { space.new.stop ≡ space.old.stop }
+{
+    match place_in_slot(space, class, fields) {
+        Some(at) => Answer::At(at),
+        None => Answer::Full,
     }
 }
 

@@ -14,10 +14,10 @@ use Rattle.sg_heap.specs.Holding.{HoldsHeap}
 use Rattle.sg_room.specs.Room.{next_word, end_word, AreNextWords, HasNoRoom, IsLowestWithRoom}
 
 -- a list with one entry set, as a function
-put_set : (xs : List ℕ) (k v : ℕ) → k < length xs → (λ j. get_or (set xs k v) j 0) ≡ put (λ j. get_or xs j 0) k v
-put_set xs k v l = fun_ext (λ j. elim (cases_eq j k) [
-  | inl e ↦ ap (λ i. get_or (set xs k v) i 0) e ∙ get_or-set_same xs k v 0 l ∙ sym (put-at (λ j. get_or xs j 0) k v j e)
-  | inr n ↦ get_or-set_other xs k j v 0 n ∙ sym (put-other (λ j. get_or xs j 0) k v j n)
+pub put_set : {A : Type 0} (xs : List A) (k : ℕ) (v none : A) → k < length xs → (λ j. get_or (set xs k v) j none) ≡ put (λ j. get_or xs j none) k v
+put_set xs k v none l = fun_ext (λ j. elim (cases_eq j k) [
+  | inl e ↦ ap (λ i. get_or (set xs k v) i none) e ∙ get_or-set_same xs k v none l ∙ sym (put-at (λ j. get_or xs j none) k v j e)
+  | inr n ↦ get_or-set_other xs k j v none n ∙ sym (put-other (λ j. get_or xs j none) k v j n)
 ])
 
 -- two functions that agree below a number do so where both are changed alike
@@ -76,7 +76,7 @@ lacks_later s next needs i f many l is =
     let n = slice_index needs i in
     let more = drop (suc i) needs in
     let before : ℕ → ℕ = λ j. slice_index next j in
-    let after : (λ j. slice_index (slice_set next f (before f + n)) j) ≡ put before f (before f + n) = put_set next f (before f + n) (omega arith) in
+    let after : (λ j. slice_index (slice_set next f (before f + n)) j) ≡ put before f (before f + n) = put_set next f (before f + n) 0 (omega arith) in
     let rest : drop (i + 1) needs ≡ more = ap (λ k. drop k needs) (add-one i) in
     let cut : drop i needs ≡ n ∷ more = drop-cons needs i 0 l in (
       λ lacks. subst (Lacks s (λ j. slice_index (slice_set next f (before f + n)) j)) (sym rest) (subst (λ t. Lacks s t more) (sym after)

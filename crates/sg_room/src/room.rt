@@ -1,52 +1,36 @@
-ghost use Rattle.std.specs.Prelude.{◌≡◌, ◌<◌, ◌↔◌, true, length, IfOk, MatchOption};
+ghost use Rattle.std.specs.Prelude.{◌≡◌, ◌↔◌, ◌⊎◌, true, IfOk};
+ghost use Rattle.std.specs.List.{AllByRecursion};
+ghost use Rattle.sg_words.specs.Blocks.{IsSizeClass};
 ghost use Rattle.sg_program.specs.declared.program.Program.{Program};
 ghost use Rattle.sg_graph.specs.Graph.{Graph};
 ghost use Rattle.sg_graph.specs.Book.{Book};
-ghost use Rattle.sg_graph.specs.Laws.{LacksWords};
+ghost use Rattle.sg_graph.specs.Laws.{LacksWords, LacksSlots};
+ghost use Rattle.sg_space.specs.Standing.{block_in, used_in};
 ghost use Rattle.sg_heap.specs.Holding.{HoldsHeap};
-ghost use Rattle.sg_room.specs.Room.{AreNextWords, IsLowestWithRoom, HasNoRoom};
 
+use crate::slots::lacks_slots;
+use crate::words::lacks_words;
 use sg_space::Space;
 use std::alloc::{AllocError, Global};
 
 /// Whether giving each of these numbers of words in turn at the front of the lowest fragment that has them finds no room for
-/// one. The space stays as it is. Takes memory for the fragments; linear in the fragments for each number.
-pub fn lacks_room(alloc: Global, space: &Space, needs: &[u32]) -> Result<bool, AllocError>
-    ensures told { IfOk result (λ lacks. (p : Program) (g : Graph) (b : Book) → HoldsHeap p space.now g b → (lacks ≡ true) ↔ LacksWords b.fragments b.limit b.next needs.now) }
+/// one, or giving each of these sizes in turn the lowest clear slot of the first block that has one finds no slot for one. The
+/// space stays as it is. Takes memory for the fragments, and for the blocks where some size is asked for; linear in the
+/// fragments for each number, and in the blocks for each size.
+pub fn lacks_room(
+    alloc: Global,
+    space: &Space,
+    needs: &[u32],
+    sizes: &[u32],
+) -> Result<bool, AllocError>
+    requires classes { AllByRecursion IsSizeClass sizes.now }
+    ensures told { IfOk result (λ lacks. (p : Program) (g : Graph) (b : Book) → HoldsHeap p space.now g b →
+        (lacks ≡ true) ↔
+        (LacksWords b.fragments b.limit b.next needs.now ⊎ LacksSlots p.config.blocks (block_in space.now) (used_in space.now) sizes.now)) }
 {
-    let mut next = next_words(alloc, space)?;
-    for need in needs {
-        match lowest_with_room(space, &next, *need) {
-            Some(fragment) => next[fragment] += *need as u64,
-            None => return Ok(true),
-        }
+    let words = lacks_words(alloc, space, needs)?;
+    if words {
+        return Ok(true);
     }
-    Ok(false)
-}
-
-/// The numbers of the fragments' next words. Linear in the fragments.
-fn next_words(alloc: Global, space: &Space) -> Result<Vec<u64>, AllocError>
-    ensures { IfOk result (λ next. AreNextWords space.now next.items) }
-{
-    let mut next = Vec::new(alloc);
-    for fragment in 0..space.fragments() {
-        next.push(space.next(fragment) / 8)?;
-    }
-    Ok(next)
-}
-
-/// The lowest fragment with so many words from its next word on, whose number stands in `next`. `None` where no fragment has
-/// them. Linear in the fragments.
-fn lowest_with_room(space: &Space, next: &[u64], words: u32) -> Option<usize>
-    requires { length next.now ≡ length space.now.ends }
-    ensures { MatchOption result (HasNoRoom space.now next.now words) (λ fragment. IsLowestWithRoom space.now next.now words fragment) }
-{
-    for fragment in 0..space.fragments() {
-        let first = next[fragment as usize];
-        let end = space.end_of(fragment) / 8;
-        if first <= end && words as u64 <= end - first {
-            return Some(fragment as usize);
-        }
-    }
-    None
+    lacks_slots(alloc, space, sizes)
 }

@@ -3,3 +3,4 @@ pub mod Resting
 pub mod Runnable
 pub mod Sane
 pub mod Acting
+pub mod Careful

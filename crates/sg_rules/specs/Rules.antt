@@ -194,9 +194,12 @@ MaySee (Search s) begins = Unit {0}
 MaySee Roam true = ⊥
 MaySee Roam false = Unit {0}
 
--- the word with number f of slot i of z words of block c
+-- the first word of slot i of z words of block c, and the one with number f
+abbrev pub slot_front : Program → ℕ → ℕ → ℕ → ℕ
+slot_front p c z i = slot_base (sections_of p) c z i
+
 abbrev pub slot_word : Program → ℕ → ℕ → ℕ → ℕ → ℕ
-slot_word p c z i f = slot_base (sections_of p) c z i + f
+slot_word p c z i f = slot_front p c z i + f
 
 -- the slots of block c from i to before j are marked
 abbrev pub AreMarked : Constants → ℕ → ℕ → ℕ → Type 0
@@ -323,7 +326,7 @@ pub data BlockComes (p : Program) (lay : Constants) : Actor → Step → Bool �
   sees_slot : (a : Actor) (s : Statement) (rest : List Statement) (c i saw : ℕ) → i < slots (made_slot p s) → bit_at saw i ≡ 0 → AreTaken saw i →
       BlockComes p lay (within a rest (SeeUsed s c)) (OnBlock (LoadUsed c saw)) false (within a rest (TakeSlot s c i))
   takes_slot : (a : Actor) (s : Statement) (rest : List Statement) (c i found : ℕ) → bit_at found i ≡ 0 →
-      BlockComes p lay (within a rest (TakeSlot s c i)) (OnBlock (OrUsed c i found)) true (within a rest (StoreLength s (slot_word p c (made_slot p s) i 0)))
+      BlockComes p lay (within a rest (TakeSlot s c i)) (OnBlock (OrUsed c i found)) true (within a rest (StoreLength s (slot_front p c (made_slot p s) i)))
   misses_slot : (a : Actor) (s : Statement) (rest : List Statement) (c i found : ℕ) → bit_at found i ≡ 1 →
       BlockComes p lay (within a rest (TakeSlot s c i)) (OnBlock (OrUsed c i found)) false (within a rest (SeeBlock (Search s) false c))
   -- a swept block with other slots, and one that somebody sweeps, are passed over
@@ -348,7 +351,8 @@ pub data BlockComes (p : Program) (lay : Constants) : Actor → Step → Bool �
   clears_last : (a : Actor) (t : Task) (rest : List Statement) (c z i f : ℕ) → f + 1 ≡ z →
       BlockComes p lay (within a rest (ClearWords t c z i f)) (OnBlock (Zero (slot_word p c z i f))) false (within a rest (ClearSlots t c z (i + 1)))
   ends_sweep : (a : Actor) (t : Task) (rest : List Statement) (c z i : ℕ) → AreMarked lay c i (slots z) →
-      BlockComes p lay (within a rest (ClearSlots t c z i)) (OnBlock (StoreBlock c (swept_word (Need z) (lay.marks c)))) false (within a rest (SeeBlock t true c))
+      BlockComes p lay (within a rest (ClearSlots t c z i)) (OnBlock (StoreBlock c (swept_word (Need z) (lay.marks c)))) false
+      (within a rest (SeeBlock t true c))
   -- the background sweeper: it looks at the stop word as its turn begins, passes over what isn't owed, and ends behind the last block
   roams_on : (a : Actor) (rest : List Statement) (c : ℕ) →
       BlockComes p lay (within a rest (SeeBlock Roam true c)) (Load Stop 0) false (within a rest (onward p Roam c))

@@ -1,6 +1,6 @@
 use Rattle.std.proofs.Common.{◌≡◌, ℕ, ◌<◌, length, slice_index}
 use Rattle.sg_room.specs.Room.{next_word}
-use Rattle.sg_room.proofs.room.next_words.Given as goal
+use Rattle.sg_room.proofs.words.next_words.Given as goal
 
 -- the fragments so far
 abbrev pub invariant-loop-fragment : goal.invariant-loop-fragment

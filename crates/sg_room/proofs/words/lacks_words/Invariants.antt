@@ -1,7 +1,7 @@
 use Rattle.std.proofs.Common.{◌≡◌, ◌↔◌, length, slice_index, drop}
 use Rattle.sg_room.specs.Room.{next_word}
 use Rattle.sg_room.proofs.Lacking.{Lacks}
-use Rattle.sg_room.proofs.room.lacks_room.Given as goal
+use Rattle.sg_room.proofs.words.lacks_words.Given as goal
 
 -- each number so far had room, and the others find room as they did before
 abbrev pub invariant-loop-need : goal.invariant-loop-need
