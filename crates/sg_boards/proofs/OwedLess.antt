@@ -47,7 +47,8 @@ leaves_same : (mid m : Mid) (script left : List Statement) → ¬ RestsAt mid �
 leaves_same Idle m script left r h = absurd (r tt)
 leaves_same mid m script left r h = h
 
-leaves_on : (mid m n : Mid) (script left more : List Statement) → more ≡ left → (m ≡ Yielded → n ≡ Yielded) → Leaves mid script m left → Leaves mid script n more
+leaves_on : (mid m n : Mid) (script left more : List Statement) → more ≡ left → (m ≡ Yielded → n ≡ Yielded) → Leaves mid script m left →
+    Leaves mid script n more
 leaves_on Idle m n script left more same on (inl (e, q)) = inl (on e, same ∙ q)
 leaves_on Idle m n script left more same on (inr (s, q)) = inr (s, q ∙ ap (λ l. s ∷ l) (sym same))
 leaves_on mid m n script left more same on h = same ∙ h
@@ -263,7 +264,8 @@ module _ (p : Program) (lay : Constants) (g : Graph) (b : Book) (order : List Sa
 
   matures : (s : Statement) (v : Words) → (actors k).mid ≡ Idle → SearchedBlocks p w s 0 a.mid v → owed p lay a < owed p lay (actors k)
   matures s v idle searched = begun p lay (actors k) a idle left (stays_search w v s 0 searched)
-      (let l = searched_owes p lay w v s 0 (2 ^ 60) a.mid (λ there met. let l = met_owes p lay w s 0 a.mid met in omega arith) (omega arith) searched in omega arith)
+      (let l = searched_owes p lay w v s 0 (2 ^ 60) a.mid (λ there met. let l = met_owes p lay w s 0 a.mid met in omega arith)
+      (omega arith) searched in omega arith)
 
   -- a lost exchange finds a next word further on
   loses : (s : Statement) (f seen : ℕ) (v : Words) → (actors k).mid ≡ Claim s f seen → w.next f ≢ byte_at seen →
@@ -297,7 +299,8 @@ module _ (p : Program) (lay : Constants) (g : Graph) (b : Book) (order : List Sa
       (λ met. let l = met_swept p lay (opened p w s c) s c a.mid (made_slot p s) (put-same w.block c (Swept (made_slot p s))) met in omega arith)
       (omega arith) (searched there)
 
-  loses_block : (s : Statement) (c : ℕ) (v : Words) → (actors k).mid ≡ TakeBlock s c → w.block c ≢ Free → (c < p.config.blocks → SearchedBlocks p w s c a.mid v) →
+  loses_block : (s : Statement) (c : ℕ) (v : Words) → (actors k).mid ≡ TakeBlock s c → w.block c ≢ Free →
+      (c < p.config.blocks → SearchedBlocks p w s c a.mid v) →
       owed p lay a < owed p lay (actors k)
   loses_block s c v at differs searched =
       let there = (known (TakeBlock s c) at).1 in

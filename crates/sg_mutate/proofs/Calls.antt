@@ -20,7 +20,10 @@ use Rattle.sg_rules.specs.Rules.{BlockComes, NextStep}
 use Rattle.sg_rules.specs.Rules.BlockComes.{mature_begins, sees_free, takes_block, misses_block, sees_size, sees_full, sees_slot, takes_slot, misses_slot}
 use Rattle.sg_rules.specs.Rules.BlockComes.{sees_other, sees_sweeping, sees_need, takes_over, misses_sweep, stores_occupancy, clears_first, clears_next}
 use Rattle.sg_rules.specs.Rules.BlockComes.{clears_last, ends_sweep, roams_on, retires, roams_free, roams_swept}
-use Rattle.sg_rules.specs.Rules.Comes.{test_null, test_begins, loads_tag, loads_length, test_fails, put_stores, put_stores_old, marks_card, putd_stores, get_loads, getd_loads, global_begins, gput_stores, gget_loads, num_sets, drop_clears, move_sets, push_sets, pop_sets, hide_null, hide_begins, hide_fits, hide_misses, unhide_sets, same_tells, new_bumps, new_looks, look_finds, look_goes_on, stop_asks, asks, yields, claim_wins, claim_moves, claim_goes_on, stores_length, stores_tag}
+use Rattle.sg_rules.specs.Rules.Comes.{test_null, test_begins, loads_tag, loads_length, test_fails, put_stores, put_stores_old, marks_card, putd_stores}
+use Rattle.sg_rules.specs.Rules.Comes.{get_loads, getd_loads, global_begins, gput_stores, gget_loads, num_sets, drop_clears, move_sets, push_sets, pop_sets}
+use Rattle.sg_rules.specs.Rules.Comes.{hide_null, hide_begins, hide_fits, hide_misses, unhide_sets, same_tells, new_bumps, new_looks, look_finds}
+use Rattle.sg_rules.specs.Rules.Comes.{look_goes_on, stop_asks, asks, yields, claim_wins, claim_moves, claim_goes_on, stores_length, stores_tag}
 use Rattle.sg_rules.specs.Sane.{IsAccessing, IsHeading, IsCard, IsOnTask, IsSane}
 
 -- The space has the program's sections, all their words, blocks and cards, and as many fragments and the marks that the constants say.

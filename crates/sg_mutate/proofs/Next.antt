@@ -23,7 +23,8 @@ use Rattle.sg_rules.specs.Rules.{Constants, Mid, Idle, Claim, Left, Yielded as H
 use Rattle.sg_rules.specs.Rules.{Search, Roam, SeeBlock, TakeBlock, TakeSlot, TakeOver, StoreOccupancy}
 use Rattle.sg_rules.specs.Acting.{IsTurn}
 use Rattle.sg_actor.specs.declared.mutator.Stage.{Stage}
-use Rattle.sg_actor.specs.declared.mutator.Stage.TheVariants.{Between, Within, Claiming, OpeningBlock, TakingSlot, TakingOver, Sweeping, BehindSweep, Ended, Asking, Yielded}
+use Rattle.sg_actor.specs.declared.mutator.Stage.TheVariants.{Between, Within, Claiming, OpeningBlock, TakingSlot, TakingOver, Sweeping, BehindSweep, Ended}
+use Rattle.sg_actor.specs.declared.mutator.Stage.TheVariants.{Asking, Yielded}
 use Rattle.sg_actor.specs.State.{Mutating, mid_of, actor_of, leave_of, IsSameMutator}
 use Rattle.sg_actor.specs.Turning.{IsResting, IsBehindTurn, EndsNow, TakesTurn}
 use Rattle.sg_rules.specs.Acting.{HasTurned}

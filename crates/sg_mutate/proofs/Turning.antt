@@ -1,5 +1,6 @@
 -- One turn more.
-use Rattle.std.proofs.Common.{◌≡◌, ◌≢◌, ℕ, zero, suc, ◌^◌, ◌<◌, ◌≤◌, ◌⊎◌, true, false, Some, None, List, [], ◌∷◌, ◌++◌, length, slice_get, slice_set, append_assoc, inl, inr, refl, ap, sym, ◌∙◌, subst, arith}
+use Rattle.std.proofs.Common.{◌≡◌, ◌≢◌, ℕ, zero, suc, ◌^◌, ◌<◌, ◌≤◌, ◌⊎◌, true, false, Some, None, List, [], ◌∷◌, ◌++◌, length, slice_get, slice_set}
+use Rattle.std.proofs.Common.{append_assoc, inl, inr, refl, ap, sym, ◌∙◌, subst, arith}
 use Rattle.std.specs.Int.{bit_at}
 use Rattle.std.proofs.lemmas.Bool.{cases_eq}
 use Rattle.std.proofs.lemmas.List.{length-set}
@@ -47,7 +48,8 @@ same_then : (l m n : Mutating) → IsSameMutator l m → IsSameMutator m n → I
 same_then l m n e f = record { program = f.program ∙ e.program; number = f.number ∙ e.number; first = f.first ∙ e.first }
 
 module _ (p : Program) (g : Graph) (b : Book) (s0 : Contents) (m0 : List Mutating) (schedule0 : Schedule) (opened : IsOpened p g b s0 m0)
-    (s : Contents) (ms : List Mutating) (schedule : Schedule) (ended : ℕ) (mid : Midst p g b s0 m0 schedule0 s ms schedule ended) (i k : ℕ) (at : slice_get (running p g) i ≡ Some k) (m : Mutating)
+    (s : Contents) (ms : List Mutating) (schedule : Schedule) (ended : ℕ) (mid : Midst p g b s0 m0 schedule0 s ms schedule ended)
+    (i k : ℕ) (at : slice_get (running p g) i ≡ Some k) (m : Mutating)
     (now : slice_get ms k ≡ Some m) where
   going : (g.mutator k).ended ≡ false
   going = (is_running p g b s0 m0 opened i k at).1
