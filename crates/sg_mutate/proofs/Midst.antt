@@ -21,7 +21,7 @@ use Rattle.sg_program.specs.Scripts.{IsRequestOf}
 use Rattle.sg_actor.specs.declared.mutator.Stage.{Stage}
 use Rattle.sg_actor.specs.declared.mutator.Stage.TheVariants.{Between, Within, Ended, Asking, Yielded}
 use Rattle.sg_actor.specs.State.{Mutating, mid_of, actor_of, IsSameMutator}
-use Rattle.sg_boards.specs.Boards.{IsBoarded, OpensBoarded}
+use Rattle.sg_mutate.specs.Boards.{IsBoarded, OpensBoarded}
 use Rattle.sg_mutate.specs.Epochs.{constants_of, parted, found_at, found_in, actors_in, AreMutatorsOf, IsReadyStage, IsOpened}
 use Rattle.sg_mutate.specs.Going.{goes_on, is_going, going_below}
 use Rattle.sg_mutate.proofs.Listed.{those_agree, those_have, those_below, no_bit}

@@ -28,7 +28,7 @@ use Rattle.sg_actor.specs.declared.mutator.Stage.TheVariants.{Asking, Yielded}
 use Rattle.sg_actor.specs.State.{Mutating, mid_of, actor_of, leave_of, IsSameMutator}
 use Rattle.sg_actor.specs.Turning.{IsResting, IsBehindTurn, EndsNow, TakesTurn}
 use Rattle.sg_rules.specs.Acting.{HasTurned}
-use Rattle.sg_boards.specs.Boards.{IsAt, IsBoarded, HasTaken, HasEnded, TurnsAreTaken, EndsAreTaken}
+use Rattle.sg_mutate.specs.Boards.{IsAt, IsBoarded, HasTaken, HasEnded, TurnsAreTaken, EndsAreTaken}
 use Rattle.sg_mutate.proofs.Midst.{IsPlacedAt}
 
 stopped_others : (x : Board) (k z : ℕ) (found : Option Position) (j : ℕ) → j ≢ k → (stopped_at x k z found).position j ≡ x.position j

@@ -16,7 +16,7 @@ use Rattle.sg_actor.specs.declared.mutator.Stage.{Stage}
 use Rattle.sg_actor.specs.declared.mutator.Stage.TheVariants.{Ended, Asking, Yielded}
 use Rattle.sg_actor.specs.State.{Mutating, actor_of, mid_of, leave_of}
 use Rattle.sg_actor.specs.Turning.{TakesTurn}
-use Rattle.sg_boards.specs.Boards.{owed, owed_at, IsBoarded, TurnsOweLess}
+use Rattle.sg_mutate.specs.Boards.{owed, owed_at, IsBoarded, TurnsOweLess}
 
 -- who has left owes nothing
 abbrev pub still : Stage → ℕ → ℕ

@@ -21,7 +21,7 @@ use Rattle.sg_actor.specs.declared.mutator.Stage.{Stage}
 use Rattle.sg_actor.specs.declared.mutator.Stage.TheVariants.{Within, Ended, Asking, Yielded}
 use Rattle.sg_actor.specs.State.{Mutating, mid_of, actor_of, leave_of}
 use Rattle.sg_actor.specs.Turning.{HasClassForNext, TakesTurn}
-use Rattle.sg_boards.specs.Boards.{TurnsAreTaken, EndsAreTaken, TurnsOweLess}
+use Rattle.sg_mutate.specs.Boards.{TurnsAreTaken, EndsAreTaken, TurnsOweLess}
 use Rattle.sg_mutate.specs.Epochs.{constants_of, IsOpened}
 use Rattle.sg_mutate.specs.declared.epochs.Actors.{Actors}
 use Rattle.sg_mutate.specs.Going.{AreActors, IsOnSpace}

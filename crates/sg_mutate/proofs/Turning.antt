@@ -17,7 +17,7 @@ use Rattle.sg_space.specs.Space.{Contents}
 use Rattle.sg_frag.specs.Plain.{KeepsSections, Led}
 use Rattle.sg_actor.specs.State.{Mutating, leave_of, IsSameMutator}
 use Rattle.sg_actor.specs.Turning.{TakesTurn}
-use Rattle.sg_boards.specs.Boards.{TurnsAreTaken, EndsAreTaken}
+use Rattle.sg_mutate.specs.Boards.{TurnsAreTaken, EndsAreTaken}
 use Rattle.sg_mutate.specs.Epochs.{constants_of, AreMutatorsOf, IsOpened}
 use Rattle.sg_mutate.proofs.Listed.{those_distinct, marked, marked_fits, marked_same, marked_other, none_above, gives_as}
 use Rattle.sg_mutate.proofs.Midst.{IsPlacedAt, TakesPart, Midst, one_some, some_at, is_running}

@@ -30,7 +30,7 @@ use Rattle.sg_order.specs.Rest.{IsEpochOpening}
 use Rattle.sg_order.specs.Opening.{FirstOpening, AreFirstConstants, AreFirstWords}
 use Rattle.sg_actor.specs.declared.mutator.Stage.{Stage}
 use Rattle.sg_actor.specs.State.{Mutating, waiting, IsCounted}
-use Rattle.sg_boards.specs.Boards.{OccupiesSlots}
+use Rattle.sg_mutate.specs.Boards.{OccupiesSlots}
 use Rattle.sg_mutate.specs.Epochs.{constants_of, found_in, found_at, actors_in, IsReadyStage}
 use Rattle.sg_world.specs.Starting.{IsNew, AreNew}
 use Rattle.sg_world.specs.Worlds.{CanRun, IsBetween}

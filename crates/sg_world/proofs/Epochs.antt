@@ -28,7 +28,7 @@ use Rattle.sg_actor.specs.declared.mutator.Stage.{Stage}
 use Rattle.sg_actor.specs.declared.mutator.Stage.TheVariants.{Between, Ended, Asking, Yielded}
 use Rattle.sg_actor.specs.State.{Mutating, actor_of, leave_of, waiting, IsCounted}
 use Rattle.sg_mutate.specs.Epochs.{constants_of, parted, found_in, found_at, actors_in, IsReadyStage, IsOpened, HasLeftAs, IsOver}
-use Rattle.sg_boards.specs.Boards.{IsAt}
+use Rattle.sg_mutate.specs.Boards.{IsAt}
 use Rattle.sg_world.specs.Telling.{goes, goes_at, going_in, HasLeftAt, HaveEnded, TellsOf, TellsAt}
 use Rattle.sg_world.proofs.Lists.{pairwise_left, pairwise_right, pairwise_under, passing, in_filter, below, all_below, filter_same, all_at, some_at}
 use Rattle.sg_world.proofs.Parts.{IsLeaveOf, leave_at, is_over, left_wants, done_empty, ended_is, is_part, searched}

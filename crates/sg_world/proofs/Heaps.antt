@@ -9,7 +9,7 @@ use Rattle.sg_space.specs.Space.{Contents, words_of}
 use Rattle.sg_frag.specs.Plain.{KeepsSections}
 use Rattle.sg_heap.specs.Holding.{HoldsHeap}
 use Rattle.sg_order.specs.Rest.{IsHeld}
-use Rattle.sg_boards.specs.Boards.{OccupiesSlots}
+use Rattle.sg_mutate.specs.Boards.{OccupiesSlots}
 use Rattle.sg_mutate.specs.Epochs.{constants_of}
 
 -- its words hold the graph as an epoch opens

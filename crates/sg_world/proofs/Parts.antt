@@ -25,7 +25,7 @@ use Rattle.sg_order.specs.Rest.{Holds, IsReady, before_it, IsOver, AreOver}
 use Rattle.sg_order.specs.Sweep.{swept_of}
 use Rattle.sg_order.specs.OneOrder.{IsAtEnd, IsOneOrder}
 use Rattle.sg_order.specs.Serving.{StaysPut, HandsStay, HasSameHands, StaysReady}
-use Rattle.sg_boards.specs.Boards.{IsAt}
+use Rattle.sg_mutate.specs.Boards.{IsAt}
 
 -- who left with a statement asks for what that statement asks for
 asks_for : (p : Program) (b : Book) (k : ℕ) (s : Statement) (request : Request) → IsRequestOf p s request → IsRunnable p s →

@@ -32,10 +32,10 @@ use Rattle.sg_rules.specs.Sane.{IsSane, IsSaneAt}
 use Rattle.sg_rules.specs.Acting.{ActsOn, RestsAt, IsTurn}
 use Rattle.sg_order.specs.Knowing.{IsPast, KnowsAt}
 use Rattle.sg_order.specs.Sweep.{no_winner, winners}
-use Rattle.sg_boards.specs.Boards.{owed_in_search, owed_at, owed, HasSeen, IsBoarded, TurnsOweLess}
-use Rattle.sg_boards.proofs.Ends.{Searched, SearchedBlocks, Meets, AFree, ASlot, AnOwed, opened, claimed, Turned, GivesWay, IsDone, Gathers, Looks, Wins}
-use Rattle.sg_boards.proofs.Ends.{Loses, Matures, WinsBlock, LosesBlock, WinsSlot, LosesSlot, WinsSweep, LosesSweep, SweepsOne, GoesOn, Roams, runs}
-use Rattle.sg_boards.proofs.Standing.{at_rest, no_sweeper}
+use Rattle.sg_mutate.specs.Boards.{owed_in_search, owed_at, owed, HasSeen, IsBoarded, TurnsOweLess}
+use Rattle.sg_mutate.proofs.Ends.{Searched, SearchedBlocks, Meets, AFree, ASlot, AnOwed, opened, claimed, Turned, GivesWay, IsDone, Gathers, Looks, Wins}
+use Rattle.sg_mutate.proofs.Ends.{Loses, Matures, WinsBlock, LosesBlock, WinsSlot, LosesSlot, WinsSweep, LosesSweep, SweepsOne, GoesOn, Roams, runs}
+use Rattle.sg_mutate.proofs.Standing.{at_rest, no_sweeper}
 
 -- What is left of a script behind steps that begin here and end there: one statement less where they begin between two statements, but for who
 -- yields; and else the same.

@@ -18,8 +18,8 @@ use Rattle.sg_graph.specs.Turns.IsPassedOver.{BeingSwept, OfOtherSize, Shut}
 use Rattle.sg_graph.specs.Turns.SearchesFrom.{MeetsFree, MeetsSlot, MeetsOwed, MeetsNone}
 use Rattle.sg_rules.specs.Rules.{Constants, Mid, Search, TakeBlock, TakeSlot, TakeOver, Left, AreTaken}
 use Rattle.sg_order.specs.OneOrder.{IsHoused}
-use Rattle.sg_boards.specs.Boards.{SaysOf, HasSeen}
-use Rattle.sg_boards.proofs.Ends.{IsPassedBy, Busy, Other, Full, Meets, AFree, ASlot, AnOwed, IsFirstMet, SearchedBlocks}
+use Rattle.sg_mutate.specs.Boards.{SaysOf, HasSeen}
+use Rattle.sg_mutate.proofs.Ends.{IsPassedBy, Busy, Other, Full, Meets, AFree, ASlot, AnOwed, IsFirstMet, SearchedBlocks}
 
 -- the board is right about the blocks of these words
 pub record Agrees (p : Program) (lay : Constants) (y : Board) (u : Words) : Type 0 where

@@ -16,8 +16,8 @@ use Rattle.sg_graph.specs.Turns.{Position, Between, Claiming, OpeningBlock, Taki
 use Rattle.sg_rules.specs.Rules.{Constants, Mid, Idle, TestTag, TestLength, Access, MarkCard, AccessGlobal, Look, Claim, StoreLength, StoreTag, HideLength, Ask, Left, Yielded, Actor}
 use Rattle.sg_rules.specs.Rules.{Task, Search, Roam, SeeBlock, TakeBlock, SeeUsed, TakeSlot, TakeOver, StoreOccupancy, ClearSlots, ClearWords, Retired}
 use Rattle.sg_rules.specs.Acting.{RestsAt}
-use Rattle.sg_boards.specs.Boards.{IsAt}
-use Rattle.sg_boards.proofs.Ends.{Lacks, Finds, IsRoaming}
+use Rattle.sg_mutate.specs.Boards.{IsAt}
+use Rattle.sg_mutate.proofs.Ends.{Lacks, Finds, IsRoaming}
 
 -- who stands on a board is between two turns
 pub at_rest : (p : Program) (script : List Statement) (mid : Mid) (position : Position) → IsAt p script mid position → RestsAt mid

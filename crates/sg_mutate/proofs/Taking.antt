@@ -39,12 +39,12 @@ use Rattle.sg_order.specs.Rest.{IsReady, before_it}
 use Rattle.sg_order.specs.Sweep.{no_winner, winners, taken_over, swept_of, IsClaimedBy, Runs}
 use Rattle.sg_order.specs.Knowing.{IsPast, KnowsAt, Seeks}
 use Rattle.sg_order.specs.OneOrder.{HasPrepared, IsHoused, IsSeeking, AreBlocksSoFar, IsSoFar, IsOneOrder, OrdersSoFar}
-use Rattle.sg_boards.specs.Boards.{IsAt, SaysOf, HasSeen, OccupiesSlots, IsBoarded, HasTaken, OpensBoarded, TurnsAreTaken, EndsAreTaken}
-use Rattle.sg_boards.proofs.Events.{order_more, so_more}
-use Rattle.sg_boards.proofs.Ends.{Searched, SearchedBlocks, Kept, opened, claimed, owned, Turned, GivesWay, IsDone, Gathers, Looks, Wins, Loses, Matures, WinsBlock, LosesBlock, WinsSlot, LosesSlot, WinsSweep, LosesSweep, SweepsOne, GoesOn, Roams, HasRun, runs}
-use Rattle.sg_boards.proofs.Seen.{Agrees, IsMidOf, HaltsBy, one_zero, filled, stopped}
-use Rattle.sg_boards.proofs.Explained.{GoesBehind, goes_behind, explained, ordered, claimed_by}
-use Rattle.sg_boards.proofs.Standing.{at_rest, at_idle, at_claim, at_opening, at_slot, at_taking_over, at_sweeping, at_behind, swept_at, in_sweep, no_sweeper, request_of, slot_request_of, collects, none_by, OneMore, one_by, Reads, AreFragments, found, none}
+use Rattle.sg_mutate.specs.Boards.{IsAt, SaysOf, HasSeen, OccupiesSlots, IsBoarded, HasTaken, OpensBoarded, TurnsAreTaken, EndsAreTaken}
+use Rattle.sg_mutate.proofs.Events.{order_more, so_more}
+use Rattle.sg_mutate.proofs.Ends.{Searched, SearchedBlocks, Kept, opened, claimed, owned, Turned, GivesWay, IsDone, Gathers, Looks, Wins, Loses, Matures, WinsBlock, LosesBlock, WinsSlot, LosesSlot, WinsSweep, LosesSweep, SweepsOne, GoesOn, Roams, HasRun, runs}
+use Rattle.sg_mutate.proofs.Seen.{Agrees, IsMidOf, HaltsBy, one_zero, filled, stopped}
+use Rattle.sg_mutate.proofs.Explained.{GoesBehind, goes_behind, explained, ordered, claimed_by}
+use Rattle.sg_mutate.proofs.Standing.{at_rest, at_idle, at_claim, at_opening, at_slot, at_taking_over, at_sweeping, at_behind, swept_at, in_sweep, no_sweeper, request_of, slot_request_of, collects, none_by, OneMore, one_by, Reads, AreFragments, found, none}
 
 -- as an epoch opens
 pub opens_boarded : OrdersSoFar → OpensBoarded

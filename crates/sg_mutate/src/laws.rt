@@ -1,4 +1,4 @@
-ghost use Rattle.sg_boards.specs.Boards.{OpensBoarded, TurnsAreTaken, EndsAreTaken, TurnsOweLess};
+ghost use Rattle.sg_mutate.specs.Boards.{OpensBoarded, TurnsAreTaken, EndsAreTaken, TurnsOweLess};
 
 use sg_graph::{blocks_go, one_turn, turns_keep_old};
 use sg_order::orders_so_far;
