@@ -10,8 +10,8 @@ ghost use Rattle.sg_frag.specs.Plain.{Led};
 ghost use Rattle.sg_mutate.specs.Epochs.{IsOpened, IsOver};
 ghost use Rattle.sg_mutate.specs.Going.{AreActors, IsOnSpace};
 
-use sg_actor::Mutator;
 use crate::laws::{ends_are_taken, opens_boarded, turns_are_taken, turns_owe_less};
+use sg_actor::Mutator;
 use sg_cells::ScheduleDriver;
 use sg_frag::PlainPort;
 use sg_order::{goes_always, goes_so_far};
