@@ -79,6 +79,18 @@ def sixty_majors():
     return majors(60)
 
 
+def old_news():
+    """A list of 40,000 objects, each made in the major heap, which is full at the end."""
+    return program('nursery 4096\nblocks 512\n', NODE,
+                   'repeat 40000\nmature r0 N\nput r0 0 r1\nput r0 1 r2\nmove r2 r1\nmove r1 r0\nend\n')
+
+
+def swept_by_search():
+    """A list of 20,000 objects that is promoted, and then major pauses, each after two objects of two sizes made in the major heap."""
+    return program('nursery 4096\nblocks 2048\n', NODE + 'class B plain 40\n',
+                   'repeat 20000\nnew r0 N\nput r0 0 r1\nmove r1 r0\nend\ndrop r0\nrepeat 60\nmature r2 B\nmature r3 N\ncollect major\nend\n')
+
+
 def wide_objects():
     return program('', 'class W plain 62\n', 'new r0 W\n' * 60000)
 
@@ -127,6 +139,8 @@ INPUTS = [
     (long_old_list, 'a list of 120,000 objects that is promoted, and then 3,000 such pauses', ['run']),
     (one_major, 'a list of 20,000 objects that is promoted, and a major pause, over 2,048 blocks', ['run']),
     (sixty_majors, 'the same with 60 major pauses, each after an object of 42 words', ['run']),
+    (old_news, 'a list of 40,000 objects made by `mature` over 512 blocks, and 160,000 statements more', ['run']),
+    (swept_by_search, 'a list of 20,000 objects that is promoted, and 60 major pauses, each after a `mature` of two sizes', ['run']),
     (wide_objects, '60,000 `new`s of 64 words over the default nursery', ['run']),
     (names, '250 classes with names of 26 bytes, and 26,000 `new`s of them', ['run']),
     (empty_repeats, 'four nested repeats of 1,048,576 over nothing', ['run']),

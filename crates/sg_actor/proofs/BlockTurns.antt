@@ -14,7 +14,7 @@ use Rattle.sg_cells.specs.Made.{Makes}
 use Rattle.sg_program.specs.declared.program.Statement.{Statement}
 use Rattle.sg_program.specs.Scripts.{made_slot}
 use Rattle.sg_rules.specs.Rules.{Constants, Idle, Search, SeeBlock, StoreOccupancy, StoreLength, Mid}
-use Rattle.sg_rules.specs.Rules.{Actor, onward, slot_word, within}
+use Rattle.sg_rules.specs.Rules.{Actor, onward, slot_front, within}
 use Rattle.sg_rules.specs.Rules.BlockComes.{takes_block, misses_block, takes_slot, misses_slot, takes_over, misses_sweep}
 use Rattle.sg_rules.specs.Acting.{Acts, RestsAt}
 use Rattle.sg_rules.specs.Sane.{IsSearching}
@@ -114,7 +114,7 @@ module _ {P : Type 0} (o : Ports P) (m : Mutating) (lay : Constants) (s : Statem
     take_may = may (TakingSlot s c i) stage (OnBlock (OrUsed c i 0)) _ (true, inr (takes_slot (actor_of m) s m.script c i 0 (bit_at-zero i)))
 
     module _ (y : P) (found : ℕ) (did : Did o m.program lay x (OnBlock (OrUsed c i found)) y) where
-      pub took : bit_at found i ≡ 0 → Led o m lay x (within (actor_of m) m.script (StoreLength s (slot_word m.program c (made_slot m.program s) i 0))) y
+      pub took : bit_at found i ≡ 0 → Led o m lay x (within (actor_of m) m.script (StoreLength s (slot_front m.program c (made_slot m.program s) i))) y
       took clear = led (TakingSlot s c i) stage _ _ y (true, inr (takes_slot (actor_of m) s m.script c i found clear)) did
 
       pub missed : bit_at found i ≡ 1 → Led o m lay x (again m s c) y

@@ -52,6 +52,7 @@ impl Making {
 
 impl<'a> Mutator<'a> {
     /// What `new`, `newv` or `mature` makes.
+    #[inline(always)]
     pub(crate) fn making(&self, statement: Statement) -> Making
         requires { MakesObject statement × IsRunnable self.now.program statement }
         ensures made { IsMadeOf self.now.program result.statement result.r result.class result.fields }

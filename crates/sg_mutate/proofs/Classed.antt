@@ -62,7 +62,7 @@ module _ (p : Program) (no_class : length p.classes ≡ 0) where
   book_stays : (g : Graph) (b c : Book) (k : ℕ) (s : Statement) (answer : Answer) → IsRunnable p s → Books p g b k s answer c → c ≡ b
   book_stays g b c k (New r class) answer run h = absurd (no_such class run.good.names)
   book_stays g b c k (NewV r class count) answer run h = absurd (no_such class run.good.names)
-  book_stays g b c k (Mature r class) answer run h = absurd h
+  book_stays g b c k (Mature r class) answer run h = absurd (no_such class run.good.names)
   book_stays g b c k (Collect major) answer run h = absurd h
   book_stays g b c k Sections answer run h = absurd h
   book_stays g b c k s answer run h = h
@@ -102,8 +102,8 @@ module _ (p : Program) (no_class : length p.classes ≡ 0) where
 
 -- a mutator before a statement that tests its object
 pub has_class : (p : Program) (lay : Constants) (g : Graph) (b : Book) (w : Words) (actors : ℕ → Actor) (so : IsSoFar p lay g b w actors) →
-    IsOneOrder p lay g b so.events w actors → (k : ℕ) → (actors k).mid ≡ Idle → (s : Statement) (rest : List Statement) → (actors k).script ≡ s ∷ rest →
-    (test : Test) → test_of s ≡ Some test → (actors k).reg test.register ≢ 0 → 0 < length p.classes
+    IsOneOrder p lay so.opened g b so.events w actors → (k : ℕ) → (actors k).mid ≡ Idle → (s : Statement) (rest : List Statement) →
+    (actors k).script ≡ s ∷ rest → (test : Test) → test_of s ≡ Some test → (actors k).reg test.register ≢ 0 → 0 < length p.classes
 has_class p lay g b w actors so one k idle s rest script test tests holds = elim (cases_eq (length p.classes) 0) [
   | inl z ↦ absurd (holds (no_word one.graph one.book ((actors k).reg test.register) ((actors k).offset test.register) _ (ready.regs test.register)
       (test_needs (kinds_in (one.graph.mutator k)) s test tests needs)

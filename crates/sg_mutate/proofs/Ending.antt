@@ -14,7 +14,7 @@ use Rattle.sg_graph.specs.Turns.Plays.{Over}
 use Rattle.sg_space.specs.Space.{Contents}
 use Rattle.sg_rules.specs.Rules.{Actor}
 use Rattle.sg_actor.specs.declared.mutator.Stage.{Stage}
-use Rattle.sg_actor.specs.declared.mutator.Stage.TheVariants.{Between, Within, Claiming, Ended, Asking, Yielded}
+use Rattle.sg_actor.specs.declared.mutator.Stage.TheVariants.{Within, Ended, Asking, Yielded}
 use Rattle.sg_actor.specs.State.{Mutating, leave_of}
 use Rattle.sg_actor.specs.Turning.{IsResting}
 use Rattle.sg_mutate.specs.Epochs.{HasLeftAs, IsOpened, IsOver}
@@ -29,12 +29,11 @@ record Leaves (p : Program) (stage : Stage) (position : Position) : Type 0 where
   fits : (stage ≡ Ended) ⊎ IsResting p stage
 
 leaves : (p : Program) (stage : Stage) (position : Position) → IsPlacedAt p stage position → HasGone position → Leaves p stage position
-leaves p Between position h gone = absurd (h gone)
 leaves p Within position h gone = absurd h
-leaves p (Claiming s f seen) position h gone = absurd (h gone)
 leaves p Ended position h gone = record { leave = HasNone; left = refl; position_is = h; fits = inl refl }
 leaves p (Asking s request) position h gone = record { leave = Wants request; left = refl; position_is = h.0; fits = inr h.1 }
 leaves p Yielded position h gone = record { leave = Yield; left = refl; position_is = h; fits = inr tt }
+leaves p stage position h gone = absurd (h gone)
 
 left_as : (p : Program) (x : Board) (k : ℕ) (m n : Mutating) (a : Actor) → TakesPart p (x.position k) m n a → HasGone (x.position k) → HasLeftAs p x k m n a
 left_as p x k m n a part gone =
@@ -52,7 +51,7 @@ is_over p g b s ms schedule opened t after next ended mid all = record {
   plays = subst (λ ss. Plays p (running p g) (begun schedule) (opening g b) ss next mid.board) (append-nil mid.order)
       (mid.plays [] next mid.board (Over next mid.board (λ k c. let i = contains_at (running p g) k c in gone i.0 k i.1)));
   keeps = mid.keeps;
-  leaves = mid.leaves;
+  head = mid.head;
   are = mid.are;
   left = λ k m n e f going.
       let i = runs p g b s ms opened k (slice_get_within ms k m e) going in

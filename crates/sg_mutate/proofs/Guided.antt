@@ -10,9 +10,9 @@ use Rattle.sg_program.specs.declared.program.Program.{Program}
 use Rattle.sg_graph.specs.Graph.{Graph}
 use Rattle.sg_graph.specs.Book.{Book}
 use Rattle.sg_space.specs.Space.{Contents, words_of, cards_in}
-use Rattle.sg_words.specs.Sections.{words_end, IsLayout}
+use Rattle.sg_words.specs.Sections.{old_base, words_end, IsLayout}
 use Rattle.sg_frag.specs.Plain.{KeepsSections}
-use Rattle.sg_frag.specs.Leading.{limit_of}
+use Rattle.sg_frag.specs.Leading.{limit_of, marks_of}
 use Rattle.sg_rules.specs.Rules.{Constants, Actor, Follows, Went}
 use Rattle.sg_rules.specs.Sane.{IsSane}
 use Rattle.sg_rules.specs.Acting.{Acts}
@@ -55,8 +55,11 @@ space_stays p lay s t keeps is = record {
   limits = subst (λ l. IsLayout l) (sym keeps.layout) is.limits;
   words = keeps.words ∙ is.words ∙ ap words_end (sym keeps.layout);
   next = keeps.next ∙ is.next ∙ ap length (sym keeps.ends);
+  blocks = keeps.blocks ∙ is.blocks;
+  used = keeps.used ∙ is.used;
   cards = keeps.cards ∙ is.cards ∙ ap cards_in (sym keeps.layout);
   fragments = ap length keeps.ends ∙ is.fragments;
+  marks = ap marks_of keeps.marks ∙ is.marks;
 }
 
 module _ (so_far : GoesSoFar) (always : GoesAlways) (p : Program) (lay : Constants) (g : Graph) (b : Book) where
@@ -102,4 +105,7 @@ module _ (so_far : GoesSoFar) (always : GoesAlways) (p : Program) (lay : Constan
     };
     fragments_are = is.fragments;
     limits_are = limits;
+    blocks_are = is.blocks;
+    heap_is = ap old_base is.layout;
+    marks_are = is.marks;
   }

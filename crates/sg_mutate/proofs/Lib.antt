@@ -1,3 +1,10 @@
+mod Events
+mod Ends
+mod Explained
+mod Standing
+mod Taking
+mod OwedLess
+mod Seen
 mod Listed
 mod Numbered
 mod Calls

@@ -1,10 +1,12 @@
 -- An epoch in its midst, between two turns.
-use Rattle.std.proofs.Common.{◌≡◌, ℕ, ◌^◌, ◌<◌, ◌≤◌, Bool, true, false, not, Option, Some, List, [], ◌∷◌, ◌++◌, length, filter, slice_get, refl, ap, sym, ◌∙◌, subst, arith}
+use Rattle.std.proofs.Common.{◌≡◌, ℕ, ◌^◌, ◌<◌, ◌≤◌, Bool, true, false, not, Option, Some, None, List, [], ◌∷◌, ◌++◌, length, filter, slice_get, refl, ap}
+use Rattle.std.proofs.Common.{sym, ◌∙◌, subst, arith}
 use Rattle.std.proofs.lemmas.Option.{slice_get_past, slice_get-get_or}
 use Rattle.std.specs.Int.{bit_at}
 use Rattle.std.proofs.lemmas.Nat.{pow_pos}
 use Rattle.std.proofs.lemmas.Nat.Bits.{bit_at-zero}
 use Rattle.sg_words.specs.Schedule.{Schedule, begun}
+use Rattle.sg_words.specs.declared.layout.Layout.{Layout}
 use Rattle.sg_cells.specs.Ended.{HasEnded}
 use Rattle.sg_program.specs.declared.program.Program.{Program}
 use Rattle.sg_program.specs.declared.answers.Leave.TheVariants.{Ended as HasNone, Yield, Wants}
@@ -14,25 +16,24 @@ use Rattle.sg_graph.specs.Epoch.{Said, running, numbers_below}
 use Rattle.sg_graph.specs.Turns.{Position, Between as IsBetween, HasLeft, Board, opening, HasGone, Plays}
 use Rattle.sg_space.specs.Space.{Contents, words_of}
 use Rattle.sg_frag.specs.Plain.{KeepsSections}
-use Rattle.sg_rules.specs.Rules.{Actor, fresh}
+use Rattle.sg_rules.specs.Rules.{Idle, Actor, fresh}
 use Rattle.sg_program.specs.Scripts.{IsRequestOf}
 use Rattle.sg_actor.specs.declared.mutator.Stage.{Stage}
-use Rattle.sg_actor.specs.declared.mutator.Stage.TheVariants.{Between, Within, Claiming, Ended, Asking, Yielded}
-use Rattle.sg_actor.specs.State.{Mutating, actor_of, IsSameMutator}
-use Rattle.sg_boards.specs.Boards.{IsBoarded, OpensBoarded}
-use Rattle.sg_mutate.specs.Epochs.{constants_of, parted, found_at, found_in, actors_in, AreMutatorsOf, IsReadyStage, IsOpened, LeavesBlocks}
+use Rattle.sg_actor.specs.declared.mutator.Stage.TheVariants.{Between, Within, Ended, Asking, Yielded}
+use Rattle.sg_actor.specs.State.{Mutating, mid_of, actor_of, IsSameMutator}
+use Rattle.sg_mutate.specs.Boards.{IsBoarded, OpensBoarded}
+use Rattle.sg_mutate.specs.Epochs.{constants_of, parted, found_at, found_in, actors_in, AreMutatorsOf, IsReadyStage, IsOpened}
 use Rattle.sg_mutate.specs.Going.{goes_on, is_going, going_below}
 use Rattle.sg_mutate.proofs.Listed.{those_agree, those_have, those_below, no_bit}
 use Rattle.sg_mutate.proofs.Calls.{IsSpaceBy}
 
 -- a mutator at this stage stands on the board here
 abbrev pub IsPlacedAt : Program → Stage → Position → Type 0
-IsPlacedAt p Between position = ¬ HasGone position
 IsPlacedAt p Within position = ⊥
-IsPlacedAt p (Claiming statement fragment next) position = ¬ HasGone position
 IsPlacedAt p Ended position = position ≡ HasLeft HasNone
 IsPlacedAt p (Asking statement request) position = (position ≡ HasLeft (Wants request)) × IsRequestOf p statement request
 IsPlacedAt p Yielded position = position ≡ HasLeft Yield
+IsPlacedAt p stage position = ¬ HasGone position
 
 -- a mutator that takes turns in the epoch, which opened as m and is n now
 pub record TakesPart (p : Program) (position : Position) (m n : Mutating) (a : Actor) : Type 0 where
@@ -51,7 +52,7 @@ pub record Midst (p : Program) (g : Graph) (b : Book) (s0 : Contents) (m0 : List
   pub plays : (more : List Said) (u : Schedule) (z : Board) → Plays p (running p g) schedule board more u z →
       Plays p (running p g) (begun schedule0) (opening g b) (order ++ more) u z
   pub keeps : KeepsSections s0 s
-  pub leaves : LeavesBlocks s0 s
+  pub head : s.head ≡ s0.head
   pub are : AreMutatorsOf p ms
   pub parts : (k : ℕ) (m n : Mutating) → slice_get m0 k ≡ Some m → slice_get ms k ≡ Some n → (g.mutator k).ended ≡ false →
       TakesPart p (board.position k) m n (actors k)
@@ -64,27 +65,24 @@ pub record Midst (p : Program) (g : Graph) (b : Book) (s0 : Contents) (m0 : List
 -- the stages as the graph has them
 ready_going : (g : Graph) (k : ℕ) (stage : Stage) → IsReadyStage g k stage → goes_on stage ≡ not (g.mutator k).ended
 ready_going g k Between h = ap not (sym h)
-ready_going g k Within h = absurd h
-ready_going g k (Claiming statement fragment next) h = absurd h
 ready_going g k Ended h = ap not (sym h)
-ready_going g k (Asking statement request) h = absurd h
-ready_going g k Yielded h = absurd h
+ready_going g k stage h = absurd h
 
 ready_between : (g : Graph) (k : ℕ) (stage : Stage) → IsReadyStage g k stage → (g.mutator k).ended ≡ false → stage ≡ Between
 ready_between g k Between h e = refl
-ready_between g k Within h e = absurd h
-ready_between g k (Claiming statement fragment next) h e = absurd h
 ready_between g k Ended h e = cc
-ready_between g k (Asking statement request) h e = absurd h
-ready_between g k Yielded h e = absurd h
+ready_between g k stage h e = absurd h
 
 ready_ended : (g : Graph) (k : ℕ) (stage : Stage) → IsReadyStage g k stage → (g.mutator k).ended ≡ true → stage ≡ Ended
 ready_ended g k Between h e = cc
-ready_ended g k Within h e = absurd h
-ready_ended g k (Claiming statement fragment next) h e = absurd h
 ready_ended g k Ended h e = refl
-ready_ended g k (Asking statement request) h e = absurd h
-ready_ended g k Yielded h e = absurd h
+ready_ended g k stage h e = absurd h
+
+-- who may begin an epoch is between two statements
+ready_idle : (g : Graph) (k : ℕ) (m : Mutating) (stage : Stage) → m.stage ≡ stage → IsReadyStage g k stage → (found_at stage m).mid ≡ Idle
+ready_idle g k m Between e h = ap mid_of e
+ready_idle g k m Ended e h = refl
+ready_idle g k m stage e h = absurd h
 
 pub one_some : {A : Type 0} (o : Option A) (x y : A) → o ≡ Some x → o ≡ Some y → x ≡ y
 one_some o x y e f = cc
@@ -107,8 +105,11 @@ module _ (p : Program) (g : Graph) (b : Book) (s : Contents) (ms : List Mutating
     limits = is.layout;
     words = is.words;
     next = is.fragments;
+    blocks = is.blocks ∙ ap (λ (layout : Layout). layout.blocks) opened.space.layout;
+    used = is.used ∙ ap (λ (layout : Layout). layout.blocks) opened.space.layout;
     cards = is.cards;
     fragments = refl;
+    marks = refl;
   }
 
   -- a running mutator is one of them, and hasn't ended
@@ -126,13 +127,20 @@ module _ (p : Program) (g : Graph) (b : Book) (s : Contents) (ms : List Mutating
   pub runs : (k : ℕ) → k < length ms → (g.mutator k).ended ≡ false → (i : ℕ) × (slice_get (running p g) i ≡ Some k)
   runs k l e = those_have (λ j. not (g.mutator j).ended) (length p.mutators) k (let n = opened.are.count in omega arith) (ap not e)
 
+  all_idle : (k : ℕ) → (actors_in ms k).mid ≡ Idle
+  all_idle k = by_one (slice_get ms k) refl
+    where
+      by_one : (o : Option Mutating) → slice_get ms k ≡ o → (found_in o).mid ≡ Idle
+      by_one None e = refl
+      by_one (Some m) e = ready_idle g k m m.stage refl (opened.stages k m e)
+
   -- as it opens
   pub begins : OpensBoarded → (schedule : Schedule) → Midst p g b s ms schedule s ms (begun schedule) 0
   begins opens schedule = record {
     order = [];
     board = opening g b;
     actors = actors_in ms;
-    boarded = opens p (constants_of s) (words_of s) g b (actors_in ms) opened.opening;
+    boarded = opens p (constants_of s) (words_of s) g b (actors_in ms) opened.opening all_idle opened.fits;
     plays = λ more u z h. h;
     keeps = record {
       layout = refl;
@@ -149,7 +157,7 @@ module _ (p : Program) (g : Graph) (b : Book) (s : Contents) (ms : List Mutating
       registered = refl;
       pairs = refl;
     };
-    leaves = record { block = refl; used = refl; head = refl };
+    head = refl;
     are = opened.are;
     parts = λ k m n e f going.
         let same = one_some (slice_get ms k) m n e f in

@@ -3,19 +3,15 @@ use Rattle.std.proofs.Common.{◌≡◌, ℕ, ◌+◌, ◌<◌, true, Some, Bool
 use Rattle.std.proofs.lemmas.List.{take_more_set, length_push, length-set}
 use Rattle.std.proofs.lemmas.Option.{slice_get_read}
 use Rattle.sg_actor.specs.declared.mutator.Stage.{Stage}
-use Rattle.sg_actor.specs.declared.mutator.Stage.TheVariants.{Between, Within, Claiming, Ended, Asking, Yielded}
+use Rattle.sg_actor.specs.declared.mutator.Stage.TheVariants.{Ended}
 use Rattle.sg_actor.specs.State.{Mutating}
 use Rattle.sg_mutate.specs.declared.epochs.Actors.{Actors}
 use Rattle.sg_mutate.specs.Going.{goes_on, is_going, going_below, AreActorsBelow}
 use Rattle.sg_mutate.proofs.Listed.{those_more, those_same}
 
 going_stage : (stage : Stage) → ¬ (stage ≡ Ended) → goes_on stage ≡ true
-going_stage Between h = refl
-going_stage Within h = refl
-going_stage (Claiming statement fragment next) h = refl
 going_stage Ended h = absurd (h refl)
-going_stage (Asking statement request) h = refl
-going_stage Yielded h = refl
+going_stage stage h = refl
 
 module _ (ms : List Mutating) (k : ℕ) (m : Mutating) (l : k < length ms) (is : m ≡ get_or ms k m) where
   abbrev P : ℕ → Bool

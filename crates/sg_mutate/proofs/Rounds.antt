@@ -1,5 +1,6 @@
 -- The actor that has the turn, as the code knows it.
-use Rattle.std.proofs.Common.{◌≡◌, ◌≢◌, ℕ, ◌-◌, ◌^◌, ◌<◌, ◌≤◌, Option, Some, None, List, length, slice_get, slice_index, take, get_or, set, refl, ap, sym, ◌∙◌, subst, arith}
+use Rattle.std.proofs.Common.{◌≡◌, ◌≢◌, ℕ, ◌-◌, ◌^◌, ◌<◌, ◌≤◌, Option, Some, None, List, length, slice_get, slice_index, take, get_or, set, refl, ap, sym}
+use Rattle.std.proofs.Common.{◌∙◌, subst, arith}
 use Rattle.std.proofs.lemmas.List.{get_or-take}
 use Rattle.std.proofs.lemmas.Option.{slice_get-get_or, get_or_from_slice_get}
 use Rattle.sg_words.specs.Schedule.{Schedule, Gives}
@@ -17,10 +18,10 @@ use Rattle.sg_rules.specs.Rules.{Constants, Actor}
 use Rattle.sg_rules.specs.Sane.{IsSane}
 use Rattle.sg_order.specs.OneOrder.{GoesSoFar, GoesAlways}
 use Rattle.sg_actor.specs.declared.mutator.Stage.{Stage}
-use Rattle.sg_actor.specs.declared.mutator.Stage.TheVariants.{Between, Within, Claiming, Ended, Asking, Yielded}
+use Rattle.sg_actor.specs.declared.mutator.Stage.TheVariants.{Within, Ended, Asking, Yielded}
 use Rattle.sg_actor.specs.State.{Mutating, mid_of, actor_of, leave_of}
 use Rattle.sg_actor.specs.Turning.{HasClassForNext, TakesTurn}
-use Rattle.sg_boards.specs.Boards.{TurnsAreTaken, EndsAreTaken, TurnsOweLess}
+use Rattle.sg_mutate.specs.Boards.{TurnsAreTaken, EndsAreTaken, TurnsOweLess}
 use Rattle.sg_mutate.specs.Epochs.{constants_of, IsOpened}
 use Rattle.sg_mutate.specs.declared.epochs.Actors.{Actors}
 use Rattle.sg_mutate.specs.Going.{AreActors, IsOnSpace}
@@ -32,12 +33,10 @@ use Rattle.sg_mutate.proofs.Turning.{first, part, has_left, has_stayed}
 use Rattle.sg_mutate.proofs.Owing.{owed_all, all_owe_less}
 
 stays_so : (p : Program) (stage : Stage) (position : Position) → IsPlacedAt p stage position → ¬ HasGone position → leave_of stage ≡ None
-stays_so p Between position h stays = refl
-stays_so p Within position h stays = refl
-stays_so p (Claiming s f seen) position h stays = refl
 stays_so p Ended position h stays = absurd (stays (subst HasGone (sym h) tt))
 stays_so p (Asking s request) position h stays = absurd (stays (subst HasGone (sym h.0) tt))
 stays_so p Yielded position h stays = absurd (stays (subst HasGone (sym h) tt))
+stays_so p stage position h stays = refl
 
 no_leave : (o : Option Leave) → ¬ (o ≢ None) → o ≡ None
 no_leave None h = refl
@@ -136,14 +135,16 @@ module _ (r : Round) (p : Program) (g : Graph) (b : Book) (opened : Opened r p g
             (subst (λ (a : Actor). IsOnSpace p lay r.s a) is_actor
             (on_space so_far always p lay g b r.s mid.actors mid.boarded.so here (ap limit_of mid.keeps.ends) k))
 
-        sane : IsSane p lay (actor_of m)
-        sane = subst (IsSane p lay) is_actor ((always p lay g b (words_of r.s) mid.actors mid.boarded.so).sane k)
+        sane : IsSane p lay (mid.actors k)
+        sane = (always p lay g b (words_of r.s) mid.actors mid.boarded.so).sane k
 
         pub smaller : TurnsOweLess → ¬ HasEnded r.ended i → (n : Mutating) (t : Contents) → TakesTurn lay Led m r.s n t →
             owed_all lay (set r.ms k n) < owed_all lay r.ms
         smaller less still n t takes =
             let few_fragments = opened.space.contents.few in
-            all_owe_less less p lay opened.limits.settings.nursery_most few_fragments m n r.s t program sane (going still) r.ms k there
+            let few_blocks : p.config.blocks ≤ 65536 = let l = opened.limits.settings.blocks_most in omega arith in
+            all_owe_less less p lay g b mid.order mid.board r.s t mid.actors opened.limits.settings.nursery_most few_blocks few_fragments mid.boarded k m n
+            program is_actor sane (going still) r.ms k there
             (sym (get_or_from_slice_get r.ms k m m now)) takes
 
       module _ (turns : TurnsAreTaken) (ends : EndsAreTaken) (still : ¬ HasEnded r.ended i) (later : Schedule)

@@ -1,5 +1,6 @@
 -- One turn more.
-use Rattle.std.proofs.Common.{◌≡◌, ◌≢◌, ℕ, zero, suc, ◌^◌, ◌<◌, ◌≤◌, ◌⊎◌, true, false, Some, None, List, [], ◌∷◌, ◌++◌, length, slice_get, slice_set, append_assoc, inl, inr, refl, ap, sym, ◌∙◌, subst, arith}
+use Rattle.std.proofs.Common.{◌≡◌, ◌≢◌, ℕ, zero, suc, ◌^◌, ◌<◌, ◌≤◌, ◌⊎◌, true, false, Some, None, List, [], ◌∷◌, ◌++◌, length, slice_get, slice_set}
+use Rattle.std.proofs.Common.{append_assoc, inl, inr, refl, ap, sym, ◌∙◌, subst, arith}
 use Rattle.std.specs.Int.{bit_at}
 use Rattle.std.proofs.lemmas.Bool.{cases_eq}
 use Rattle.std.proofs.lemmas.List.{length-set}
@@ -16,11 +17,11 @@ use Rattle.sg_space.specs.Space.{Contents}
 use Rattle.sg_frag.specs.Plain.{KeepsSections, Led}
 use Rattle.sg_actor.specs.State.{Mutating, leave_of, IsSameMutator}
 use Rattle.sg_actor.specs.Turning.{TakesTurn}
-use Rattle.sg_boards.specs.Boards.{TurnsAreTaken, EndsAreTaken}
+use Rattle.sg_mutate.specs.Boards.{TurnsAreTaken, EndsAreTaken}
 use Rattle.sg_mutate.specs.Epochs.{constants_of, AreMutatorsOf, IsOpened}
 use Rattle.sg_mutate.proofs.Listed.{those_distinct, marked, marked_fits, marked_same, marked_other, none_above, gives_as}
 use Rattle.sg_mutate.proofs.Midst.{IsPlacedAt, TakesPart, Midst, one_some, some_at, is_running}
-use Rattle.sg_mutate.proofs.Leaving.{leaves_blocks, leaves_then}
+use Rattle.sg_mutate.proofs.Leaving.{keeps_head}
 use Rattle.sg_mutate.proofs.Next.{Next, next, placed_stays, placed_gone}
 
 pub get_other : {A : Type 0} (l : List A) (i k : ℕ) (x : A) → k ≢ i → slice_get (slice_set l i x) k ≡ slice_get l k
@@ -47,7 +48,8 @@ same_then : (l m n : Mutating) → IsSameMutator l m → IsSameMutator m n → I
 same_then l m n e f = record { program = f.program ∙ e.program; number = f.number ∙ e.number; first = f.first ∙ e.first }
 
 module _ (p : Program) (g : Graph) (b : Book) (s0 : Contents) (m0 : List Mutating) (schedule0 : Schedule) (opened : IsOpened p g b s0 m0)
-    (s : Contents) (ms : List Mutating) (schedule : Schedule) (ended : ℕ) (mid : Midst p g b s0 m0 schedule0 s ms schedule ended) (i k : ℕ) (at : slice_get (running p g) i ≡ Some k) (m : Mutating)
+    (s : Contents) (ms : List Mutating) (schedule : Schedule) (ended : ℕ) (mid : Midst p g b s0 m0 schedule0 s ms schedule ended)
+    (i k : ℕ) (at : slice_get (running p g) i ≡ Some k) (m : Mutating)
     (now : slice_get ms k ≡ Some m) where
   going : (g.mutator k).ended ≡ false
   going = (is_running p g b s0 m0 opened i k at).1
@@ -145,7 +147,7 @@ module _ (p : Program) (g : Graph) (b : Book) (s0 : Contents) (m0 : List Mutatin
           boarded = x.boarded;
           plays = plays;
           keeps = keeps;
-          leaves = leaves_then s0 s t mid.leaves (leaves_blocks (constants_of s0) m n s t takes);
+          head = keeps_head (constants_of s0) m n s t takes ∙ mid.head;
           are = are;
           parts = parts;
           stayed = λ j y z e f gone. elim (set_at ms k j n z below f) [

@@ -17,7 +17,7 @@ use Rattle.sg_actor.specs.declared.mutator.Stage.{Stage}
 use Rattle.sg_actor.specs.declared.mutator.Stage.TheVariants.{Between, Ended}
 use Rattle.sg_actor.specs.State.{Mutating, actor_of, leave_of, IsSameMutator}
 use Rattle.sg_actor.specs.Turning.{IsResting}
-use Rattle.sg_boards.specs.Boards.{IsBoarded, OccupiesSlots}
+use Rattle.sg_mutate.specs.Boards.{IsBoarded, OccupiesSlots}
 
 -- how many fragments a space has, before which word each ends, and the marks of each block
 abbrev pub constants_of : Contents → Constants

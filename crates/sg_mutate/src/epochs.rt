@@ -10,7 +10,7 @@ ghost use Rattle.sg_frag.specs.Plain.{Led};
 ghost use Rattle.sg_mutate.specs.Epochs.{IsOpened, IsOver};
 ghost use Rattle.sg_mutate.specs.Going.{AreActors, IsOnSpace};
 
-use sg_boards::{ends_are_taken, opens_boarded, turns_are_taken, turns_owe_less};
+use crate::laws::{ends_are_taken, opens_boarded, turns_are_taken, turns_owe_less};
 use sg_actor::Mutator;
 use sg_cells::ScheduleDriver;
 use sg_frag::PlainPort;
@@ -27,8 +27,9 @@ pub struct EpochEnd<'a> {
 }
 
 /// One epoch: the mutators that haven't ended take turns in the order that the driver gives, each over the lent space, until each
-/// has ended, yielded or left with a request. It takes no memory beside what it is given. It takes as many turns as there are statements
-/// to do, and one more for each mutator and for each exchange that is lost.
+/// has ended, yielded or left with a request. It takes no memory beside what it is given. It takes a turn for each statement that is
+/// begun, for each exchange and each claim of a slot, won or lost, two more for each block that a search sweeps, and one for each mutator
+/// that ends or yields.
 pub fn epoch<'a>(
     alloc: Global,
     space: Space,

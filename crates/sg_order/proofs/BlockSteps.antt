@@ -13,10 +13,10 @@ use Rattle.sg_program.specs.declared.program.Program.{Program}
 use Rattle.sg_program.specs.declared.answers.Answer.{Answer}
 use Rattle.sg_program.specs.Scripts.{words_for, made_slot}
 use Rattle.sg_graph.specs.Graph.{Entry, Graph}
-use Rattle.sg_graph.specs.Book.{Book, nursery_end, block_at, slot_at, slot_words}
+use Rattle.sg_graph.specs.Book.{Book, Old, nursery_end, block_at, slot_at, slot_words}
 use Rattle.sg_graph.specs.Heap.{Owner}
 use Rattle.sg_graph.specs.Blocks.{IsOldAt, IsTakenAt}
-use Rattle.sg_rules.specs.Rules.{Constants, Task, Search, Roam, Mid, SeeBlock, Actor, ends_at, onward, within}
+use Rattle.sg_rules.specs.Rules.{Constants, Task, Search, Roam, Mid, SeeBlock, TakeSlot, Actor, ends_at, onward, within}
 use Rattle.sg_order.specs.Knowing.{IsPast, IsPassed, HasPassed, HasPassedAll, KnowsAt, IsInSweep, IsInSearch, HasObject}
 use Rattle.sg_order.proofs.Cases.{by_mature}
 use Rattle.sg_order.proofs.Frame.{entry_later, stack_later}
@@ -25,6 +25,15 @@ use Rattle.sg_order.proofs.Moves.{silent, no_heads, no_mark}
 use Rattle.sg_order.proofs.Loads.{same_object}
 use Rattle.sg_order.proofs.Beside.{Beside, BlockLater}
 use Rattle.sg_order.proofs.BlockGround.{unheld, in_size, put-from}
+
+-- the object n stands, by the book c, in the slot that an actor at this point is about to claim
+pub record IsAboutToClaim (p : Program) (w : Words) (mid : Mid) (c : Book) (n : ℕ) : Type 0 where
+  pub statement : Statement
+  pub block : ℕ
+  pub slot : ℕ
+  pub at : mid ≡ TakeSlot statement block slot
+  pub word : w.block block ≡ Swept (made_slot p statement)
+  pub place : c.address n ≡ slot_at p block (made_slot p statement) slot
 
 -- what a step gives: what it gives of objects, and what it gives of blocks
 pub record Both (p : Program) (lay : Constants) (w : Words) (g : Graph) (b : Book) (said : ℕ → List Answer) (by : ℕ → ℕ) (k : ℕ) (by' : ℕ → ℕ) (mid : Mid)
@@ -35,6 +44,8 @@ pub record Both (p : Program) (lay : Constants) (w : Words) (g : Graph) (b : Boo
   -- the blocks below a new object of the major heap were passed over
   pub found : (n j : ℕ) → kept.c.stands n ≡ true → j < p.config.blocks → block_at p j + 256 ≤ kept.c.address n →
       (b.stands n ≡ true) ⊎ IsPassed v kept.c.owed (slot_words (kept.h.size n)) j
+  -- and it stands where its actor claimed
+  pub born : (n : ℕ) → 1 ≤ n → kept.c.stands n ≡ true → kept.c.section n ≡ Old → (b.stands n ≡ true) ⊎ IsAboutToClaim p w mid kept.c n
 
 -- what holds of each point to which the way through the blocks leads
 pub by_onward : (p : Program) (P : Mid → Type 0) (t : Task) (c : ℕ) → (c < p.config.blocks → P (SeeBlock t false c)) → (p.config.blocks ≤ c → P (ends_at t)) →
@@ -145,6 +156,7 @@ module _ (p : Program) (lay : Constants) (w : Words) (g : Graph) (b : Book) (sai
         later = subst (λ c. BlockLater p lay w b by v c by' k) (sym kept.moves.1) bl;
         beside = subst (λ c. Beside p lay v c by' k mid) (sym kept.moves.1) beside;
         found = λ n j st l lo. inl (ap (λ (c : Book). c.stands n) (sym kept.moves.1) ∙ st);
+        born = λ n some st old. inl (ap (λ (c : Book). c.stands n) (sym kept.moves.1) ∙ st);
       }
 
   -- a step that changes nothing but where its actor stands
@@ -248,28 +260,33 @@ module _ (p : Program) (lay : Constants) (w : Words) (g : Graph) (b : Book) (sai
       mine = λ c z l e o. absurd (uns c z (be.mine c z l (ap (λ (f : ℕ → BlockWord). f c) (sym eb) ∙ e) o));
       fills = λ c z l e o. elim (be.fills c z l (ap (λ (f : ℕ → BlockWord). f c) (sym eb) ∙ e) o) [ inl h ↦ inl (bl.has c h) | inr f ↦ absurd (unf c z f) ];
     };
-    found = λ n j st l lo. inl (born n j st lo);
+    found = λ n j st l lo. inl (found_there n j st lo);
+    born = λ n some st old. inl (old_before n some st old);
   }
     where
       bl : BlockLater p lay w b by v kept.c by k
       bl = block_quiet v kept.h kept.c kept.said' kept.later eb eu
 
       -- an object in the major heap has its slot's bit set before the step, so it stood there
-      born : (n j : ℕ) → kept.c.stands n ≡ true → block_at p j + 256 ≤ kept.c.address n → b.stands n ≡ true
-      born n j st lo =
+      old_before : (n : ℕ) → 1 ≤ n → kept.c.stands n ≡ true → kept.c.section n ≡ Old → b.stands n ≡ true
+      old_before n some st old_one =
+          let h = kept.ground.blocks.placed n some st old_one in
+          let inside = kept.ground.laid.objects.inside n some st in
+          let s = slot_words (kept.h.size n) in
+          let here : IsTakenAt p (lay.marks h.0) (kept.c.address n) s h.0 (w.block h.0) (w.used h.0) =
+          subst (λ used. IsTakenAt p (lay.marks h.0) (kept.c.address n) s h.0 (w.block h.0) used) (ap (λ (f : ℕ → ℕ). f h.0) eu)
+          (subst (λ state. IsTakenAt p (lay.marks h.0) (kept.c.address n) s h.0 state (v.used h.0)) (ap (λ (f : ℕ → BlockWord). f h.0) eb) h.2) in
+          let old = (t.blocks.each h.0 h.1).filled s here.slot here.of here.fits here.taken in
+          let m = old.0 in
+          let at : kept.c.address m ≡ kept.c.address n = kept.later.address m old.1.standing ∙ old.1.at ∙ sym here.address in
+          let same : m ≡ n = same_object p lay v kept.h kept.c kept.said' k kept.owner kept.ground m n (kept.c.address n)
+          (kept.later.stands m old.1.standing) st (omega arith) (omega arith) (omega arith) (omega arith) in
+          ap b.stands (sym same) ∙ old.1.standing
+
+      found_there : (n j : ℕ) → kept.c.stands n ≡ true → block_at p j + 256 ≤ kept.c.address n → b.stands n ≡ true
+      found_there n j st lo =
           let some : n ≢ 0 = (λ z. let e = ap kept.c.address z ∙ kept.ground.laid.nothing.at_nil in absurd (omega arith)) in
           elim (kept.ground.laid.objects.inside n (omega arith) st) [
             | inl y ↦ absurd (let top = y.2 in omega arith)
-            | inr y ↦
-                let h = kept.ground.blocks.placed n (omega arith) st y.0 in
-                let s = slot_words (kept.h.size n) in
-                let here : IsTakenAt p (lay.marks h.0) (kept.c.address n) s h.0 (w.block h.0) (w.used h.0) =
-                subst (λ used. IsTakenAt p (lay.marks h.0) (kept.c.address n) s h.0 (w.block h.0) used) (ap (λ (f : ℕ → ℕ). f h.0) eu)
-                (subst (λ state. IsTakenAt p (lay.marks h.0) (kept.c.address n) s h.0 state (v.used h.0)) (ap (λ (f : ℕ → BlockWord). f h.0) eb) h.2) in
-                let old = (t.blocks.each h.0 h.1).filled s here.slot here.of here.fits here.taken in
-                let m = old.0 in
-                let at : kept.c.address m ≡ kept.c.address n = kept.later.address m old.1.standing ∙ old.1.at ∙ sym here.address in
-                let same : m ≡ n = same_object p lay v kept.h kept.c kept.said' k kept.owner kept.ground m n (kept.c.address n)
-                (kept.later.stands m old.1.standing) st (omega arith) (omega arith) (omega arith) (omega arith) in
-                ap b.stands (sym same) ∙ old.1.standing
+            | inr y ↦ old_before n (omega arith) st y.0
           ]

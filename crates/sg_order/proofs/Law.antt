@@ -12,7 +12,9 @@ use Rattle.sg_program.specs.declared.answers.Answer.{Answer}
 use Rattle.sg_program.specs.Scripts.{script_of, IsMaking, made_words, made_slot}
 use Rattle.sg_program.specs.Invariants.{FindKinds}
 use Rattle.sg_graph.specs.Graph.{Entry, Graph, Ref, Int, Inner, no_objects}
-use Rattle.sg_graph.specs.Book.{Book, empty_book, word_of, Young, Old, nursery_end, HasNoPlace, IsApart, IsClosed, block_at, slot_words, swept_in}
+use Rattle.sg_graph.specs.Book.{Book, empty_book, word_of, Young, Old, nursery_end, HasNoPlace, IsApart, IsWordOf, IsClosed, block_at, slot_words, swept_in}
+use Rattle.sg_words.proofs.Blocks.{slot_in}
+use Rattle.sg_order.proofs.BlockGround.{in_size}
 use Rattle.sg_graph.specs.Laws.{BlocksGo}
 use Rattle.sg_words.specs.Sections.{nursery_base}
 use Rattle.sg_graph.specs.Epoch.{by_address}
@@ -26,7 +28,7 @@ use Rattle.sg_order.specs.Rest.{Holds, IsReady, IsHeld, IsFirst, IsEpochOpening,
 use Rattle.sg_rules.specs.Resting.{IsRunnable}
 use Rattle.sg_order.specs.Rest.{StandsAt}
 use Rattle.sg_order.specs.Opening.{AreFirstConstants, AreFirstWords, AreFirstScripts, FirstOpening}
-use Rattle.sg_order.specs.OneOrder.{HasPrepared, IsAtEnd, OneOrder}
+use Rattle.sg_order.specs.OneOrder.{HasPrepared, IsHoused, IsAtEnd, OneOrder}
 use Rattle.sg_order.specs.Knowing.{IsPast, IsPassed, KnowsAt}
 use Rattle.sg_order.specs.Sweep.{no_winner, winners, swept_of}
 use Rattle.sg_words.proofs.Members.{not-in}
@@ -185,6 +187,29 @@ apart_by p lay w g b owner t = record {
   ];
 }
 
+-- an object that has a word in a block has it in a slot whose bit is set
+housed_there : (p : Program) (lay : Constants) (w : Words) (g : Graph) (b : Book) (owner : ℕ → Owner) → Ground p lay w g b owner → (c name y : ℕ) →
+    c < p.config.blocks → IsWordOf g b name y → block_at p c ≤ y → y < block_at p c + 256 → IsHoused p lay (w.block c) (w.used c) c y
+housed_there p lay w g b owner t c name y l of from to =
+    let some = of.some in
+    let stands = of.stands in
+    let above = of.above in
+    let below = of.below in
+    elim (t.laid.objects.inside name some stands) [
+      | inl young ↦ absurd (let top = young.2 in omega arith)
+      | inr old ↦
+          let h = t.blocks.placed name some stands old.0 in
+          let z = slot_words (g.size name) in
+          let fit = in_size p lay w g b owner t name some stands in
+          let at = h.2.address in
+          let within = slot_in (nursery_end p) h.0 z h.2.slot y h.2.fits (omega arith) (omega arith) in
+          let lo = within.0 in
+          let hi = within.1 in
+          let same : h.0 ≡ c = omega arith in
+          subst (λ d. IsHoused p lay (w.block d) (w.used d) d y) same
+          (record { size = z; slot = h.2.slot; of = h.2.of; fits = h.2.fits; from = omega arith; to = omega arith; taken = h.2.taken })
+    ]
+
 -- where all are over, the book in which what was swept isn't owed any more
 module _ (p : Program) (lay : Constants) (es : List Event) (w : Words) (g : Graph) (b : Book) (actors last : ℕ → Actor)
     (opening : IsEpochOpening p lay w g b actors) (legal : Legal w (ticks es)) (x : Explained p lay g.count es w g b (λ _. []) no_winner last) where
@@ -195,7 +220,7 @@ module _ (p : Program) (lay : Constants) (es : List Event) (w : Words) (g : Grap
   end = swept_in x.book (swept_of es)
 
   law : AreLawful p lay w no_winner es
-  law = lawful_runs p lay es w no_winner g x.graph b x.book x.runs
+  law = lawful_runs p lay es w no_winner g x.graph b x.book x.order x.runs
 
   -- what is owed then was owed as the epoch began, and nobody took it over
   needs : (c : ℕ) → c < p.config.blocks → end.owed c ≡ true → (s : ℕ) × (v.block c ≡ Need s)
@@ -284,6 +309,7 @@ is_one_order go p lay w g b es actors last opening legal follows =
       tight = λ k s making e. no_place p lay v x.graph x.book x.says x.world.owner x.world.ground k (last k) (x.world.stands k) s making e;
       prepared = λ k s f seen e. has_prepared p lay v x.graph x.book x.says x.world.owner x.world.ground k (last k) (x.world.stands k) s f seen e;
       yielded = λ k e. (wanted_so p lay es w actors last legal follows (wanted_at_opening w actors opening.going opening.idle)).yielded k e;
+      given = λ name e. x.world.ground.laid.objects.given name e;
       owed = x.owed;
       runs = x.runs;
       sweep = sweep_law p lay es w b.owed no_winner legal (law p lay es w g b actors last opening legal x) x.were_owed;
@@ -291,6 +317,7 @@ is_one_order go p lay w g b es actors last opening legal follows =
         owner = x.world.owner;
         blocks = x.world.ground.blocks;
         marks = x.world.ground.marks;
+        housed = λ c name y l of from to. housed_there p lay v x.graph x.book x.world.owner x.world.ground c name y l of from to;
         swept_by = sweeper_there p lay g.count v x.graph x.book x.says by last x.world;
         one_sweeper = sweeper_alone p lay g.count v x.graph x.book x.says by last x.world;
         inhabited = object_there p lay g.count v x.graph x.book x.says by last x.world;

@@ -254,4 +254,8 @@ module _ (p : Program) (lay : Constants) (w : Words) (g : Graph) (b : Book) (sai
                 )
             | inr d ↦ inl (sym (put-other b.stands new true m d) ∙ st)
           ];
+          born = λ m some st old. elim (cases_eq m new) [
+            | inl e ↦ inr (record { statement = s; block = c; slot = i; at = refl; word = q.2; place = put-at b.address new x m e })
+            | inr d ↦ inl (sym (put-other b.stands new true m d) ∙ st)
+          ];
         }

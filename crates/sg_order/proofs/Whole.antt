@@ -3,7 +3,7 @@ use Rattle.std.proofs.Common.{◌≡◌, ℕ, ◌+◌, ◌≤◌, ◌⊎◌, nat
 use Rattle.std.proofs.lemmas.Bool.{cases_eq, cases_Bool, eq-eqb, ne_eqb, cond-true, cond-false}
 use Rattle.std.specs.Int.{bit_at}
 use Rattle.sg_words.specs.declared.steps.BlockWord.TheVariants.{Free, Need}
-use Rattle.sg_words.specs.declared.steps.BlockStep.TheVariants.{WonBlock}
+use Rattle.sg_words.specs.declared.steps.BlockStep.TheVariants.{WonBlock, OrUsed}
 use Rattle.sg_words.specs.declared.steps.Step.TheVariants.{OnBlock}
 use Rattle.sg_words.specs.declared.steps.Step.{Step}
 use Rattle.sg_words.specs.declared.steps.Tick.{Tick}
@@ -12,26 +12,26 @@ use Rattle.sg_words.specs.Events.{Event, ticks, part, order_of}
 use Rattle.sg_program.specs.declared.program.Program.{Program}
 use Rattle.sg_program.specs.declared.answers.Answer.{Answer}
 use Rattle.sg_graph.specs.Graph.{Graph}
-use Rattle.sg_graph.specs.Book.{Book, slot_words}
-use Rattle.sg_graph.specs.Epoch.{Said, Explains, answers_of}
+use Rattle.sg_graph.specs.Book.{Book, Old, slot_words}
+use Rattle.sg_graph.specs.Epoch.{Said, Explains, IsNewOld, answers_of}
 use Rattle.sg_graph.specs.Heap.{Owner, IsHeaded}
 use Rattle.sg_program.specs.declared.program.Statement.{Statement}
 use Rattle.sg_program.specs.declared.answers.Request.{Request}
-use Rattle.sg_program.specs.Scripts.{IsMaking, IsCollecting}
+use Rattle.sg_program.specs.Scripts.{IsMaking, IsCollecting, made_slot}
 use Rattle.sg_graph.specs.Laws.{BlocksGo}
-use Rattle.sg_rules.specs.Rules.{Constants, Search, Mid, Look, TakeBlock, TakeOver, Ask, Retired, Actor, looking, Comes, BlockComes, NextStep, Follows}
+use Rattle.sg_rules.specs.Rules.{Constants, Search, Mid, Look, TakeBlock, TakeSlot, TakeOver, Ask, Retired, Actor, looking, Comes, BlockComes, NextStep, Follows}
 use Rattle.sg_rules.specs.Rules.Comes.{test_null, test_begins, loads_tag, loads_length, test_fails, put_stores, put_stores_old, marks_card, putd_stores, get_loads, getd_loads, global_begins, gput_stores, gget_loads, num_sets, drop_clears, move_sets, push_sets, pop_sets, hide_null, hide_begins, hide_fits, hide_misses, unhide_sets, same_tells, new_bumps, new_looks, look_finds, look_goes_on, stop_asks, asks, yields, claim_wins, claim_moves, claim_goes_on, stores_length, stores_tag}
 use Rattle.sg_rules.specs.Rules.BlockComes.{mature_begins, sees_free, takes_block, misses_block, sees_size, sees_full, sees_slot, takes_slot, misses_slot}
 use Rattle.sg_rules.specs.Rules.BlockComes.{sees_other, sees_sweeping, sees_need, takes_over, misses_sweep, stores_occupancy, clears_first, clears_next, clears_last}
 use Rattle.sg_rules.specs.Rules.BlockComes.{ends_sweep, roams_on, retires, roams_free, roams_swept}
 use Rattle.sg_order.specs.Knowing.{IsPassed, HasPassedAll, KnowsAt, IsInSweep, IsInSearch}
-use Rattle.sg_order.specs.Sweep.{winner_after, winners, IsLawful, IsHarmless, Runs, taken_over, swept_of}
+use Rattle.sg_order.specs.Sweep.{winner_after, winners, IsLawful, IsHarmless, IsClaimedBy, Runs, taken_over, swept_of}
 use Rattle.sg_words.proofs.Puts.{put-at, put-same, put-other, put-all}
 use Rattle.sg_order.proofs.Events.{part-same, part-other}
 use Rattle.sg_order.proofs.Relation.{Ground, Stands, Moves, WritesHeader, IsNeeded, Marks, Kept}
 use Rattle.sg_order.proofs.Cases.{by_making, by_collecting}
 use Rattle.sg_order.proofs.Beside.{Beside, World, passed_later, all_later, beside_later}
-use Rattle.sg_order.proofs.BlockSteps.{Both, quietly}
+use Rattle.sg_order.proofs.BlockSteps.{IsAboutToClaim, Both, quietly}
 use Rattle.sg_order.proofs.SearchSteps.{begins_search, sees_unswept, sees_busy, sees_another, sees_fitting, sees_filled, sees_open, misses_free, takes_free}
 use Rattle.sg_order.proofs.SearchSteps.{misses_bit, roams, roams_to, claims_slot}
 use Rattle.sg_order.proofs.SweepSteps.{misses_owed, takes_owed, stores_marks, clears_begin, clears_on, clears_end, ends_block}
@@ -234,16 +234,16 @@ pub record Explained (p : Program) (lay : Constants) (first : ℕ) (es : List Ev
   -- the order is that of the deciding steps
   pub order_is : map (λ (s : Said). s.by) order ≡ order_of es
   pub owed : book.owed ≡ b.owed
-  pub runs : Runs p lay w by g b es graph book
+  pub runs : Runs p lay w by g b es order graph book
   pub were_owed : WereOwed p b.owed (swept_of es)
   pub world : World p lay first (after w (ticks es)) graph book says (winners by es) last
 
 -- each step of what runs is lawful
-pub lawful_runs : (p : Program) (lay : Constants) (es : List Event) (w : Words) (by : ℕ → ℕ) (g h : Graph) (b c : Book) → Runs p lay w by g b es h c →
-    AreLawful p lay w by es
-lawful_runs p lay [] w by g h b c r = tt
-lawful_runs p lay (e ∷ es) w by g h b c r =
-    (r.3, lawful_runs p lay es (after_step w e.tick.step) (winner_after by e.by e.tick.step) r.0 h r.1 c r.5)
+pub lawful_runs : (p : Program) (lay : Constants) (es : List Event) (w : Words) (by : ℕ → ℕ) (g h : Graph) (b c : Book) (order : List Said) →
+    Runs p lay w by g b es order h c → AreLawful p lay w by es
+lawful_runs p lay [] w by g h b c order r = tt
+lawful_runs p lay (e ∷ es) w by g h b c order r =
+    (r.4, lawful_runs p lay es (after_step w e.tick.step) (winner_after by e.by e.tick.step) r.0 h r.1 c r.2 r.6)
 
 -- a step that takes over only what is owed, and what does so later
 owed_more : (p : Program) (owed : ℕ → Bool) (e : Step) (more : List ℕ) → TakesOwed p owed e → WereOwed p owed more → WereOwed p owed (taken_over e more)
@@ -262,14 +262,101 @@ said_more said said1 said2 k answer order e f j = elim (cases_eq k j) [
       ∙ sym (ap (λ xs. said j ++ xs) (cond-false (eqb k j) _ _ (ne_eqb k j n)))
 ]
 
+-- no step but one on blocks is that of an actor that is about to claim a slot
+no_claim : (p : Program) (lay : Constants) (a : Actor) (e : Step) (d : Bool) (a' : Actor) → Comes p lay a e d a' → (s : Statement) (c i : ℕ) →
+    a.mid ≡ TakeSlot s c i → ⊥
+no_claim p lay _ _ _ _ (test_null a s rest test e z) s' c' i' q = cc q
+no_claim p lay _ _ _ _ (test_begins a s rest test e z) s' c' i' q = cc q
+no_claim p lay _ _ _ _ (loads_tag a s rest test class there) s' c' i' q = cc q
+no_claim p lay _ _ _ _ (loads_length a s rest test class len short f) s' c' i' q = cc q
+no_claim p lay _ _ _ _ (test_fails a s rest test class len short f) s' c' i' q = cc q
+no_claim p lay _ _ _ _ (put_stores a rest r i s cardless) s' c' i' q = cc q
+no_claim p lay _ _ _ _ (put_stores_old a rest r i s has) s' c' i' q = cc q
+no_claim p lay _ _ _ _ (marks_card a rest s card) s' c' i' q = cc q
+no_claim p lay _ _ _ _ (putd_stores a rest r i s) s' c' i' q = cc q
+no_claim p lay _ _ _ _ (get_loads a rest d r i v ref) s' c' i' q = cc q
+no_claim p lay _ _ _ _ (getd_loads a rest d r i v) s' c' i' q = cc q
+no_claim p lay _ _ _ _ (global_begins a s rest is) s' c' i' q = cc q
+no_claim p lay _ _ _ _ (gput_stores a rest x r) s' c' i' q = cc q
+no_claim p lay _ _ _ _ (gget_loads a rest r x v ref) s' c' i' q = cc q
+no_claim p lay _ _ _ _ (num_sets a rest d n) s' c' i' q = cc q
+no_claim p lay _ _ _ _ (drop_clears a rest r) s' c' i' q = cc q
+no_claim p lay _ _ _ _ (move_sets a rest d s) s' c' i' q = cc q
+no_claim p lay _ _ _ _ (push_sets a rest r) s' c' i' q = cc q
+no_claim p lay _ _ _ _ (pop_sets a rest r top stack e) s' c' i' q = cc q
+no_claim p lay _ _ _ _ (hide_null a rest d s offset z) s' c' i' q = cc q
+no_claim p lay _ _ _ _ (hide_begins a rest d s offset z) s' c' i' q = cc q
+no_claim p lay _ _ _ _ (hide_fits a rest d s offset len short f) s' c' i' q = cc q
+no_claim p lay _ _ _ _ (hide_misses a rest d s offset len short f) s' c' i' q = cc q
+no_claim p lay _ _ _ _ (unhide_sets a rest d s) s' c' i' q = cc q
+no_claim p lay _ _ _ _ (same_tells a rest r s) s' c' i' q = cc q
+no_claim p lay _ _ _ _ (new_bumps a s rest making l) s' c' i' q = cc q
+no_claim p lay _ _ _ _ (new_looks a s rest making l) s' c' i' q = cc q
+no_claim p lay _ _ _ _ (look_finds a s rest f next l) s' c' i' q = cc q
+no_claim p lay _ _ _ _ (look_goes_on a s rest f next l) s' c' i' q = cc q
+no_claim p lay _ _ _ _ (stop_asks a s rest request i) s' c' i' q = cc q
+no_claim p lay _ _ _ _ (asks a rest s) s' c' i' q = cc q
+no_claim p lay _ _ _ _ (yields a s rest word set) s' c' i' q = cc q
+no_claim p lay _ _ _ _ (claim_wins a s rest f next) s' c' i' q = cc q
+no_claim p lay _ _ _ _ (claim_moves a s rest f seen next later l) s' c' i' q = cc q
+no_claim p lay _ _ _ _ (claim_goes_on a s rest f seen next later l) s' c' i' q = cc q
+no_claim p lay _ _ _ _ (stores_length a s rest x) s' c' i' q = cc q
+no_claim p lay _ _ _ _ (stores_tag a s rest x) s' c' i' q = cc q
+
+same_bit : (s s' : Statement) (c c' i i' found : ℕ) → TakeSlot s c i ≡ TakeSlot s' c' i' → OnBlock (OrUsed c i found) ≡ OnBlock (OrUsed c' i' found)
+same_bit s s' c c' i i' found q = let e : c ≡ c' = cc q in let f : i ≡ i' = cc q in ap (λ x. OnBlock (OrUsed x i found)) e ∙ ap (λ x. OnBlock (OrUsed c' x found)) f
+
+-- the step of an actor that is about to claim a slot is on that slot's bit
+claims_bit : (p : Program) (lay : Constants) (a : Actor) (e : Step) (d : Bool) (a' : Actor) → BlockComes p lay a e d a' → (s : Statement) (c i : ℕ) →
+    a.mid ≡ TakeSlot s c i → (found : ℕ) × (e ≡ OnBlock (OrUsed c i found))
+claims_bit p lay _ _ _ _ (takes_slot a s rest c i found o) s' c' i' q = let f : TakeSlot s c i ≡ TakeSlot s' c' i' = q in (found, same_bit s s' c c' i i' found f)
+claims_bit p lay _ _ _ _ (misses_slot a s rest c i found o) s' c' i' q = let f : TakeSlot s c i ≡ TakeSlot s' c' i' = q in (found, same_bit s s' c c' i i' found f)
+claims_bit p lay _ _ _ _ (mature_begins a s rest is) s' c' i' q = cc q
+claims_bit p lay _ _ _ _ (sees_free a s rest begins c) s' c' i' q = cc q
+claims_bit p lay _ _ _ _ (takes_block a s rest c) s' c' i' q = cc q
+claims_bit p lay _ _ _ _ (misses_block a s rest c found) s' c' i' q = cc q
+claims_bit p lay _ _ _ _ (sees_size a s rest begins c) s' c' i' q = cc q
+claims_bit p lay _ _ _ _ (sees_full a s rest c u full) s' c' i' q = cc q
+claims_bit p lay _ _ _ _ (sees_slot a s rest c i u l o below) s' c' i' q = cc q
+claims_bit p lay _ _ _ _ (sees_other a s rest begins c z o) s' c' i' q = cc q
+claims_bit p lay _ _ _ _ (sees_sweeping a u rest begins c z may) s' c' i' q = cc q
+claims_bit p lay _ _ _ _ (sees_need a u rest begins c z may class) s' c' i' q = cc q
+claims_bit p lay _ _ _ _ (takes_over a u rest c z) s' c' i' q = cc q
+claims_bit p lay _ _ _ _ (misses_sweep a u rest c z found) s' c' i' q = cc q
+claims_bit p lay _ _ _ _ (stores_occupancy a u rest c z) s' c' i' q = cc q
+claims_bit p lay _ _ _ _ (clears_first a u rest c z i j le f marked o one) s' c' i' q = cc q
+claims_bit p lay _ _ _ _ (clears_next a u rest c z i f l) s' c' i' q = cc q
+claims_bit p lay _ _ _ _ (clears_last a u rest c z i f l) s' c' i' q = cc q
+claims_bit p lay _ _ _ _ (ends_sweep a u rest c z i marked) s' c' i' q = cc q
+claims_bit p lay _ _ _ _ (roams_on a rest c) s' c' i' q = cc q
+claims_bit p lay _ _ _ _ (retires a rest c v set) s' c' i' q = cc q
+claims_bit p lay _ _ _ _ (roams_free a rest c) s' c' i' q = cc q
+claims_bit p lay _ _ _ _ (roams_swept a rest c z) s' c' i' q = cc q
+
+-- so an object that is new in the major heap stands where the step claims
+module _ (p : Program) (lay : Constants) (w : Words) (g : Graph) (b : Book) (k : ℕ) (owner : ℕ → Owner) (t : Ground p lay w g b owner) where
+  claims_of : (a : Actor) (e : Step) (d : Bool) (a' : Actor) → NextStep p lay a e d a' → (c : Book) →
+      ((n : ℕ) → 1 ≤ n → c.stands n ≡ true → c.section n ≡ Old → (b.stands n ≡ true) ⊎ IsAboutToClaim p w a.mid c n) →
+      (name : ℕ) → IsNewOld g.count c name → IsClaimedBy p w e c name
+  claims_of a e d a' comes c born name new = elim (born name (let l = new.new in omega arith) new.stands new.old) [
+    | inl old ↦ absurd (let l = t.laid.objects.given name old in let m = new.new in omega arith)
+    | inr claim ↦
+        let step : (found : ℕ) × (e ≡ OnBlock (OrUsed claim.block claim.slot found)) = elim comes [
+          | inl other ↦ absurd (no_claim p lay a e d a' other claim.statement claim.block claim.slot claim.at)
+          | inr on ↦ claims_bit p lay a e d a' on claim.statement claim.block claim.slot claim.at
+        ] in
+        record { block = claim.block; slot = claim.slot; size = made_slot p claim.statement; found = step.0; claims = step.1; word = claim.word; at = claim.place }
+  ]
+
 -- a step that decided a statement or none, and what explains the rest
 more : (p : Program) (lay : Constants) (first k : ℕ) (tick : Tick) (es : List Event) (w : Words) (g : Graph) (b : Book) (said : ℕ → List Answer)
     (by : ℕ → ℕ) (last : ℕ → Actor) (h : Graph) (c : Book) (said1 : ℕ → List Answer) →
     Moves p g b said k tick.decides h c said1 → c.owed ≡ b.owed →
     IsLawful p lay w by k tick.step → IsHarmless p lay w g b tick.step → TakesOwed p b.owed tick.step →
+    ((name : ℕ) → IsNewOld g.count c name → IsClaimedBy p w tick.step c name) →
     Explained p lay first es (after_step w tick.step) h c said1 (winner_after by k tick.step) last →
     Explained p lay first (record { by = k; tick = tick } ∷ es) w g b said by last
-more p lay first k tick es w g b said by last h c said1 m kept lawful harmless takes x = go tick.decides m
+more p lay first k tick es w g b said by last h c said1 m kept lawful harmless takes claims x = go tick.decides m
   where
     were : WereOwed p b.owed (taken_over tick.step (swept_of es))
     were = owed_more p b.owed tick.step (swept_of es) takes (subst (λ owed. WereOwed p owed (swept_of es)) kept x.were_owed)
@@ -285,7 +372,7 @@ more p lay first k tick es w g b said by last h c said1 m kept lawful harmless t
       said_is = said_more said said1 x.says k m.0 x.order m.2 x.said_is;
       order_is = ap (λ xs. k ∷ xs) x.order_is;
       owed = x.owed ∙ kept;
-      runs = (h, c, (m.0, m.1), lawful, harmless, x.runs);
+      runs = (h, c, x.order, (m.0, refl, m.1, claims), lawful, harmless, x.runs);
       were_owed = were;
       world = x.world;
     }
@@ -298,7 +385,7 @@ more p lay first k tick es w g b said by last h c said1 m kept lawful harmless t
       said_is = λ j. x.said_is j ∙ ap (λ (s : ℕ → List Answer). s j ++ answers_of j x.order) m.2;
       order_is = x.order_is;
       owed = x.owed ∙ kept;
-      runs = (h, c, (m.0, m.1), lawful, harmless, x.runs);
+      runs = (h, c, x.order, (refl, m.0, m.1), lawful, harmless, x.runs);
       were_owed = were;
       world = x.world;
     }
@@ -357,7 +444,7 @@ one_by_one moves p lay first [] w g b said by actors last wo legal follows = rec
   said_is = λ k. sym (append-nil (said k));
   order_is = refl;
   owed = refl;
-  runs = (refl, refl);
+  runs = (refl, refl, refl);
   were_owed = tt;
   world = record {
     owner = wo.owner;
@@ -386,6 +473,8 @@ one_by_one moves p lay first (e ∷ es) w g b said by actors last wo legal follo
     let step = pair.kept in
     let good = fine p lay w g b by k wo.owner wo.ground (actors k) e.tick.step e.tick.decides a' mine.1 legal.0 (wo.beside k) in
     more p lay first k e.tick es w g b said by last step.h step.c step.said' step.moves pair.later.owed good.lawful good.harmless good.owed
+    (claims_of p lay w g b k wo.owner wo.ground (actors k) e.tick.step e.tick.decides a' mine.1 step.c
+    (λ n some st old. pair.born n some st old))
     (one_by_one moves p lay first es (after_step w e.tick.step) step.h step.c step.said' (winner_after by k e.tick.step) (put actors k a') last
     (record {
       owner = step.owner;

@@ -199,12 +199,12 @@ pub answered : BlocksGo → RunnableMakes → (p : Program) (v : Contents) (g : 
     (s : Statement) (answer : Answer) → FitsStatement p b s → IsServing p room v s answer t → (g.mutator k).script ≡ s ∷ rest → IsRunnable p s →
     HasAnswered p (placing_in room) g b k s rest answer t
 answered laws makes p v g b contents plain heap k rest room fits t (New r class) answer unowed is next run =
-    let of = makes p (New r class) tt run in
+    let of = makes p (New r class) (inl tt) run in
     let small : IsSmall (fields_of p class + 2) = let l = run.small in omega arith in
     answered_made laws p v g b contents plain heap k rest t (New r class) class (fields_of p class) of.known of.sized of.single room fits answer is
     refl tt refl refl refl refl (λ c q. (small, q)) (λ q. (small, q, refl))
 answered laws makes p v g b contents plain heap k rest room fits t (NewV r class count) answer unowed is next run =
-    let of = makes p (NewV r class count) tt run in
+    let of = makes p (NewV r class count) (inl tt) run in
     let small : IsSmall (count + 2) = let l = run.small in omega arith in
     answered_made laws p v g b contents plain heap k rest t (NewV r class count) class count of.known of.sized of.single room fits answer is
     refl tt refl refl refl refl (λ c q. (small, q)) (λ q. (small, q, refl))

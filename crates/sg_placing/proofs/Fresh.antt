@@ -52,9 +52,9 @@ first_words s shapes sections e = subst (λ t. AreFirstWords (words_of t)) (sym 
   marks = clear_word sections.blocks;
 })
 
--- the whole nursery is one fragment
-constants : Constants
-constants = record { fragments = 1; limit = λ f. nursery_end tried }
+-- the whole nursery is one fragment, and the blocks have the space's marks
+constants : Contents → Constants
+constants s = record { fragments = 1; limit = λ f. nursery_end tried; marks = (words_of s).marks }
 
 no_statement : (k : ℕ) → script_of tried k ≡ []
 no_statement k = ap statements_at (slice_get_past tried.mutators k zero-le)
@@ -63,12 +63,12 @@ pub begun : FirstOpening → (s : Contents) (shapes : List Shape) → shapes ≡
     s ≡ clear_space (layout_of tried) shapes → IsContents s → CanAnswer s
 unfolding constants
 begun law s shapes named space contents =
-    let opening = law tried constants (words_of s)
+    let opening = law tried (constants s) (words_of s)
     (record {
       kinds = λ k. subst (FindKinds first_kinds) (sym (no_statement k)) tt;
       runnable = λ k. subst (AllByRecursion (IsRunnable tried)) (sym (no_statement k)) tt;
     })
-    (record { fragments = refl; limit = refl }) (first_words s shapes (layout_of tried) space) in
+    (record { fragments = refl; limit = refl; marks = refl }) (first_words s shapes (layout_of tried) space) in
     record {
       contents = contents;
       graph = no_objects tried;

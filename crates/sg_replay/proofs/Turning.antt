@@ -376,7 +376,7 @@ module _ (one : HasOneTurn) (search : HasOneSearch) (p : Program) (x : Board) (k
   one_done : (s : Statement) (address : ℕ → ℕ) (position : ℕ → Position) (said said' : List Said) (y y' : Board) →
       IsDone p x k s address position said y → IsDone p x k s address position said' y' → Same said said' y y'
   one_done s address position said said' y y' a b =
-      let q = one p x.graph x.book a.word b.word a.graph b.graph a.book b.book a.turn b.turn (a.by ∙ sym b.by) (λ name o. agree name o.old) in (
+      let q = one p x.graph x.book a.word b.word a.graph b.graph a.book b.book a.turn b.turn (a.by ∙ sym b.by) (λ name o other. agree name o.old) in (
         a.is ∙ ap (λ w. w ∷ []) q.0 ∙ sym b.is,
         a.after
             ∙ ap (λ h. record x { graph = h; book = a.book; position = position }) q.1

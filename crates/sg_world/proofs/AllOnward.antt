@@ -1,13 +1,14 @@
 -- All mutators go on behind the pauses of a stop, one after another.
-use Rattle.std.proofs.Common.{◌≡◌, ◌≢◌, ℕ, zero, suc, ◌+◌, ◌<◌, Bool, Some, List, [], ◌∷◌, ◌++◌, length, slice_get, get_or, take, drop, set, inl, inr, sym, refl, ap, ◌∙◌, subst, arith, append-nil}
+use Rattle.std.proofs.Common.{◌≡◌, ℕ, ◌+◌, ◌<◌, Bool, Some, List, [], ◌∷◌, ◌++◌, length, slice_get, get_or}
+use Rattle.std.proofs.Common.{take, drop, set, inl, inr, sym, refl, ap, ◌∙◌, subst, arith, append-nil}
 use Rattle.std.proofs.lemmas.List.{length-take}
-use Rattle.std.proofs.lemmas.Option.{same_Some, slice_get_within, slice_get-get_or}
+use Rattle.std.proofs.lemmas.Option.{slice_get_within, slice_get-get_or}
 use Rattle.std.proofs.lemmas.List.Concat.{flat_map-append}
 use Rattle.sg_words.specs.Lists.{Pairwise}
 use Rattle.sg_program.specs.declared.program.Statement.{Statement}
 use Rattle.sg_program.specs.declared.program.Program.{Program}
 use Rattle.sg_program.specs.declared.answers.Request.{Request}
-use Rattle.sg_program.specs.declared.answers.Request.TheVariants.{Need, Slot, Minor, Major, Sections as AllSections}
+use Rattle.sg_program.specs.declared.answers.Request.TheVariants.{Slot, Sections as AllSections}
 use Rattle.sg_graph.specs.declared.reports.Service.{Service}
 use Rattle.sg_graph.specs.Graph.{Graph}
 use Rattle.sg_graph.specs.Book.{Book}
@@ -44,6 +45,7 @@ stage_stays g h k ended stage r = absurd r
 tells_so : (p : Program) (b c : Book) → c.owed ≡ b.owed → (statement : Statement) (request : Request) → CanTell p b (Asking statement request) →
     CanTell p c (Asking statement request)
 tells_so p b c same statement AllSections can = λ j l. ap (λ (owed : ℕ → Bool). owed j) same ∙ can j l
+tells_so p b c same statement (Slot size) can = λ j l. ap (λ (owed : ℕ → Bool). owed j) same ∙ can j l
 tells_so p b c same statement request can = tt
 
 tells_stays : (p : Program) (b c : Book) → c.owed ≡ b.owed → (stage : Stage) → CanTell p b stage → CanTell p c stage
@@ -54,7 +56,8 @@ pub fits_stays : (p : Program) (b c : Book) → c.owed ≡ b.owed → (room : Ro
 fits_stays p b c same Fragments fits = tt
 fits_stays p b c same SlotsToo fits = λ j l. ap (λ (owed : ℕ → Bool). owed j) same ∙ fits j l
 
-serves_more : (p : Program) (how : Placing) (g : Graph) (b : Book) (asked more : List Asked) (services others : List Service) (h : Graph) (c : Book) (h1 : Graph) (c1 : Book) →
+serves_more : (p : Program) (how : Placing) (g : Graph) (b : Book) (asked more : List Asked) (services others : List Service)
+    (h : Graph) (c : Book) (h1 : Graph) (c1 : Book) →
     Serves p how g b asked services h c → Serves p how h c more others h1 c1 → Serves p how g b (asked ++ more) (services ++ others) h1 c1
 serves_more p how g b [] more [] others h c h1 c1 one rest =
     subst (λ (x : Graph). Serves p how x b more others h1 c1) one.0 (subst (λ (x : Book). Serves p how h x more others h1 c1) one.1 rest)

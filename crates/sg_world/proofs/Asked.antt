@@ -1,7 +1,8 @@
 -- What the requests of a stop want, and what their answers are behind its pauses.
-use Rattle.std.proofs.Common.{◌≡◌, ◌≢◌, ℕ, zero, suc, ◌+◌, ◌||◌, ◌≤◌, Bool, true, false, Option, Some, None, List, [], ◌∷◌, ◌++◌, length, map, slice_get, inl, inr, sym, refl, ap, ◌∙◌, subst, arith}
+use Rattle.std.proofs.Common.{◌≡◌, ℕ, zero, suc, ◌+◌, ◌||◌, ◌≤◌, Bool, true, false, Option, Some, None, List}
+use Rattle.std.proofs.Common.{[], ◌∷◌, ◌++◌, length, map, slice_get, inl, sym, refl, ap, ◌∙◌, subst, arith}
 use Rattle.std.specs.Prelude.{is_some, IsTrue}
-use Rattle.std.specs.List.{flat_map, Contains, AllByRecursion}
+use Rattle.std.specs.List.{AllByRecursion}
 use Rattle.std.proofs.lemmas.Option.{same_Some}
 use Rattle.sg_words.specs.Reach.{AreDistinct, IsFreshIn}
 use Rattle.sg_program.specs.declared.program.Statement.{Statement}
@@ -16,19 +17,18 @@ use Rattle.sg_graph.specs.declared.reports.Service.{Service}
 use Rattle.sg_graph.specs.Graph.{Graph}
 use Rattle.sg_graph.specs.Book.{Book}
 use Rattle.sg_graph.specs.Laws.{needed_by, needs_of, sized_by, sizes_of, IsAsking, AreAsking}
-use Rattle.sg_graph.specs.Stop.{Asked, Placing, InFragments, InSlotsToo, wants_blocks, some_wants, placing_behind, Places, IsServed, Serves, IsAnswered, LacksOne}
+use Rattle.sg_graph.specs.Stop.{Asked, Placing, InFragments, InSlotsToo, wants_blocks, some_wants}
+use Rattle.sg_graph.specs.Stop.{placing_behind, Places, IsServed, Serves, IsAnswered, LacksOne}
 use Rattle.sg_graph.specs.Stop.LacksOne.{ThisOne, OneBehind}
 use Rattle.sg_heap.specs.Holding.{OwesNothing}
 use Rattle.sg_placing.specs.declared.placing.Room.{Room}
 use Rattle.sg_placing.specs.declared.placing.Room.TheVariants.{Fragments, SlotsToo}
 use Rattle.sg_placing.specs.Answering.{placing_in}
-use Rattle.sg_order.specs.Rest.{IsReady}
 use Rattle.sg_actor.specs.declared.mutator.Stage.{Stage}
-use Rattle.sg_actor.specs.declared.mutator.Stage.TheVariants.{Ended, Asking, Yielded}
+use Rattle.sg_actor.specs.declared.mutator.Stage.TheVariants.{Asking}
 use Rattle.sg_actor.specs.State.{Mutating}
 use Rattle.sg_mutate.specs.Epochs.{AreMutatorsOf}
-use Rattle.sg_world.specs.declared.wants.Wants.{Wants}
-use Rattle.sg_world.specs.Stopping.{asked_of, requests_of, AreWanted}
+use Rattle.sg_world.specs.Stopping.{asked_of, requests_of}
 use Rattle.sg_world.specs.Steps.{SuitsRoom}
 use Rattle.sg_world.specs.Serving.{CanTell}
 use Rattle.sg_world.specs.Worlds.{HasLeftReady}
@@ -38,7 +38,8 @@ some_or : (a b c : Bool) → (a || (b || c)) ≡ ((a || b) || c)
 some_or true b c = refl
 some_or false b c = refl
 
-pub wants_more : (wants : Request → Bool) (requests : List Asked) (a : Asked) → some_wants wants (requests ++ a ∷ []) ≡ (some_wants wants requests || wants a.request)
+pub wants_more : (wants : Request → Bool) (requests : List Asked) (a : Asked) →
+    some_wants wants (requests ++ a ∷ []) ≡ (some_wants wants requests || wants a.request)
 wants_more wants [] a = or_false (wants a.request)
   where
     or_false : (b : Bool) → (b || false) ≡ (false || b)
@@ -82,7 +83,8 @@ fresh_below : (k : ℕ) (requests : List Asked) → AllByRecursion (λ (asked : 
 fresh_below k [] all = tt
 fresh_below k (a ∷ requests) all = ((λ e. absurd (let l = all.0 in omega arith)), fresh_below k requests all.1)
 
-from_lower : (k : ℕ) (requests : List Asked) → AllByRecursion (λ (asked : Asked). suc k ≤ asked.by) requests → AllByRecursion (λ (asked : Asked). k ≤ asked.by) requests
+from_lower : (k : ℕ) (requests : List Asked) → AllByRecursion (λ (asked : Asked). suc k ≤ asked.by) requests →
+    AllByRecursion (λ (asked : Asked). k ≤ asked.by) requests
 from_lower k [] all = tt
 from_lower k (a ∷ requests) all = ((let l = all.0 in omega arith), from_lower k requests all.1)
 
@@ -119,7 +121,8 @@ module _ (p : Program) (g : Graph) (b : Book) where
   pub are_asking : (ms : List Mutating) → AreMutatorsOf p ms → ((k : ℕ) (m : Mutating) → slice_get ms k ≡ Some m → HasLeftReady p g b k m m.stage) →
       AreAsking p g (requests_of ms)
   are_asking ms are ready =
-      let all = all_ask 0 ms (λ r m e. let z : r ≡ 0 + r = omega arith in (subst (λ j. HasLeftReady p g b j m m.stage) z (ready r m e), are.number r m e ∙ z)) in
+      let all = all_ask 0 ms (λ r m e. let z : r ≡ 0 + r = omega arith in
+      (subst (λ j. HasLeftReady p g b j m m.stage) z (ready r m e), are.number r m e ∙ z)) in
       record { each = all.each; once = all.once }
 
 -- a request among them that wants something
@@ -173,9 +176,10 @@ places_too p g b AsksSections answer c room h = absurd h
 places_too p g b s answer c room h = absurd h
 
 module _ (p : Program) where
-  is_answered : (how : Placing) (g : Graph) (b : Book) (asked : Asked) (service : Service) (h : Graph) (c : Book) (served : IsServed p how g b asked service h c) →
-      IsAnswered p how g b asked served.answer h c
-  is_answered how g b asked service h c served = record { statement = served.statement; rest = served.rest; next = served.next; does = served.does; places = served.places }
+  is_answered : (how : Placing) (g : Graph) (b : Book) (asked : Asked) (service : Service) (h : Graph) (c : Book)
+      (served : IsServed p how g b asked service h c) → IsAnswered p how g b asked served.answer h c
+  is_answered how g b asked service h c served =
+      record { statement = served.statement; rest = served.rest; next = served.next; does = served.does; places = served.places }
 
   served_too : (g : Graph) (b : Book) (asked : Asked) (service : Service) (h : Graph) (c : Book) (served : IsServed p InFragments g b asked service h c) →
       (served.answer ≡ Full → ⊥) → IsServed p InSlotsToo g b asked service h c
@@ -207,8 +211,8 @@ module _ (p : Program) where
   )
 
   -- so the answers are those that a stop gives behind its pauses
-  pub serves_behind : (g : Graph) (b : Book) (requests : List Asked) (services : List Service) (h : Graph) (c : Book) (major : Option MajorReport) (room : Room) →
-      SuitsRoom p g b requests (is_some major) room → Serves p (placing_in room) g b requests services h c →
+  pub serves_behind : (g : Graph) (b : Book) (requests : List Asked) (services : List Service) (h : Graph) (c : Book) (major : Option MajorReport)
+      (room : Room) → SuitsRoom p g b requests (is_some major) room → Serves p (placing_in room) g b requests services h c →
       Serves p (placing_behind major) g b requests services h c
   serves_behind g b requests services h c None room suits s = subst (λ (r : Room). Serves p (placing_in r) g b requests services h c) suits s
   serves_behind g b requests services h c (Some report) Fragments suits s = serves_too g b requests services h c suits s

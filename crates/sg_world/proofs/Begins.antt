@@ -1,5 +1,6 @@
 -- A world before the first epoch.
-use Rattle.std.proofs.Common.{◌≡◌, ℕ, zero, suc, ◌+◌, ◌≤◌, true, false, Some, List, [], ◌∷◌, ◌++◌, length, map, replicate, get_or, slice_index_or, slice_get, inl, inr, sym, refl, ap, ◌∙◌, subst, arith, length-append}
+use Rattle.std.proofs.Common.{◌≡◌, ℕ, zero, suc, ◌+◌, ◌≤◌, true, false, Some, List, [], ◌∷◌, ◌++◌, length, map, replicate}
+use Rattle.std.proofs.Common.{get_or, slice_index_or, slice_get, inl, inr, sym, refl, ap, ◌∙◌, subst, arith, length-append}
 use Rattle.std.specs.List.{All, AllByRecursion}
 use Rattle.std.proofs.lemmas.Bool.{cases_lt}
 use Rattle.std.proofs.lemmas.List.{length-map}
@@ -23,12 +24,13 @@ use Rattle.sg_graph.specs.Heap.{layout_of as sections_in}
 use Rattle.sg_graph.specs.Follows.{whole_schedule}
 use Rattle.sg_graph.specs.Follows.FollowsTo.{Begins}
 use Rattle.sg_space.specs.Space.{Contents, words_of, AreShapes, IsContents, clear_space}
-use Rattle.sg_space.specs.Standing.{block_in, marks_in, page_in}
+use Rattle.sg_space.specs.Standing.{block_in, page_in}
 use Rattle.sg_rules.specs.Rules.{Actor, fresh}
 use Rattle.sg_order.specs.Rest.{IsEpochOpening}
 use Rattle.sg_order.specs.Opening.{FirstOpening, AreFirstConstants, AreFirstWords}
 use Rattle.sg_actor.specs.declared.mutator.Stage.{Stage}
 use Rattle.sg_actor.specs.State.{Mutating, waiting, IsCounted}
+use Rattle.sg_mutate.specs.Boards.{OccupiesSlots}
 use Rattle.sg_mutate.specs.Epochs.{constants_of, found_in, found_at, actors_in, IsReadyStage}
 use Rattle.sg_world.specs.Starting.{IsNew, AreNew}
 use Rattle.sg_world.specs.Worlds.{CanRun, IsBetween}
@@ -84,8 +86,10 @@ first_words s shapes sections e = subst (λ t. AreFirstWords (words_of t)) (sym 
   marks = clear_word sections.blocks;
 })
 
-first_constants : (p : Program) (s : Contents) (shapes : List Shape) → s ≡ clear_space (sections_in p) shapes → AreFirstConstants p (constants_of s)
-first_constants p s shapes e = subst (λ t. AreFirstConstants p (constants_of t)) (sym e) (record { fragments = refl; limit = omega arith })
+first_constants : (p : Program) (s : Contents) (shapes : List Shape) → s ≡ clear_space (sections_in p) shapes →
+    AreFirstConstants p (constants_of s) (words_of s)
+first_constants p s shapes e = subst (λ t. AreFirstConstants p (constants_of t) (words_of t)) (sym e)
+    (record { fragments = refl; limit = omega arith; marks = refl })
 
 module _ (law : FirstOpening) (p : Program) (can : CanRun p) (shapes : List Shape) (named : shapes ≡ map (λ (class : Class). class.shape) p.classes)
     (s : Contents)
@@ -93,6 +97,9 @@ module _ (law : FirstOpening) (p : Program) (can : CanRun p) (shapes : List Shap
     (turns : List ℕ) where
   begun : IsEpochOpening p (constants_of s) (words_of s) (no_objects p) (empty_book p) (λ k. fresh (script_of p k))
   begun = law p (constants_of s) (words_of s) can.scripts (first_constants p s shapes space) (first_words s shapes (sections_in p) space)
+
+  no_slot : OccupiesSlots p (words_of s)
+  no_slot j z i l e q = absurd (let f : Free ≡ Swept z = sym (ap (λ (s : Contents). block_in s j) space ∙ free_block p.config.blocks j) ∙ e in cc f)
 
   same_actors : (k : ℕ) → actors_in ms k ≡ fresh (script_of p k)
   same_actors k = elim (cases_lt k (length ms)) [
@@ -131,6 +138,7 @@ module _ (law : FirstOpening) (p : Program) (can : CanRun p) (shapes : List Shap
       opening = subst (λ (actors : ℕ → Actor). IsEpochOpening p (constants_of s) (words_of s) (no_objects p) (empty_book p) actors)
           (λ i k. sym (same_actors k) i) begun;
       space = record { contents = contents; layout = ap (λ (s : Contents). s.layout) space };
+      fits = no_slot;
       are = record { count = new.count; program = λ k m e. (new.each k m e).program; number = λ k m e. (new.each k m e).number };
       stages = λ k m e. subst (λ (stage : Stage). IsReadyStage (no_objects p) k stage) (sym (new.each k m e).stage) refl;
       going = λ all. (let e : false ≡ true = all 0 (let l = can.limits.mutators_least in omega arith) in cc e);
@@ -144,7 +152,7 @@ module _ (law : FirstOpening) (p : Program) (can : CanRun p) (shapes : List Shap
         next = λ f l. let z : f ≡ 0 = omega arith in ap (λ (s : Contents). get_or s.next f 0) space ∙ ap (λ i. get_or (byte_at nursery_base ∷ []) i 0) z;
         limit = λ f l. let z : f ≡ 0 = omega arith in ap (λ (s : Contents). get_or s.ends f 0) space
             ∙ ap (λ i. get_or (byte_at (old_base (sections_in p)) ∷ []) i 0) z;
-        fits = λ j z i l e q. absurd (let f : Free ≡ Swept z = sym (ap (λ (s : Contents). block_in s j) space ∙ free_block p.config.blocks j) ∙ e in cc f);
+        fits = no_slot;
         pages = λ j. ap (λ (s : Contents). page_in s j) space ∙ clear_word p.config.pages j;
         head = ap (λ (s : Contents). s.head) space;
         made = ap (λ (s : Contents). s.made) space;

@@ -1,5 +1,6 @@
 -- The world behind an epoch: the run is over, or a stop comes next.
-use Rattle.std.proofs.Common.{◌≡◌, ◌≢◌, ℕ, zero, ◌+◌, ◌||◌, ◌≤◌, ◌↔◌, cond, true, false, not, Option, Some, None, List, [], ◌∷◌, ◌++◌, length, slice_get, inl, inr, sym, refl, ap, ◌∙◌, subst, arith}
+use Rattle.std.proofs.Common.{◌≡◌, ◌≢◌, ℕ, zero, ◌+◌, ◌≤◌, ◌↔◌, cond, true, false, not, Option, Some, None, List}
+use Rattle.std.proofs.Common.{[], ◌∷◌, ◌++◌, length, slice_get, inl, inr, sym, refl, ap, ◌∙◌, subst, arith}
 use Rattle.std.specs.List.{flat_map, Contains}
 use Rattle.std.proofs.lemmas.Bool.{cases_Bool}
 use Rattle.std.proofs.lemmas.Option.{same_Some, slice_get_within}
@@ -13,6 +14,7 @@ use Rattle.sg_program.specs.declared.answers.Request.{Request}
 use Rattle.sg_graph.specs.declared.reports.Part.{Part}
 use Rattle.sg_graph.specs.declared.reports.EpochReport.{EpochReport}
 use Rattle.sg_graph.specs.Graph.{Graph}
+use Rattle.sg_graph.specs.Book.{Book, swept_in}
 use Rattle.sg_graph.specs.Epoch.{numbers_below, running, is_done, left, parted as parted_in}
 use Rattle.sg_graph.specs.Stop.{Asked, asked_by, requests_in}
 use Rattle.sg_graph.specs.Run.{Phase, Epoch}
@@ -22,11 +24,13 @@ use Rattle.sg_heap.specs.Holding.{HoldsHeap}
 use Rattle.sg_rules.specs.Rules.{Constants, Left, Actor, fresh}
 use Rattle.sg_program.specs.Scripts.{IsRequestOf}
 use Rattle.sg_order.specs.Rest.{IsReady, IsHeld, before_it}
+use Rattle.sg_order.specs.Sweep.{swept_of}
 use Rattle.sg_order.specs.OneOrder.{IsOneOrder}
 use Rattle.sg_order.specs.Serving.{StaysReady}
 use Rattle.sg_order.specs.Held.{HeldIsSound, HeldWhoever}
 use Rattle.sg_actor.specs.declared.mutator.Stage.{Stage}
-use Rattle.sg_actor.specs.declared.mutator.Stage.TheVariants.{Between, Within, Claiming, Ended, Asking, Yielded}
+use Rattle.sg_actor.specs.declared.mutator.Stage.TheVariants.{Between, Within, Claiming, OpeningBlock, TakingSlot, TakingOver}
+use Rattle.sg_actor.specs.declared.mutator.Stage.TheVariants.{Sweeping, BehindSweep, Ended, Asking, Yielded}
 use Rattle.sg_actor.specs.State.{Mutating, actor_of, mid_of, leave_of, IsCounted}
 use Rattle.sg_actor.specs.Turning.{IsResting}
 use Rattle.sg_mutate.specs.Epochs.{constants_of, parted, HasLeftAs, IsOver}
@@ -34,7 +38,7 @@ use Rattle.sg_world.specs.Telling.{going_in, HaveEnded, TellsOf, TellsAt}
 use Rattle.sg_world.specs.Stopping.{asked_of, requests_of}
 use Rattle.sg_world.specs.Worlds.{Worldly, IsWorldOf, IsBetween, HasLeftReady, IsAtStop, ComesTo}
 use Rattle.sg_world.proofs.Lists.{pairwise_left, joined_pairwise, joined_filter, joined_by_numbers, in_joined, sums_le, pairwise_by, some_at}
-use Rattle.sg_world.proofs.Heaps.{constants_stay, heap_of_held}
+use Rattle.sg_world.proofs.Heaps.{heap_of_held}
 use Rattle.sg_world.proofs.Unowed.{still_unowed}
 use Rattle.sg_world.proofs.Parts.{IsLeaveOf, not_done, ready_left, ready_empty}
 use Rattle.sg_world.proofs.Epochs as epochs
@@ -71,8 +75,15 @@ module _ (stays : StaysReady) (is_sound : HeldIsSound) (whoever : HeldWhoever) (
   abbrev actors : ℕ → Actor
   actors = over.actors
 
-  abbrev one : IsOneOrder p (constants_of old.space) between.graph between.book over.boarded.so.events (words_of t) over.actors
+  abbrev one : IsOneOrder p (constants_of old.space) over.boarded.so.opened between.graph between.book over.boarded.so.events (words_of t) over.actors
   one = over.boarded.one
+
+  -- the blocks that were swept in the epoch, and the book as it ends
+  abbrev swept : List ℕ
+  swept = swept_of over.boarded.so.events
+
+  abbrev c : Book
+  c = swept_in over.boarded.one.book (swept_of over.boarded.so.events)
 
   abbrev h : Graph
   h = left one.graph
@@ -96,23 +107,23 @@ module _ (stays : StaysReady) (is_sound : HeldIsSound) (whoever : HeldWhoever) (
   ended_as : (k : ℕ) → (h.mutator k).ended ≡ is_done (one.graph.mutator k).script
   ended_as = epochs.ended_as p g between.book old.space old.mutators schedule t after next between.opened over between.of.counted report.parts tells
 
-  held : IsHeld p lay (words_of t) h one.book
+  held : IsHeld p lay (words_of t) h c
   held = epochs.held p g between.book old.space old.mutators schedule t after next between.opened over between.of.counted report.parts tells is_sound whoever
 
   tells_running : Pairwise (TellsAt after) (running p g) report.parts
   tells_running = epochs.tells_running p g between.book old.space old.mutators schedule t after next between.opened over between.of.counted report.parts tells
 
-  is_epoch : IsEpochBy p old.number between.graph between.book schedule over.order [] report h one.book next
+  is_epoch : IsEpochBy p old.number between.graph between.book schedule over.order swept report h c next
   is_epoch =
       epochs.is_epoch p g between.book old.space old.mutators schedule t after next between.opened over between.of.counted report.parts tells is_sound whoever
       old.number report numbered last refl
 
-  ready : (k : ℕ) → IsReady p one.graph one.book k (actors k) (before_it (actors k).mid (actors k).script)
-  ready k = one.ready k (epochs.behind p g between.book old.space old.mutators schedule t after next between.opened over k)
+  ready : (k : ℕ) → IsReady p one.graph c k (actors k) (before_it (actors k).mid (actors k).script)
+  ready k = (epochs.ends p g between.book old.space old.mutators schedule t after next between.opened over).ready k
 
-  empty : (k from to : ℕ) → (one.graph.mutator k).script ≡ [] → from ≡ one.book.from k → to ≡ one.book.to k →
-      IsReady p h one.book k (record (fresh []) { from = from; to = to }) []
-  empty k from to none = ready_empty p h one.book k from to (one.graph.mutator k) (ap (λ xs. parted_in (one.graph.mutator k) (is_done xs)) none) none
+  empty : (k from to : ℕ) → (one.graph.mutator k).script ≡ [] → from ≡ c.from k → to ≡ c.to k →
+      IsReady p h c k (record (fresh []) { from = from; to = to }) []
+  empty k from to none = ready_empty p h c k from to (one.graph.mutator k) (ap (λ xs. parted_in (one.graph.mutator k) (is_done xs)) none) none
       held.heap.laid.nothing.stands_nil held.heap.laid.nothing.at_nil
 
   module _ (k : ℕ) (m n : Mutating) (was_m : slice_get old.mutators k ≡ Some m) (is_n : slice_get after k ≡ Some n) where
@@ -148,8 +159,8 @@ module _ (stays : StaysReady) (is_sound : HeldIsSound) (whoever : HeldWhoever) (
       ]
 
       goes_on : (script : List Statement) → before_it (mid_of n.stage) n.script ≡ script → script ≢ [] → ((h.mutator k).ended ≡ false)
-          × IsReady p h one.book k (actor_of n) script
-      goes_on script is some = (ended_as k ∙ undone, ready_left stays p one.graph one.book k (actor_of n) script ready_n undone)
+          × IsReady p h c k (actor_of n) script
+      goes_on script is some = (ended_as k ∙ undone, ready_left stays p one.graph c k (actor_of n) script ready_n undone)
         where
           same : before_it (actors k).mid (actors k).script ≡ script
           same = ap (λ (a : Actor). before_it a.mid a.script) gone.actor ∙ is
@@ -157,9 +168,9 @@ module _ (stays : StaysReady) (is_sound : HeldIsSound) (whoever : HeldWhoever) (
           undone : is_done (one.graph.mutator k).script ≡ false
           undone = ap is_done (script_left k ∙ same) ∙ not_done script some
 
-          ready_n : IsReady p one.graph one.book k (actor_of n) script
-          ready_n = subst (λ (a : Actor). IsReady p one.graph one.book k a script) gone.actor
-              (subst (λ (xs : List Statement). IsReady p one.graph one.book k (actors k) xs) same (ready k))
+          ready_n : IsReady p one.graph c k (actor_of n) script
+          ready_n = subst (λ (a : Actor). IsReady p one.graph c k a script) gone.actor
+              (subst (λ (xs : List Statement). IsReady p one.graph c k (actors k) xs) same (ready k))
 
       yielded_waits : n.stage ≡ Yielded → n.script ≢ []
       yielded_waits e =
@@ -167,7 +178,7 @@ module _ (stays : StaysReady) (is_sound : HeldIsSound) (whoever : HeldWhoever) (
           let l : IsLeaveOf p (actors k).script (actors k).mid Yield = subst (λ (x : Leave). IsLeaveOf p (actors k).script (actors k).mid x) leave leaves in
           λ none. l.1 (ap (λ (a : Actor). a.script) gone.actor ∙ none)
 
-    left_ready : (stage : Stage) → n.stage ≡ stage → HasLeftReady p h one.book k n stage
+    left_ready : (stage : Stage) → n.stage ≡ stage → HasLeftReady p h c k n stage
     left_ready Ended e =
         let none = done_ended k n is_n e in
         let same = as_it_was in
@@ -183,6 +194,16 @@ module _ (stays : StaysReady) (is_sound : HeldIsSound) (whoever : HeldWhoever) (
     left_ready Within e = absurd (let q : None ≡ Some _ = sym (ap leave_of e) ∙ (gone (λ d. (let q : Within ≡ Ended = sym e ∙ d in cc q))).left in cc q)
     left_ready (Claiming statement fragment seen) e =
         absurd (let q : None ≡ Some _ = sym (ap leave_of e) ∙ (gone (λ d. (let q : Claiming statement fragment seen ≡ Ended = sym e ∙ d in cc q))).left in cc q)
+    left_ready (OpeningBlock statement block) e =
+        absurd (let q : None ≡ Some _ = sym (ap leave_of e) ∙ (gone (λ d. (let q : OpeningBlock statement block ≡ Ended = sym e ∙ d in cc q))).left in cc q)
+    left_ready (TakingSlot statement block slot) e =
+        absurd (let q : None ≡ Some _ = sym (ap leave_of e) ∙ (gone (λ d. (let q : TakingSlot statement block slot ≡ Ended = sym e ∙ d in cc q))).left in cc q)
+    left_ready (TakingOver statement block size) e =
+        absurd (let q : None ≡ Some _ = sym (ap leave_of e) ∙ (gone (λ d. (let q : TakingOver statement block size ≡ Ended = sym e ∙ d in cc q))).left in cc q)
+    left_ready (Sweeping statement block size) e =
+        absurd (let q : None ≡ Some _ = sym (ap leave_of e) ∙ (gone (λ d. (let q : Sweeping statement block size ≡ Ended = sym e ∙ d in cc q))).left in cc q)
+    left_ready (BehindSweep statement block) e =
+        absurd (let q : None ≡ Some _ = sym (ap leave_of e) ∙ (gone (λ d. (let q : BehindSweep statement block ≡ Ended = sym e ∙ d in cc q))).left in cc q)
 
   asked : requests_in report.parts ≡ requests_of after
   unfolding asked_at
@@ -226,11 +247,10 @@ module _ (stays : StaysReady) (is_sound : HeldIsSound) (whoever : HeldWhoever) (
         let q = between.of.numbered in omega arith;
   }
 
-  holds : HoldsHeap p t h one.book
-  holds = heap_of_held p old.space t g h between.book one.book over.keeps over.leaves between.holds
-      (subst (λ l. IsHeld p l (words_of t) h one.book) (sym (constants_stay old.space t over.keeps)) held)
+  holds : HoldsHeap p t h c
+  holds = heap_of_held p old.space t g h between.book c over.keeps over.head over.boarded.fits between.holds held
 
-  beyond : (k : ℕ) → length after ≤ k → IsReady p h one.book k (fresh []) []
+  beyond : (k : ℕ) → length after ≤ k → IsReady p h c k (fresh []) []
   beyond k l =
       let e : actors k ≡ fresh [] = over.beyond k (let a = over.are.count in let b = between.of.are.count in omega arith) in
       let none : (one.graph.mutator k).script ≡ [] = script_left k ∙ ap (λ (a : Actor). before_it a.mid a.script) e in
@@ -279,11 +299,26 @@ module _ (stays : StaysReady) (is_sound : HeldIsSound) (whoever : HeldWhoever) (
       by_stage (Claiming statement fragment seen) e =
           let l = left_so (λ d. (let q : Claiming statement fragment seen ≡ Ended = sym e ∙ d in cc q)) in absurd (let q : None ≡ Some l.0 =
           sym (ap leave_of e) ∙ l.1 in cc q)
+      by_stage (OpeningBlock statement block) e =
+          let l = left_so (λ d. (let q : OpeningBlock statement block ≡ Ended = sym e ∙ d in cc q)) in absurd (let q : None ≡ Some l.0 =
+          sym (ap leave_of e) ∙ l.1 in cc q)
+      by_stage (TakingSlot statement block slot) e =
+          let l = left_so (λ d. (let q : TakingSlot statement block slot ≡ Ended = sym e ∙ d in cc q)) in absurd (let q : None ≡ Some l.0 =
+          sym (ap leave_of e) ∙ l.1 in cc q)
+      by_stage (TakingOver statement block size) e =
+          let l = left_so (λ d. (let q : TakingOver statement block size ≡ Ended = sym e ∙ d in cc q)) in absurd (let q : None ≡ Some l.0 =
+          sym (ap leave_of e) ∙ l.1 in cc q)
+      by_stage (Sweeping statement block size) e =
+          let l = left_so (λ d. (let q : Sweeping statement block size ≡ Ended = sym e ∙ d in cc q)) in absurd (let q : None ≡ Some l.0 =
+          sym (ap leave_of e) ∙ l.1 in cc q)
+      by_stage (BehindSweep statement block) e =
+          let l = left_so (λ d. (let q : BehindSweep statement block ≡ Ended = sym e ∙ d in cc q)) in absurd (let q : None ≡ Some l.0 =
+          sym (ap leave_of e) ∙ l.1 in cc q)
 
   wanted : report.last ≡ false → requests_in report.parts ≢ []
   wanted e none = let q : true ≡ false = sym (last.1 (none_left (sym asked ∙ none))) ∙ e in cc q
 
-  whole : report.last ≡ true → IsWholeRunBy p turns (phases ++ Epoch report over.order [] ∷ [])
+  whole : report.last ≡ true → IsWholeRunBy p turns (phases ++ Epoch report over.order swept ∷ [])
   whole e = record {
     number = old.number;
     before = phases;
@@ -292,17 +327,17 @@ module _ (stays : StaysReady) (is_sound : HeldIsSound) (whoever : HeldWhoever) (
     schedule = schedule;
     follows = between.follows;
     order = over.order;
-    swept = [];
+    swept = swept;
     report = report;
     last_graph = h;
-    last_book = one.book;
+    last_book = c;
     last_schedule = next;
     epoch = is_epoch;
     phases_are = refl;
     whole = is_epoch.is.ends.0 e;
   }
 
-  at_stop : report.last ≡ false → IsAtStop p turns phases report over.order [] world next
+  at_stop : report.last ≡ false → IsAtStop p turns phases report over.order swept world next
   at_stop e = record {
     of = of_after;
     before_graph = between.graph;
@@ -310,11 +345,11 @@ module _ (stays : StaysReady) (is_sound : HeldIsSound) (whoever : HeldWhoever) (
     before_schedule = schedule;
     follows = between.follows;
     graph = h;
-    book = one.book;
+    book = c;
     epoch = is_epoch;
     going = λ all. (let q : true ≡ false = sym (is_epoch.is.ends.1 all) ∙ e in cc q);
     holds = holds;
-    unowed = λ none. still_unowed p old.space t g h between.book one.book over.leaves between.holds (between.unowed none) held;
+    unowed = λ none. still_unowed p between.book one.book swept one.owed (between.unowed none);
     plain = held.plain;
     ready = λ k n is_n. (let m = was k n is_n in left_ready k m.0 n m.1 is_n n.stage refl);
     asked = asked;
@@ -324,8 +359,8 @@ module _ (stays : StaysReady) (is_sound : HeldIsSound) (whoever : HeldWhoever) (
 
   pub comes : ComesTo p turns phases report world next
   comes = elim (cases_Bool report.last) [
-    | inl e ↦ (over.order, [], inl (e, whole e))
-    | inr e ↦ (over.order, [], inr (e, at_stop e))
+    | inl e ↦ (over.order, swept, inl (e, whole e))
+    | inr e ↦ (over.order, swept, inr (e, at_stop e))
   ]
 
 -- an epoch that wasn't the last one: a stop comes next

@@ -1,5 +1,6 @@
 -- From the end of an epoch, in which each mutator has left, to the epoch's report.
-use Rattle.std.proofs.Common.{◌≡◌, ℕ, ◌+◌, ◌<◌, ◌↔◌, Bool, true, false, not, filter, Option, Some, None, List, [], ◌∷◌, length, slice_get, inl, inr, sym, refl, ap, ◌∙◌, subst, arith}
+use Rattle.std.proofs.Common.{◌≡◌, ℕ, ◌+◌, ◌<◌, ◌↔◌, Bool, true, false, not, filter, Option, Some, None, List}
+use Rattle.std.proofs.Common.{[], ◌∷◌, length, slice_get, inl, inr, sym, refl, ap, ◌∙◌, subst, arith}
 use Rattle.std.specs.List.{AllByRecursion, Contains}
 use Rattle.std.proofs.lemmas.Bool.{cases_Bool, cases_lt}
 use Rattle.std.proofs.lemmas.Option.{same_Some, slice_get_within}
@@ -13,23 +14,25 @@ use Rattle.sg_program.specs.Scripts.{script_of}
 use Rattle.sg_graph.specs.declared.reports.Part.{Part}
 use Rattle.sg_graph.specs.declared.reports.EpochReport.{EpochReport}
 use Rattle.sg_graph.specs.Graph.{Graph}
-use Rattle.sg_graph.specs.Book.{Book}
-use Rattle.sg_graph.specs.Epoch.{Explains, IsPart, SomeAsks, numbers_below, running, is_done, left, AllEnded}
+use Rattle.sg_graph.specs.Book.{Book, swept_in, IsClosed}
+use Rattle.sg_graph.specs.Epoch.{Explains, IsPart, SomeAsks, AsksSlot, numbers_below, running, is_done, left, AllEnded}
 use Rattle.sg_graph.specs.Turns.{HasLeft}
 use Rattle.sg_graph.specs.Follows.{IsEpochBy}
 use Rattle.sg_space.specs.Space.{Contents, words_of}
 use Rattle.sg_rules.specs.Rules.{Constants, Idle, Left, Yielded as HasYielded, Actor, fresh}
 use Rattle.sg_order.specs.Rest.{IsHeld, IsOver as IsBehind, before_it}
-use Rattle.sg_order.specs.OneOrder.{IsOneOrder}
+use Rattle.sg_order.specs.Sweep.{swept_of}
+use Rattle.sg_order.specs.OneOrder.{IsAtEnd, IsOneOrder}
 use Rattle.sg_order.specs.Held.{HeldIsSound, HeldWhoever}
 use Rattle.sg_actor.specs.declared.mutator.Stage.{Stage}
 use Rattle.sg_actor.specs.declared.mutator.Stage.TheVariants.{Between, Ended, Asking, Yielded}
 use Rattle.sg_actor.specs.State.{Mutating, actor_of, leave_of, waiting, IsCounted}
 use Rattle.sg_mutate.specs.Epochs.{constants_of, parted, found_in, found_at, actors_in, IsReadyStage, IsOpened, HasLeftAs, IsOver}
-use Rattle.sg_boards.specs.Boards.{IsAt}
+use Rattle.sg_mutate.specs.Boards.{IsAt}
 use Rattle.sg_world.specs.Telling.{goes, goes_at, going_in, HasLeftAt, HaveEnded, TellsOf, TellsAt}
 use Rattle.sg_world.proofs.Lists.{pairwise_left, pairwise_right, pairwise_under, passing, in_filter, below, all_below, filter_same, all_at, some_at}
-use Rattle.sg_world.proofs.Parts.{IsLeaveOf, leave_at, is_over, left_wants, done_empty, ended_is, is_part}
+use Rattle.sg_world.proofs.Parts.{IsLeaveOf, leave_at, is_over, left_wants, done_empty, ended_is, is_part, searched}
+use Rattle.sg_world.proofs.Unowed.{same_owed}
 use Rattle.sg_world.proofs.Yields.{waiting as waits}
 
 not_ended : (b : Bool) → not b ≡ true → b ≡ false
@@ -62,8 +65,15 @@ module _ (p : Program) (g : Graph) (b : Book) (s : Contents) (ms : List Mutating
   abbrev lay : Constants
   lay = constants_of s
 
-  abbrev one : IsOneOrder p (constants_of s) g b over.boarded.so.events (words_of t) over.actors
+  abbrev one : IsOneOrder p (constants_of s) over.boarded.so.opened g b over.boarded.so.events (words_of t) over.actors
   one = over.boarded.one
+
+  -- the blocks that were swept in it, and the book as it ends
+  abbrev swept : List ℕ
+  swept = swept_of over.boarded.so.events
+
+  abbrev c : Book
+  c = swept_in over.boarded.one.book (swept_of over.boarded.so.events)
 
   abbrev actors : ℕ → Actor
   actors = over.actors
@@ -115,6 +125,9 @@ module _ (p : Program) (g : Graph) (b : Book) (s : Contents) (ms : List Mutating
         ]
   ]
 
+  pub ends : IsAtEnd p lay g.count b one.graph one.book c (words_of t) actors
+  ends = one.ended behind
+
   pub script_left : (k : ℕ) → (one.graph.mutator k).script ≡ before_it (actors k).mid (actors k).script
   script_left k = (one.ready k (behind k)).script_is
 
@@ -157,7 +170,7 @@ module _ (p : Program) (g : Graph) (b : Book) (s : Contents) (ms : List Mutating
     tells_running = subst (λ (ks : List ℕ). Pairwise (TellsAt after) ks parts) (sym running_are) tells
 
     abbrev Fits : ℕ → Part → Type 0
-    Fits k part = IsPart p g one.order one.graph one.book k part × (over.board.position k ≡ HasLeft part.leave)
+    Fits k part = IsPart p g one.order one.graph c k part × (over.board.position k ≡ HasLeft part.leave)
         × IsLeaveOf p (actors k).script (actors k).mid part.leave
 
     module _ (k : ℕ) (part : Part) (m n : Mutating) (was_m : slice_get ms k ≡ Some m) (is_n : slice_get after k ≡ Some n) (told : TellsOf n part)
@@ -197,7 +210,7 @@ module _ (p : Program) (g : Graph) (b : Book) (s : Contents) (ms : List Mutating
 
       fit : Fits k part
       fit = (
-        is_part p lay g b over.boarded.so.events (words_of t) actors one k (behind k) part (record {
+        is_part p lay over.boarded.so.opened g b over.boarded.so.events (words_of t) actors one behind k part (record {
           number = told.number ∙ over.are.number k n is_n;
           first = first;
           answers = told.answers ∙ sym (ap (λ (x : Actor). x.told) gone.actor);
@@ -232,6 +245,13 @@ module _ (p : Program) (g : Graph) (b : Book) (s : Contents) (ms : List Mutating
         yield_mid k HasEnded h e = absurd (cc e)
         yield_mid k Yield h e = h.0
         yield_mid k (Wants request) h e = absurd (cc e)
+
+    -- where a slot is asked for, no block has one
+    all_searched : (z j : ℕ) → AsksSlot parts z → j < p.config.blocks → IsClosed p b.owed one.graph c j z
+    all_searched z j asks l =
+        let r = pairwise_right Fits (running p g) parts asks.0 all_fit asks.1 in
+        let left = subst (λ (leave : Leave). IsLeaveOf p (actors r.0).script (actors r.0).mid leave) asks.2 r.2.2 in
+        searched p lay over.boarded.so.opened g b over.boarded.so.events (words_of t) actors one behind r.0 z j left.0 left.1 left.2 l
 
     abbrev h : Graph
     h = left one.graph
@@ -280,26 +300,35 @@ module _ (p : Program) (g : Graph) (b : Book) (s : Contents) (ms : List Mutating
 
     -- the words hold the graph behind the epoch
     module _ (is_sound : HeldIsSound) (whoever : HeldWhoever) where
-      pub held : IsHeld p lay (words_of t) h one.book
-      held = whoever p lay (words_of t) one.graph one.book h.mutator (one.held behind)
+      pub held : IsHeld p lay (words_of t) h c
+      held = whoever p lay (words_of t) one.graph c h.mutator ends.held
+
+      owed_is : c.owed ≡ over.board.owed
+      owed_is = same_owed swept b one.book one.owed ∙ sym over.boarded.owed_is
 
       pub is_epoch : (number : ℕ) (report : EpochReport) → report.number ≡ number → (report.last ≡ true ↔ HaveEnded after) → report.parts ≡ parts →
-          IsEpochBy p number g b schedule over.order [] report h one.book next
+          IsEpochBy p number g b schedule over.order swept report h c next
       is_epoch number report numbered last parts_are = record {
         is = record {
           going = opened.going;
           last = one.graph;
+          book = one.book;
           explains = subst (λ order. Explains p g b order one.graph one.book) over.boarded.order_is one.explains;
           after = refl;
           number = numbered;
-          parts = subst (λ ps. Pairwise (IsPart p g over.order one.graph one.book) (running p g) ps) (sym parts_are)
-              (subst (λ order. Pairwise (IsPart p g order one.graph one.book) (running p g) parts) over.boarded.order_is
-              (pairwise_under (λ _. Unit {0}) Fits (IsPart p g one.order one.graph one.book) (λ k part _ f. f.0) (running p g) parts (all_sure (running p g))
+          parts = subst (λ ps. Pairwise (IsPart p g over.order one.graph c) (running p g) ps) (sym parts_are)
+              (subst (λ order. Pairwise (IsPart p g order one.graph c) (running p g) parts) over.boarded.order_is
+              (pairwise_under (λ _. Unit {0}) Fits (IsPart p g one.order one.graph c) (λ k part _ f. f.0) (running p g) parts (all_sure (running p g))
               all_fit));
           yields = subst (λ (ps : List Part). (part : Part) → Contains ps part → part.leave ≡ Yield → SomeAsks ps) (sym parts_are) all_yields;
           ends = (λ e. ends_so.0 (last.0 e), λ all. last.1 (ends_so.1 all));
-          none = refl;
-          sound = is_sound p lay (words_of t) h one.book held;
+          sweeps = refl;
+          were_owed = one.sweep.were_owed;
+          once = one.sweep.once;
+          lowest = ends.lowest;
+          searched = subst (λ (ps : List Part). (z j : ℕ) → AsksSlot ps z → j < p.config.blocks → IsClosed p b.owed one.graph c j z) (sym parts_are)
+              all_searched;
+          sound = is_sound p lay (words_of t) h c held;
         };
         follows = record {
           last = over.board;
@@ -307,6 +336,7 @@ module _ (p : Program) (g : Graph) (b : Book) (s : Contents) (ms : List Mutating
           leaves = subst (λ ps. Pairwise (λ (k : ℕ) (part : Part). over.board.position k ≡ HasLeft part.leave) (running p g) ps) (sym parts_are)
               (pairwise_under (λ _. Unit {0}) Fits (λ (k : ℕ) (part : Part). over.board.position k ≡ HasLeft part.leave) (λ k part _ f. f.1)
               (running p g) parts (all_sure (running p g)) all_fit);
+          book = ends.only_owed ∙ (λ i. record (over.boarded.book_is i) { owed = owed_is i });
         };
       }
         where

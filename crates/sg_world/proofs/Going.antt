@@ -3,7 +3,8 @@ use Rattle.std.proofs.Common.{◌≡◌, ℕ, ◌+◌, ◌↔◌, cond, Bool, tr
 use Rattle.std.proofs.lemmas.List.Elements.{filter-append}
 use Rattle.sg_graph.specs.Epoch.{numbers_below}
 use Rattle.sg_actor.specs.declared.mutator.Stage.{Stage}
-use Rattle.sg_actor.specs.declared.mutator.Stage.TheVariants.{Between, Within, Claiming, Ended, Asking, Yielded}
+use Rattle.sg_actor.specs.declared.mutator.Stage.TheVariants.{Between, Within, Claiming, OpeningBlock, TakingSlot, TakingOver}
+use Rattle.sg_actor.specs.declared.mutator.Stage.TheVariants.{Sweeping, BehindSweep, Ended, Asking, Yielded}
 use Rattle.sg_actor.specs.State.{Mutating}
 use Rattle.sg_world.specs.Telling.{goes, goes_at}
 
@@ -21,6 +22,11 @@ goes_all Ended false t = absurd (let q : false ≡ true = t.1 refl in cc q)
 goes_all Between true t = absurd (let q = t.0 refl in cc q)
 goes_all Within true t = absurd (let q = t.0 refl in cc q)
 goes_all (Claiming statement fragment seen) true t = absurd (let q = t.0 refl in cc q)
+goes_all (OpeningBlock statement block) true t = absurd (let q = t.0 refl in cc q)
+goes_all (TakingSlot statement block slot) true t = absurd (let q = t.0 refl in cc q)
+goes_all (TakingOver statement block size) true t = absurd (let q = t.0 refl in cc q)
+goes_all (Sweeping statement block size) true t = absurd (let q = t.0 refl in cc q)
+goes_all (BehindSweep statement block) true t = absurd (let q = t.0 refl in cc q)
 goes_all (Asking statement request) true t = absurd (let q = t.0 refl in cc q)
 goes_all Yielded true t = absurd (let q = t.0 refl in cc q)
 goes_all stage false t = refl
@@ -38,6 +44,11 @@ goes_is Ended e d = let q : false ≡ true = e in cc q
 goes_is Between e d = cc d
 goes_is Within e d = cc d
 goes_is (Claiming statement fragment seen) e d = cc d
+goes_is (OpeningBlock statement block) e d = cc d
+goes_is (TakingSlot statement block slot) e d = cc d
+goes_is (TakingOver statement block size) e d = cc d
+goes_is (Sweeping statement block size) e d = cc d
+goes_is (BehindSweep statement block) e d = cc d
 goes_is (Asking statement request) e d = cc d
 goes_is Yielded e d = cc d
 

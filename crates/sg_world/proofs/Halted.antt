@@ -1,5 +1,5 @@
 -- Whoever is ready as a stop begins is ready behind its pauses.
-use Rattle.std.proofs.Common.{◌≡◌, ℕ, Option, Some, None, List, sym, refl, ap, ◌∙◌, subst, arith, inl, inr}
+use Rattle.std.proofs.Common.{◌≡◌, ℕ, Option, Some, None, List, sym, refl, ◌∙◌, subst, inl, inr}
 use Rattle.std.specs.List.{AllByRecursion}
 use Rattle.std.specs.Prelude.{[], ◌∷◌}
 use Rattle.sg_program.specs.declared.program.Statement.{Statement}

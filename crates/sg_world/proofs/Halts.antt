@@ -1,5 +1,6 @@
 -- The stop behind an epoch: the owed sweep, the pauses, and then the answers to the requests.
-use Rattle.std.proofs.Common.{◌≡◌, ◌≢◌, ℕ, zero, suc, ◌+◌, ◌<◌, ◌≤◌, ◌⊎◌, Bool, true, false, Option, Some, None, List, [], ◌∷◌, ◌++◌, length, slice_get, inl, inr, sym, refl, ap, ◌∙◌, subst, arith}
+use Rattle.std.proofs.Common.{◌≡◌, ◌≢◌, ℕ, zero, suc, ◌+◌, ◌≤◌, ◌⊎◌, Bool, false, Option, Some, None, List}
+use Rattle.std.proofs.Common.{[], ◌∷◌, ◌++◌, length, slice_get, inl, inr, sym, refl, ap, ◌∙◌, subst, arith}
 use Rattle.std.specs.Prelude.{is_some, IsTrue}
 use Rattle.std.specs.List.{sum_by}
 use Rattle.std.proofs.lemmas.Bool.{cases_lt}
@@ -10,8 +11,6 @@ use Rattle.sg_words.specs.Schedule.{Schedule}
 use Rattle.sg_program.specs.declared.program.Script.{Script}
 use Rattle.sg_program.specs.declared.program.Statement.{Statement}
 use Rattle.sg_program.specs.declared.program.Program.{Program}
-use Rattle.sg_program.specs.declared.answers.Answer.{Answer}
-use Rattle.sg_program.specs.declared.answers.Request.{Request}
 use Rattle.sg_program.specs.Scripts.{written_out, statements_at, script_of}
 use Rattle.sg_graph.specs.declared.reports.EpochReport.{EpochReport}
 use Rattle.sg_graph.specs.declared.reports.MinorReport.{MinorReport}
@@ -19,7 +18,7 @@ use Rattle.sg_graph.specs.declared.reports.MajorReport.{MajorReport}
 use Rattle.sg_graph.specs.declared.reports.StopReport.{StopReport}
 use Rattle.sg_graph.specs.declared.reports.Service.{Service}
 use Rattle.sg_graph.specs.Graph.{Graph}
-use Rattle.sg_graph.specs.Book.{Book, swept_out}
+use Rattle.sg_graph.specs.Book.{swept_out}
 use Rattle.sg_graph.specs.Copies.{CopiesInOrder}
 use Rattle.sg_graph.specs.Epoch.{Said}
 use Rattle.sg_graph.specs.Laws.{KeepsPointedInto, KeepsInMajor, AreAsking}
@@ -42,7 +41,7 @@ use Rattle.sg_actor.specs.State.{Mutating, actor_of, waiting, IsCounted, DropsBu
 use Rattle.sg_mutate.specs.Epochs.{constants_of, parted, found_in, found_at, actors_in, AreMutatorsOf}
 use Rattle.sg_world.specs.Stopping.{held_by, held_in, HaveRegisters, asked_of, requests_of, HaveBuffersBy}
 use Rattle.sg_world.specs.Steps.{HasHalted}
-use Rattle.sg_world.specs.Serving.{CanTell, MayGoOn, MayAllGoOn, IsReadyNow, IsFurther, HaveGoneOn}
+use Rattle.sg_world.specs.Serving.{MayGoOn, MayAllGoOn, IsReadyNow, IsFurther, HaveGoneOn}
 use Rattle.sg_world.specs.Worlds.{Worldly, CanRun, IsWorldOf, IsBetween, HasLeftReady, IsAtStop}
 use Rattle.sg_world.proofs.Lists.{pairwise_at, pairwise_at_right, pairwise_length, pairwise_by, joined_pairwise, sums_le, sums_less, some_at, asked_somewhere}
 use Rattle.sg_world.proofs.Heaps.{held_of_heap}
@@ -381,11 +380,12 @@ module _ (keeps : KeepsPointedInto) (keeps_major : KeepsInMajor) (stays : StaysR
               opening = record {
                 held = held_of_heap p u all.graph all.book all.holding.plain all.holding.heap;
                 ready = each_actor (λ k a. IsReady p all.graph all.book k a a.script) (λ k n e. (now k n e).ready) beyond;
-                idle = each_actor (λ k a. a.mid ≡ Idle) (λ k n e. (now k n e).idle) (λ k l. refl);
+                idle = λ k. inl (each_actor (λ k a. a.mid ≡ Idle) (λ k n e. (now k n e).idle) (λ k l. refl) k);
                 going = stopped;
                 untold = each_actor (λ k a. a.told ≡ []) (λ k n e. (now k n e).untold) (λ k l. refl);
               };
               space = record { contents = all.holding.contents; layout = all.holding.heap.0.layout };
+              fits = all.holding.heap.0.fits;
               are = are;
               stages = λ k n e. (now k n e).stage;
               going = λ ended. t.going (λ k l. sym (all.ended k) ∙ ended k l);

@@ -1,12 +1,10 @@
 -- Behind the pauses of a stop one mutator goes on: its request is answered, or its next epoch is before it.
-use Rattle.std.proofs.Common.{◌≡◌, ◌≢◌, ℕ, ◌+◌, false, Option, Some, None, List, [], ◌∷◌, length, sym, refl, ap, ◌∙◌, subst, arith}
+use Rattle.std.proofs.Common.{◌≡◌, ℕ, ◌+◌, Some, None, List, [], ◌∷◌, length, sym, refl, ap, ◌∙◌, subst, arith}
 use Rattle.std.proofs.lemmas.Option.{same_Some}
 use Rattle.sg_program.specs.declared.program.Statement.{Statement}
 use Rattle.sg_program.specs.declared.program.Program.{Program}
-use Rattle.sg_program.specs.declared.answers.Answer.{Answer}
 use Rattle.sg_program.specs.declared.answers.Request.{Request}
 use Rattle.sg_program.specs.Scripts.{script_of}
-use Rattle.sg_graph.specs.declared.reports.Sections.{Sections}
 use Rattle.sg_graph.specs.declared.reports.Service.{Service}
 use Rattle.sg_graph.specs.Graph.{Graph}
 use Rattle.sg_graph.specs.Book.{Book}
@@ -22,7 +20,7 @@ use Rattle.sg_actor.specs.declared.mutator.Stage.TheVariants.{Between, Ended, As
 use Rattle.sg_actor.specs.State.{Mutating, actor_of, mid_of, waiting, stage_anew, asking_of, IsCounted, BeginsEpoch, HasServed}
 use Rattle.sg_mutate.specs.Epochs.{constants_of, parted, found_at, IsReadyStage}
 use Rattle.sg_world.specs.Stopping.{asked_of}
-use Rattle.sg_world.specs.Serving.{IsHolding, IsReadyNow, IsFurther, HasGoneOn}
+use Rattle.sg_world.specs.Serving.{IsHolding, IsReadyNow, HasGoneOn}
 use Rattle.sg_world.specs.Worlds.{HasLeftReady}
 use Rattle.sg_world.proofs.Heaps.{held_of_heap}
 

@@ -1,29 +1,31 @@
 -- How a mutator has left an epoch, and what its part of the report is then.
-use Rattle.std.proofs.Common.{◌≡◌, ◌≢◌, ℕ, ◌+◌, Bool, true, false, List, [], ◌∷◌, length, inl, inr, sym, refl, ap, ◌∙◌, subst, arith}
+use Rattle.std.proofs.Common.{◌≡◌, ◌≢◌, ℕ, ◌+◌, ◌<◌, map, Bool, true, false, List, [], ◌∷◌, length, inl, inr, sym, refl, ap, ◌∙◌, subst, arith}
 use Rattle.std.specs.List.{AllByRecursion}
 use Rattle.sg_words.specs.Words.{Words}
 use Rattle.sg_words.specs.Events.{Event}
 use Rattle.sg_words.specs.Lists.{Pairwise}
 use Rattle.sg_program.specs.declared.program.Statement.{Statement}
-use Rattle.sg_program.specs.declared.program.Statement.TheVariants.{New, NewV, Collect}
+use Rattle.sg_program.specs.declared.program.Statement.TheVariants.{New, NewV, Mature, Collect}
 use Rattle.sg_program.specs.declared.program.Program.{Program}
 use Rattle.sg_program.specs.declared.answers.Leave.{Leave}
 use Rattle.sg_program.specs.declared.answers.Leave.TheVariants.{Ended, Yield, Wants}
 use Rattle.sg_program.specs.declared.answers.Request.{Request}
-use Rattle.sg_program.specs.declared.answers.Request.TheVariants.{Need}
-use Rattle.sg_program.specs.Scripts.{script_of, IsSmall, IsMaking, made_words, IsRequestOf}
+use Rattle.sg_program.specs.declared.answers.Request.TheVariants.{Need, Slot}
+use Rattle.sg_program.specs.declared.answers.Answer.{Answer}
+use Rattle.sg_program.specs.Scripts.{script_of, IsSmall, IsMaking, made_words, made_slot, IsRequestOf}
 use Rattle.sg_graph.specs.declared.reports.Part.{Part}
 use Rattle.sg_graph.specs.Graph.{Graph, Entry, Mutator}
 use Rattle.sg_graph.specs.Statements.{name_in}
-use Rattle.sg_graph.specs.Book.{Book, HasNoPlace}
-use Rattle.sg_graph.specs.Epoch.{Asks, Leaves, IsPart, is_done, left, parted}
+use Rattle.sg_graph.specs.Book.{Book, HasNoPlace, swept_in, IsClosed}
+use Rattle.sg_graph.specs.Epoch.{answers_of, by_address, Asks, Leaves, IsPart, is_done, left, parted}
 use Rattle.sg_graph.specs.Turns.{HasLeft}
-use Rattle.sg_rules.specs.Rules.{Constants, StackWord, Mid, Idle, Left, Yielded, Actor, owning, fresh}
+use Rattle.sg_rules.specs.Rules.{Constants, Search, Roam, StackWord, Mid, Idle, SeeBlock, TakeOver, StoreOccupancy, Left, Yielded, Actor, owning, fresh}
 use Rattle.sg_rules.specs.Resting.{IsRunnable}
-use Rattle.sg_order.specs.Rest.{Holds, IsReady, before_it, IsOver}
-use Rattle.sg_order.specs.OneOrder.{IsOneOrder}
+use Rattle.sg_order.specs.Rest.{Holds, IsReady, before_it, IsOver, AreOver}
+use Rattle.sg_order.specs.Sweep.{swept_of}
+use Rattle.sg_order.specs.OneOrder.{IsAtEnd, IsOneOrder}
 use Rattle.sg_order.specs.Serving.{StaysPut, HandsStay, HasSameHands, StaysReady}
-use Rattle.sg_boards.specs.Boards.{IsAt}
+use Rattle.sg_mutate.specs.Boards.{IsAt}
 
 -- who left with a statement asks for what that statement asks for
 asks_for : (p : Program) (b : Book) (k : ℕ) (s : Statement) (request : Request) → IsRequestOf p s request → IsRunnable p s →
@@ -34,6 +36,8 @@ asks_for p b k (New r class) request fits run tight = absurd fits
 asks_for p b k (NewV r class count) (Need n) fits run tight =
     (fits, subst IsSmall (sym fits) (let l = run.small in omega arith), subst (HasNoPlace b k) (sym fits) (tight tt))
 asks_for p b k (NewV r class count) request fits run tight = absurd fits
+asks_for p b k (Mature r class) (Slot size) fits run tight = fits
+asks_for p b k (Mature r class) request fits run tight = absurd fits
 asks_for p b k (Collect false) request fits run tight = fits
 asks_for p b k (Collect true) request fits run tight = fits
 asks_for p b k s request fits run tight = fits
@@ -49,11 +53,18 @@ pub leave_at : (p : Program) (script : List Statement) (mid : Mid) (leave : Leav
 leave_at p script Idle Ended h waits = (refl, h)
 leave_at p script (Left s) (Wants request) h waits = (s, refl, h)
 leave_at p script Yielded Yield h waits = (refl, waits refl)
+leave_at p script (TakeOver (Search s) c z) leave h waits = absurd h
+leave_at p script (TakeOver Roam c z) leave h waits = absurd h
+leave_at p script (StoreOccupancy (Search s) c z) leave h waits = absurd h
+leave_at p script (StoreOccupancy Roam c z) leave h waits = absurd h
+leave_at p script (SeeBlock (Search s) true c) leave h waits = absurd h
+leave_at p script (SeeBlock (Search s) false c) leave h waits = absurd h
+leave_at p script (SeeBlock Roam begins c) leave h waits = absurd h
 leave_at p script mid leave h waits = absurd h
 
 pub is_over : (p : Program) (script : List Statement) (mid : Mid) (leave : Leave) → IsLeaveOf p script mid leave → IsOver mid
 is_over p script mid Ended h = inl h.0
-is_over p script mid Yield h = inr (inr h.0)
+is_over p script mid Yield h = inr (inr (inl h.0))
 is_over p script mid (Wants request) h = inr (inl (h.0, h.1))
 
 -- who left with a statement asks for something
@@ -128,24 +139,54 @@ ready_empty p h b k from to m is none stands at from_is to_is = record {
   runnable = tt;
 }
 
-module _ (p : Program) (lay : Constants) (g : Graph) (b : Book) (es : List Event) (v : Words) (last : ℕ → Actor) (one : IsOneOrder p lay g b es v last) where
-  module _ (k : ℕ) (over : IsOver (last k).mid) where
-    ready : IsReady p one.graph one.book k (last k) (before_it (last k).mid (last k).script)
-    ready = one.ready k over
+-- who asks for a slot looks for one of the size for its object
+pub seeks_slot : (p : Program) (s : Statement) (z : ℕ) → IsRequestOf p s (Slot z) → (r : ℕ) × (class : ℕ) × (s ≡ Mature r class) × (z ≡ made_slot p s)
+seeks_slot p (Mature r class) z asks = (r, class, refl, asks)
+seeks_slot p (Collect false) z asks = absurd asks
+seeks_slot p (Collect true) z asks = absurd asks
+seeks_slot p s z asks = absurd asks
 
-    leaves : (leave : Leave) → IsLeaveOf p (last k).script (last k).mid leave → Leaves p one.book k leave (one.graph.mutator k).script
+module _ (p : Program) (lay : Constants) (w : Words) (g : Graph) (b : Book) (es : List Event) (v : Words) (last : ℕ → Actor)
+    (one : IsOneOrder p lay w g b es v last) (over : AreOver last) where
+  -- the book as the epoch ends
+  abbrev pub c : Book
+  c = swept_in one.book (swept_of es)
+
+  abbrev pub ends : IsAtEnd p lay g.count b one.graph one.book (swept_in one.book (swept_of es)) v last
+  ends = one.ended over
+
+  same_addresses : (answers : List Answer) → map (by_address one.book) answers ≡ map (by_address c) answers
+  same_addresses answers = ap (λ (x : Book). map (by_address x) answers) (sym ends.only_owed)
+
+  module _ (k : ℕ) where
+    ready : IsReady p one.graph c k (last k) (before_it (last k).mid (last k).script)
+    ready = ends.ready k
+
+    tight : (s : Statement) → IsMaking s → (last k).mid ≡ Left s → HasNoPlace c k (made_words p s)
+    tight s making left =
+        let none = one.tight k s making left in
+        subst (λ (x : Book). HasNoPlace x k (made_words p s)) (sym ends.only_owed) (record { short = none.short; none = none.none })
+
+    leaves : (leave : Leave) → IsLeaveOf p (last k).script (last k).mid leave → Leaves p c k leave (one.graph.mutator k).script
     leaves Ended h = ready.script_is ∙ ap (λ mid. before_it mid (last k).script) h.0 ∙ h.1
     leaves Yield h = λ none. h.1 (sym (ready.script_is ∙ ap (λ mid. before_it mid (last k).script) h.0) ∙ none)
     leaves (Wants request) h =
         let asking : before_it (last k).mid (last k).script ≡ h.0 ∷ (last k).script = ap (λ mid. before_it mid (last k).script) h.1 in
         let run : AllByRecursion (IsRunnable p) (h.0 ∷ (last k).script) =
         subst (λ (xs : List Statement). AllByRecursion (IsRunnable p) xs) asking ready.runnable in
-        (h.0, (last k).script, ready.script_is ∙ asking, asks_for p one.book k h.0 request h.2 run.0 (λ making. one.tight k h.0 making h.1))
+        (h.0, (last k).script, ready.script_is ∙ asking, asks_for p c k h.0 request h.2 run.0 (λ making. tight h.0 making h.1))
 
-    pub is_part : (part : Part) → TellsOf p k (length (g.mutator k).script) (last k) part → IsPart p g one.order one.graph one.book k part
+    pub is_part : (part : Part) → TellsOf p k (length (g.mutator k).script) (last k) part → IsPart p g one.order one.graph c k part
     is_part part t = record {
       number = t.number;
       first = t.first;
-      answers = t.answers ∙ one.answers k over;
+      answers = t.answers ∙ one.answers k (over k) ∙ same_addresses (answers_of k one.order);
       leaves = leaves part.leave t.leave;
     }
+
+  -- where a mutator asks for a slot no block has one
+  pub searched : (k z j : ℕ) (s : Statement) → (last k).mid ≡ Left s → IsRequestOf p s (Slot z) → j < p.config.blocks → IsClosed p b.owed one.graph c j z
+  searched k z j s left asks l =
+      let seeks = seeks_slot p s z asks in
+      let sized : z ≡ made_slot p (Mature seeks.0 seeks.1) = seeks.3 ∙ ap (made_slot p) seeks.2 in
+      subst (λ (z : ℕ). IsClosed p b.owed one.graph c j z) (sym sized) (ends.searched k seeks.0 seeks.1 j (left ∙ ap (λ (s : Statement). Left s) seeks.2) l)

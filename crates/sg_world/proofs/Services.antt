@@ -1,12 +1,12 @@
 -- One mutator is served, as the code goes.
-use Rattle.std.proofs.Common.{◌≡◌, ◌≢◌, ℕ, Some, None, List, ◌∷◌, sym, refl, ap, ◌∙◌, subst}
+use Rattle.std.proofs.Common.{◌≡◌, sym, subst}
 use Rattle.sg_program.specs.declared.program.Statement.{Statement}
 use Rattle.sg_program.specs.declared.program.Statement.TheVariants.{New, NewV, Mature, Collect, Sections as AsksSections}
 use Rattle.sg_program.specs.declared.program.Program.{Program}
 use Rattle.sg_program.specs.declared.answers.Answer.{Answer}
 use Rattle.sg_program.specs.declared.answers.Answer.TheVariants.{At, Fine, Full}
 use Rattle.sg_program.specs.declared.answers.Request.{Request}
-use Rattle.sg_program.specs.declared.answers.Request.TheVariants.{Need, Slot, Sections as AllSections}
+use Rattle.sg_program.specs.declared.answers.Request.TheVariants.{Slot, Sections as AllSections}
 use Rattle.sg_program.specs.Scripts.{IsRequestOf}
 use Rattle.sg_graph.specs.Graph.{Graph}
 use Rattle.sg_graph.specs.Book.{Book}
@@ -15,7 +15,6 @@ use Rattle.sg_graph.specs.Stop.{Placing, Places}
 use Rattle.sg_heap.specs.Holding.{OwesNothing}
 use Rattle.sg_placing.specs.Answering.{FitsStatement}
 use Rattle.sg_rules.specs.Resting.{IsRunnable, IsServiceOf}
-use Rattle.sg_actor.specs.declared.mutator.Stage.{Stage}
 use Rattle.sg_actor.specs.declared.mutator.Stage.TheVariants.{Asking}
 use Rattle.sg_world.specs.Serving.{CanTell}
 

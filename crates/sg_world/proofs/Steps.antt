@@ -1,5 +1,5 @@
 -- The steps of a stop before its answers.
-use Rattle.std.proofs.Common.{◌≡◌, ◌≢◌, ℕ, Bool, true, false, Option, Some, None, List, [], inl, inr, sym, refl, ap, ◌∙◌, subst, ◌↔◌, ◌⊎◌}
+use Rattle.std.proofs.Common.{◌≡◌, ◌≢◌, ℕ, Bool, true, false, Option, Some, None, List, [], ◌∷◌, inl, inr, sym, refl, ap, ◌∙◌, subst, ◌↔◌, ◌⊎◌}
 use Rattle.std.specs.Prelude.{is_some, IsTrue, ◌||◌}
 use Rattle.std.specs.List.{AllByRecursion}
 use Rattle.std.proofs.lemmas.Bool.{cases_Bool}
@@ -8,7 +8,7 @@ use Rattle.sg_words.specs.declared.steps.BlockWord.{BlockWord}
 use Rattle.sg_words.proofs.Blocks.{slot_size-class}
 use Rattle.sg_words.proofs.Everywhere.{contained}
 use Rattle.sg_program.specs.declared.program.Statement.{Statement}
-use Rattle.sg_program.specs.declared.program.Statement.TheVariants.{Mature}
+use Rattle.sg_program.specs.declared.program.Statement.TheVariants.{Mature, Collect}
 use Rattle.sg_program.specs.declared.answers.Request.{Request}
 use Rattle.sg_program.specs.declared.answers.Request.TheVariants.{Need, Slot, Minor, Major, Sections as AllSections}
 use Rattle.sg_program.specs.Scripts.{IsRequestOf, made_words}
@@ -19,13 +19,12 @@ use Rattle.sg_graph.specs.Graph.{Graph}
 use Rattle.sg_graph.specs.Book.{Book, swept_out}
 use Rattle.sg_graph.specs.Laws.{sized_by, sizes_of, AsksNoSlot, IsAsking, AreAsking, LacksWords, LacksSlots, PlacesByWords, PlacesByRoom}
 use Rattle.sg_graph.specs.Laws.LacksSlots.{NoSlot, SlotBefore}
-use Rattle.sg_graph.specs.Stop.{Asked, InFragments, LacksOne, some_wants, wants_minor, wants_major, wants_blocks, WantsMinor, WantsMajor, WantsBlocks, MakesMinor, MakesMajor, MakesRoom}
+use Rattle.sg_graph.specs.Stop.{Asked, InFragments, LacksOne, some_wants, wants_blocks, WantsMinor, WantsMajor, WantsBlocks, MakesRoom}
 use Rattle.sg_space.specs.Space.{Contents}
 use Rattle.sg_space.specs.Standing.{word, block_in, used_in, marks_in}
 use Rattle.sg_heap.specs.Holding.{HoldsHeap, OwesNothing}
 use Rattle.sg_minor.specs.Law.{HasPaused}
 use Rattle.sg_major.specs.Law.{HasCollected}
-use Rattle.sg_major.specs.Parts.{HasNoBuffer}
 use Rattle.sg_placing.specs.declared.placing.Room.{Room}
 use Rattle.sg_placing.specs.declared.placing.Room.TheVariants.{Fragments, SlotsToo}
 use Rattle.sg_world.specs.declared.wants.Wants.{Wants}
@@ -40,6 +39,8 @@ LacksRoom p b s wants = LacksWords b.fragments b.limit b.next wants.needs.items 
 class_of : (p : Program) (s : Statement) (request : Request) (more : List ℕ) → IsRequestOf p s request → AllByRecursion IsSizeClass more →
     AllByRecursion IsSizeClass (sized_by request more)
 class_of p (Mature r class) (Slot size) more asks all = (subst IsSizeClass (sym asks) (slot_size-class (made_words p (Mature r class))), all)
+class_of p (Collect false) (Slot size) more asks all = absurd asks
+class_of p (Collect true) (Slot size) more asks all = absurd asks
 class_of p s (Slot size) more asks all = absurd asks
 class_of p s (Need words) more asks all = all
 class_of p s Minor more asks all = all
@@ -62,11 +63,12 @@ told_by_room law p g b s requests wants asking are holds owes =
     (LacksWords b.fragments b.limit b.next wants.needs.items ⊎ LacksSlots p.config.blocks (block_in s) (used_in s) sizes)) (sym are.sizes)
     (subst (λ (needs : List ℕ). LacksOne p InFragments g b requests ↔
     (LacksWords b.fragments b.limit b.next needs ⊎ LacksSlots p.config.blocks (block_in s) (used_in s) (sizes_of requests))) (sym are.needs)
-    (law p g b (marks_in s) (used_in s) (word s) (block_in s) holds.1.0 requests asking (λ name stands. holds.1.1.objects.given name stands)
-    holds.1.2.blocks (λ c z l e. let q : false ≡ true = sym (owes c l) ∙ (holds.1.2.blocks.each c l).owing z e in cc q)))
+    (law p g b (marks_in s) (used_in s) (word s) (block_in s) holds.1.0 requests asking holds.1.1.laid.objects holds.1.1.laid.fragments holds.1.2.blocks
+    holds.1.2.inhabited (λ c z l e. let q : false ≡ true = sym (owes c l) ∙ (holds.1.2.blocks.each c l).owing z e in cc q)))
 
 -- where no request wants blocks, none is for a slot
-none_wants : (requests : List Asked) → some_wants wants_blocks requests ≡ false → AllByRecursion (λ (asked : Asked). wants_blocks asked.request ≡ false) requests
+none_wants : (requests : List Asked) → some_wants wants_blocks requests ≡ false →
+    AllByRecursion (λ (asked : Asked). wants_blocks asked.request ≡ false) requests
 none_wants [] none = tt
 none_wants (asked ∷ more) none = let both = or_none (wants_blocks asked.request) (some_wants wants_blocks more) none in (both.0, none_wants more both.1)
   where
@@ -91,14 +93,15 @@ sizes_none [] none = refl
 sizes_none (asked ∷ more) (first, rest) = size_none asked.request (sizes_of more) first ∙ sizes_none more rest
 
 no_slots : (blocks : ℕ) (state : ℕ → BlockWord) (used : ℕ → ℕ) (sizes : List ℕ) → sizes ≡ [] → LacksSlots blocks state used sizes → ⊥
-no_slots blocks state used sizes none (NoSlot state used z more all) = absurd (cc none)
-no_slots blocks state used sizes none (SlotBefore state used z more c i there clear below rest) = absurd (cc none)
+no_slots _ _ _ _ none (NoSlot state used z more all) = absurd (cc none)
+no_slots _ _ _ _ none (SlotBefore state used z more c i there clear below rest) = absurd (cc none)
 
 -- behind a major pause blocks are owed: there the words alone tell, since who asks for a slot wants blocks in any case
 module _ (law : PlacesByWords) (p : Program) (g : Graph) (b : Book) (s : Contents) (requests : List Asked) (wants : Wants) (asking : AreAsking p g requests)
     (are : AreWanted requests wants) where
   by_words : some_wants wants_blocks requests ≡ false → LacksRoom p b s wants → LacksOne p InFragments g b requests
-  by_words none (inl l) = (law p g b requests asking (no_slot requests none)).1 (subst (λ (needs : List ℕ). LacksWords b.fragments b.limit b.next needs) are.needs l)
+  by_words none (inl l) = (law p g b requests asking (no_slot requests none)).1
+      (subst (λ (needs : List ℕ). LacksWords b.fragments b.limit b.next needs) are.needs l)
   by_words none (inr l) =
       absurd (no_slots p.config.blocks (block_in s) (used_in s) wants.sizes.items (are.sizes ∙ sizes_none requests (none_wants requests none)) l)
 
@@ -224,7 +227,8 @@ module _ (p : Program) (g : Graph) (b : Book) (requests : List Asked) (wants : W
         still (Some report) e = inr ((λ w. none (wanted_blocks w)), refl)
 
     pub room_in_slots : (IsTrue wants.blocks ⊎ Lacks) → (t : Contents) → HoldsHeap p t g (swept_out b) → HasMadeRoom p g b requests true SlotsToo t
-    room_in_slots given t swept = record { book = swept_out b; makes = out; heap = swept; fits = λ j l. refl; suits = tt; shows = λ e j l. refl; rests = λ e j l. refl }
+    room_in_slots given t swept =
+        record { book = swept_out b; makes = out; heap = swept; fits = λ j l. refl; suits = tt; shows = λ e j l. refl; rests = λ e j l. refl }
       where
         out : (report : Option MajorReport) → is_some report ≡ true → MakesRoom p g b requests report (swept_out b)
         out None e = absurd (cc e)
@@ -235,8 +239,9 @@ pub never : (given : Bool) (A : Type 0) → given ≡ false → (given ≡ true 
 never given A no_one told a = let q : false ≡ true = sym no_one ∙ told.1 a in cc q
 
 -- all steps together
-pub halted_by : (p : Program) (g : Graph) (b : Book) (words : List ℕ) (requests : List Asked) (minor : Option MinorReport) (major : Option MajorReport) (room : Room)
-    (s t u v : Contents) → HoldsHeap p s g (swept_out b) → (made : HasMadeMinor p g (swept_out b) words requests minor t) →
+pub halted_by : (p : Program) (g : Graph) (b : Book) (words : List ℕ) (requests : List Asked) (minor : Option MinorReport)
+    (major : Option MajorReport) (room : Room) (s t u v : Contents) → HoldsHeap p s g (swept_out b) →
+    (made : HasMadeMinor p g (swept_out b) words requests minor t) →
     (more : HasMadeMajor p g made.book words requests minor major u) → HasMadeRoom p g more.book requests (is_some major) room v →
     HasHalted p g b words requests minor major room v
 halted_by p g b words requests minor major room s t u v heap made more last = record {

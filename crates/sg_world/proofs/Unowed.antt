@@ -1,21 +1,20 @@
--- A space that owes no block is as its sweep leaves it, and an epoch leaves it so.
-use Rattle.std.proofs.Common.{◌≡◌, ℕ, zero, suc, ◌<◌, ◌≤◌, Bool, true, false, List, [], ◌∷◌, length, get_or, inl, inr, refl, ap, sym, ◌∙◌, subst, arith}
-use Rattle.std.proofs.lemmas.Bool.{cases_Bool, cases_lt}
+-- A space that owes no block is as its sweep leaves it, and behind an epoch none is owed either.
+use Rattle.std.proofs.Common.{◌≡◌, ℕ, zero, suc, ◌≤◌, Bool, true, false, List, [], ◌∷◌, length, get_or, inl, inr, refl, ap, sym, ◌∙◌, subst, arith}
+use Rattle.std.proofs.lemmas.Bool.{cases_Bool, cases_eq, cases_lt}
 use Rattle.sg_words.specs.Blocks.{IsOwing}
+use Rattle.sg_words.specs.Words.{put}
+use Rattle.sg_words.proofs.Puts.{put-at, put-other}
 use Rattle.sg_words.specs.Sweeps.{swept_word, swept_used}
 use Rattle.sg_words.specs.declared.layout.Layout.{Layout}
 use Rattle.sg_words.specs.declared.steps.BlockWord.{BlockWord}
 use Rattle.sg_words.specs.declared.steps.BlockWord.TheVariants.{Free, Swept, Need, Sweeping}
 use Rattle.sg_program.specs.declared.program.Program.{Program}
 use Rattle.sg_graph.specs.Graph.{Graph}
-use Rattle.sg_graph.specs.Book.{Book, swept_out}
-use Rattle.sg_space.specs.Space.{Contents, IsContents, words_of}
+use Rattle.sg_graph.specs.Book.{Book, swept_out, swept_in}
+use Rattle.sg_space.specs.Space.{Contents, IsContents}
 use Rattle.sg_space.specs.Standing.{block_in, marks_in, used_in}
-use Rattle.sg_space.specs.Swept.{HasSwept}
 use Rattle.sg_heap.specs.Holding.{HoldsHeap, OwesNothing}
 use Rattle.sg_heap.specs.Laws.{SweepLaw}
-use Rattle.sg_order.specs.Rest.{IsHeld}
-use Rattle.sg_mutate.specs.Epochs.{constants_of, LeavesBlocks}
 
 past : (xs : List BlockWord) (c : ℕ) → length xs ≤ c → get_or xs c Free ≡ Free
 past [] c l = refl
@@ -56,16 +55,24 @@ still_swept law p s g b contents holds owes = (law.swept p s s g b contents hold
   kept = λ x no. refl;
 })).0
 
--- an owed block is still to be swept, and such a one was owed before
-not_owed : (state : BlockWord) (z : ℕ) (owed : Bool) → state ≡ Need z → ((y : ℕ) → IsOwing state y → owed ≡ true) → owed ≡ false → ⊥
-not_owed state z owed e owing not = let q : false ≡ true = sym not ∙ owing z (subst (λ (w : BlockWord). IsOwing w z) (sym e) refl) in cc q
+-- what is owed behind a sweep of these blocks was owed before it
+owed_before : (swept : List ℕ) (b : Book) (j : ℕ) → (swept_in b swept).owed j ≡ true → b.owed j ≡ true
+owed_before [] b j e = e
+owed_before (i ∷ more) b j e = elim (cases_eq j i) [
+  | inl same ↦ let q : false ≡ true = sym (put-at b.owed i false j same) ∙ owed_before more (record b { owed = put b.owed i false }) j e in absurd (cc q)
+  | inr other ↦ sym (put-other b.owed i false j other) ∙ owed_before more (record b { owed = put b.owed i false }) j e
+]
 
-pub still_unowed : (p : Program) (s t : Contents) (g h : Graph) (b c : Book) → LeavesBlocks s t → HoldsHeap p s g b → OwesNothing p b →
-    IsHeld p (constants_of s) (words_of t) h c → OwesNothing p c
-still_unowed p s t g h b c leaves holds owes held j l = elim (cases_Bool (c.owed j)) [
+-- which blocks are owed behind it depends on nothing else of the book
+pub same_owed : (swept : List ℕ) (b c : Book) → c.owed ≡ b.owed → (swept_in c swept).owed ≡ (swept_in b swept).owed
+same_owed [] b c e = e
+same_owed (j ∷ more) b c e =
+    same_owed more (record b { owed = put b.owed j false }) (record c { owed = put c.owed j false }) (ap (λ (owed : ℕ → Bool). put owed j false) e)
+
+-- where nothing is owed before an epoch, no turn of which changes that, nothing is owed behind the sweeps in it
+pub still_unowed : (p : Program) (b c : Book) (swept : List ℕ) → c.owed ≡ b.owed → OwesNothing p b → OwesNothing p (swept_in c swept)
+still_unowed p b c swept same owes j l = elim (cases_Bool ((swept_in c swept).owed j)) [
   | inl e ↦
-      let need = held.settled.owes j l e in
-      let was : block_in s j ≡ block_in t j = ap (λ (f : ℕ → BlockWord). f j) (sym leaves.block) in
-      absurd (not_owed (block_in s j) need.0 (b.owed j) (was ∙ need.1) (holds.1.2.blocks.each j l).owing (owes j l))
+      let q : true ≡ false = sym (owed_before swept c j e) ∙ ap (λ (owed : ℕ → Bool). owed j) same ∙ owes j l in absurd (cc q)
   | inr e ↦ e
 ]

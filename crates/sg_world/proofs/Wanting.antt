@@ -1,14 +1,13 @@
 -- What the requests of a stop want, told mutator by mutator.
-use Rattle.std.proofs.Common.{◌≡◌, ℕ, ◌+◌, ◌<◌, ◌||◌, Bool, true, false, Option, Some, None, List, [], ◌∷◌, ◌++◌, length, get_or, take, sym, refl, ap, ◌∙◌, subst, append-nil}
+use Rattle.std.proofs.Common.{◌≡◌, ℕ, ◌+◌, ◌<◌, ◌||◌, Bool, true, false, Some, List, [], ◌∷◌, ◌++◌, length, get_or, take, sym, refl, ap, ◌∙◌, subst, append-nil}
 use Rattle.std.proofs.lemmas.List.{take_more}
 use Rattle.std.proofs.lemmas.List.Concat.{flat_map-append}
-use Rattle.sg_program.specs.declared.answers.Leave.{Leave}
 use Rattle.sg_program.specs.declared.answers.Leave.TheVariants.{Wants as HasAsked}
 use Rattle.sg_program.specs.declared.answers.Request.{Request}
 use Rattle.sg_graph.specs.Laws.{needed_by, needs_of, sized_by, sizes_of}
 use Rattle.sg_graph.specs.Stop.{Asked, wants_minor, wants_major, wants_blocks, some_wants}
 use Rattle.sg_actor.specs.declared.mutator.Stage.{Stage}
-use Rattle.sg_actor.specs.declared.mutator.Stage.TheVariants.{Ended, Asking, Yielded}
+use Rattle.sg_actor.specs.declared.mutator.Stage.TheVariants.{Asking}
 use Rattle.sg_actor.specs.State.{Mutating, leave_of}
 use Rattle.sg_world.specs.declared.wants.Wants.{Wants}
 use Rattle.sg_world.specs.Stopping.{asked_of, requests_of, AreWanted}
@@ -38,7 +37,8 @@ wants_none requests m stage wants none are =
     subst (λ (xs : List Asked). AreWanted xs wants) (sym (append-nil requests) ∙ ap (λ xs. requests ++ xs) (sym none)) are
 
 -- with one request more
-pub wants_one : (requests : List Asked) (m : Mutating) (stage : Stage) (request : Request) (old new : Wants) → AsksFor m stage request → AreWanted requests old →
+pub wants_one : (requests : List Asked) (m : Mutating) (stage : Stage) (request : Request) (old new : Wants) → AsksFor m stage request →
+    AreWanted requests old →
     new.minor ≡ (old.minor || wants_minor request) → new.major ≡ (old.major || wants_major request) → new.blocks ≡ (old.blocks || wants_blocks request) →
     new.needs.items ≡ old.needs.items ++ needed_by request [] → new.sizes.items ≡ old.sizes.items ++ sized_by request [] →
     AreWanted (requests ++ asked_of m stage) new

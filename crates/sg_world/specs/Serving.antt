@@ -67,17 +67,17 @@ services_in None = []
 services_in (Some service) = service ∷ []
 
 -- what mutator k, which went on, left of graph and book
-pub record HasGoneOn (p : Program) (how : Placing) (g : Graph) (b : Book) (k : ℕ) (m : Mutating) (services : List Service) (t : Contents) (n : Mutating) : Type 0
-  where
-    pub graph : Graph
-    pub book : Book
-    pub holding : IsHolding p t graph book
-    pub serves : Serves p how g b (asked_of m m.stage) services graph book
-    pub others : (j : ℕ) (x : Actor) (script : List Statement) → j ≢ k → IsReady p g b j x script → IsReady p graph book j x script
-    pub owed : book.owed ≡ b.owed
-    pub ended : (j : ℕ) → (graph.mutator j).ended ≡ (g.mutator j).ended
-    pub own : IsReadyNow p graph book k n
-    pub further : IsFurther m n
+pub record HasGoneOn (p : Program) (how : Placing) (g : Graph) (b : Book) (k : ℕ) (m : Mutating) (services : List Service)
+    (t : Contents) (n : Mutating) : Type 0 where
+  pub graph : Graph
+  pub book : Book
+  pub holding : IsHolding p t graph book
+  pub serves : Serves p how g b (asked_of m m.stage) services graph book
+  pub others : (j : ℕ) (x : Actor) (script : List Statement) → j ≢ k → IsReady p g b j x script → IsReady p graph book j x script
+  pub owed : book.owed ≡ b.owed
+  pub ended : (j : ℕ) → (graph.mutator j).ended ≡ (g.mutator j).ended
+  pub own : IsReadyNow p graph book k n
+  pub further : IsFurther m n
 
 -- what these mutators, from number i on, which went on, left of graph and book
 pub record HaveGoneOn (p : Program) (how : Placing) (g : Graph) (b : Book) (i : ℕ) (ms : List Mutating) (services : List Service) (t : Contents)

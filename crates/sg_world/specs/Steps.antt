@@ -1,5 +1,5 @@
 -- What the steps of a stop before its answers make, by the graph and the book that the space holds. No step changes the graph.
-use Rattle.std.specs.Prelude.{◌≡◌, ℕ, ◌⊎◌, Bool, true, false, Option, Some, None, List, IsTrue, is_some}
+use Rattle.std.specs.Prelude.{◌≡◌, ℕ, ◌⊎◌, Bool, true, false, Option, Some, List, IsTrue, is_some}
 use Rattle.sg_program.specs.declared.program.Program.{Program}
 use Rattle.sg_graph.specs.declared.reports.MinorReport.{MinorReport}
 use Rattle.sg_graph.specs.declared.reports.MajorReport.{MajorReport}
@@ -19,7 +19,8 @@ abbrev pub HoldsAny : Contents → Type 0
 HoldsAny s = (p : Program) × (g : Graph) × (b : Book) × HoldsHeap p s g b
 
 -- a minor pause was made where it is wanted, and the space holds the graph by the book behind it
-pub record HasMadeMinor (p : Program) (g : Graph) (b : Book) (words : List ℕ) (requests : List Asked) (report : Option MinorReport) (t : Contents) : Type 0 where
+pub record HasMadeMinor (p : Program) (g : Graph) (b : Book) (words : List ℕ) (requests : List Asked) (report : Option MinorReport)
+    (t : Contents) : Type 0 where
   pub book : Book
   pub makes : MakesMinor p g b words requests report g book
   pub copies : (minor : MinorReport) → report ≡ Some minor → CopiesInOrder p g b words book

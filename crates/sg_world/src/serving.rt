@@ -87,7 +87,8 @@ fn sections_for(
     asking: Statement,
 ) -> Result<Option<Sections>, AllocError>
     requires swept { asking ≡ AsksSections → HoldsSwept space.now }
-    ensures { IfOk result (λ told. (p : AnyProgram) (g : Graph) (b : Book) → HoldsHeap p space.now g b → (asking ≡ AsksSections → OwesNothing p b) → Shows p g b asking told) }
+    ensures { IfOk result (λ told. (p : AnyProgram) (g : Graph) (b : Book) → HoldsHeap p space.now g b → (asking ≡ AsksSections → OwesNothing p b) →
+        Shows p g b asking told) }
 {
     match asking {
         Statement::Sections => Ok(Some(sections(alloc, space)?)),

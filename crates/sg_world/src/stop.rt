@@ -58,7 +58,8 @@ pub(crate) fn halt(
     requires some { (p : AnyProgram) × (g : Graph) × (b : Book) × (requests : Sequence Asked) × HoldsHeap p space g b × IsPlain p g × AreAsking p g requests
         × AreWanted requests wants.now × (owes ≡ false → OwesNothing p b) }
     ensures halted { IfOk result (λ halt. (p : AnyProgram) (g : Graph) (b : Book) (requests : Sequence Asked) → HoldsHeap p space g b →
-        (owes ≡ false → OwesNothing p b) → IsPlain p g → AreAsking p g requests → AreWanted requests wants.now → HasHalted p g b words.now requests halt.minor halt.major halt.room halt.space) }
+        (owes ≡ false → OwesNothing p b) → IsPlain p g → AreAsking p g requests → AreWanted requests wants.now →
+        HasHalted p g b words.now requests halt.minor halt.major halt.room halt.space) }
     ensures contents { IfOk result (λ halt. IsContents halt.space) }
     ensures going { IfOk result (λ halt. halt.space.stop ≡ 0) }
 {
@@ -83,7 +84,8 @@ pub(crate) fn halt(
 /// Sweeps all blocks that are owed, where some may be.
 fn begin(space: &mut Space, owes: bool)
     requires some { (p : AnyProgram) × (g : Graph) × (b : Book) × HoldsHeap p space.old g b × (owes ≡ false → OwesNothing p b) }
-    ensures swept { (p : AnyProgram) (g : Graph) (b : Book) → HoldsHeap p space.old g b → (owes ≡ false → OwesNothing p b) → HoldsHeap p space.new g (swept_out b) }
+    ensures swept { (p : AnyProgram) (g : Graph) (b : Book) → HoldsHeap p space.old g b → (owes ≡ false → OwesNothing p b) →
+        HoldsHeap p space.new g (swept_out b) }
     ensures stop { space.new.stop ≡ space.old.stop }
 {
     // The law that it rests on: this call does nothing.
@@ -118,12 +120,7 @@ fn is_wanted(alloc: Global, space: &Space, given: bool, wants: &Wants) -> Result
     if given {
         return Ok(true);
     }
-    let lacks = lacks_room(
-        alloc,
-        space,
-        wants.needs.as_slice(),
-        wants.sizes.as_slice(),
-    )?;
+    let lacks = lacks_room(alloc, space, wants.needs.as_slice(), wants.sizes.as_slice())?;
     Ok(lacks)
 }
 
@@ -136,8 +133,8 @@ fn minor_pause(
 ) -> Result<(Space, Option<MinorReport>), AllocError>
     requires some { HoldsSome space }
     requires classes { AllByRecursion IsSizeClass wants.now.sizes.items }
-    ensures made { IfOk result (λ r. (p : AnyProgram) (g : Graph) (b : Book) (requests : Sequence Asked) → HoldsHeap p space g b → OwesNothing p b → IsPlain p g →
-        AreAsking p g requests → AreWanted requests wants.now → HasMadeMinor p g b words.now requests r.1 r.0) }
+    ensures made { IfOk result (λ r. (p : AnyProgram) (g : Graph) (b : Book) (requests : Sequence Asked) → HoldsHeap p space g b → OwesNothing p b →
+        IsPlain p g → AreAsking p g requests → AreWanted requests wants.now → HasMadeMinor p g b words.now requests r.1 r.0) }
     ensures stop { IfOk result (λ r. r.0.stop ≡ space.stop) }
 {
     // The law that it rests on: this call does nothing.
@@ -161,8 +158,8 @@ fn major_pause(
     requires some { (p : AnyProgram) × (g : Graph) × (b : Book) × HoldsHeap p space g b × OwesNothing p b × IsPlain p g
         × ((report : AnyReport) → minor.now ≡ Some report → HasNoBuffer b) }
     requires classes { AllByRecursion IsSizeClass wants.now.sizes.items }
-    ensures made { IfOk result (λ r. (p : AnyProgram) (g : Graph) (b : Book) (requests : Sequence Asked) → HoldsHeap p space g b → OwesNothing p b → IsPlain p g →
-        ((report : AnyReport) → minor.now ≡ Some report → HasNoBuffer b) → AreAsking p g requests → AreWanted requests wants.now →
+    ensures made { IfOk result (λ r. (p : AnyProgram) (g : Graph) (b : Book) (requests : Sequence Asked) → HoldsHeap p space g b → OwesNothing p b →
+        IsPlain p g → ((report : AnyReport) → minor.now ≡ Some report → HasNoBuffer b) → AreAsking p g requests → AreWanted requests wants.now →
         HasMadeMajor p g b words.now requests minor.now r.1 r.0) }
     ensures stop { IfOk result (λ r. r.0.stop ≡ space.stop) }
 {

@@ -86,6 +86,46 @@ fn program(alloc: Global) -> Result<Program, AllocError>
     })
 }
 
+/// One mutator: it makes as many objects in the major heap as its one block has slots for, drops the second one and makes one more.
+fn crowded(alloc: Global) -> Result<Program, AllocError>
+    ensures { IfOk result CanRun }
+{
+    let mut bytes = Vec::new(alloc);
+    bytes.push(80)?;
+    let mut classes = Vec::new(alloc);
+    classes.push(Class {
+        name: Name {
+            bytes: List::from_vec(bytes),
+        },
+        shape: Shape {
+            fields: 62,
+            kind: Descriptor::PtrFree,
+        },
+    })?;
+    let statements = [
+        Statement::Mature { r: 0, class: 0 },
+        Statement::Mature { r: 1, class: 0 },
+        Statement::Mature { r: 2, class: 0 },
+        Statement::Mature { r: 3, class: 0 },
+        Statement::Drop { r: 1 },
+        Statement::Mature { r: 4, class: 0 },
+    ];
+    let mut mutators = Vec::new(alloc);
+    mutators.push(script(alloc, &statements)?)?;
+    Ok(Program {
+        config: Config {
+            nursery: 256,
+            blocks: 1,
+            pages: 0,
+            buffer: 16,
+            workers: 1,
+            cement: 1,
+        },
+        classes: List::from_vec(classes),
+        mutators: List::from_vec(mutators),
+    })
+}
+
 /// What a world tells of an epoch, the stop behind it and the next epoch, and whether all have ended then.
 #[derive(Drop)]
 struct Ran {
@@ -195,6 +235,46 @@ fn two_mutators(rt: HostRuntime) -> Result<(), Fail> {
     assert_eq!(rt; parts.len(), 2);
     assert!(rt; tells(&parts[0], 0, 2, Answer::Fine, Leave::Ended));
     assert!(rt; tells(&parts[1], 1, 1, Answer::At(back), Leave::Ended));
+    assert!(rt; done);
+    Ok(())
+}
+
+// By hand: the major heap begins at word 768, and an object of 64 words has one of four slots of its block. The last one finds no slot, so that a stop
+// is asked for: the minor pause frees no block, the major one finds that the second object isn't held any more, and behind the sweep its slot is open.
+#[test]
+fn a_full_block(rt: HostRuntime) -> Result<(), Fail> {
+    let program = crowded(rt.alloc())?;
+    let Some(ran) = go_twice(rt.alloc(), &program)? else {
+        return Err("no stop".into());
+    };
+    let Ran {
+        first,
+        stop,
+        second,
+        done,
+    } = ran;
+    let parts = first.parts.into_vec();
+    assert_eq!(rt; parts.len(), 1);
+    assert_eq!(rt; parts[0].leave, Leave::Wants(Request::Slot { size: 64 }));
+    let answers = parts[0].answers.as_slice();
+    assert_eq!(rt; answers.len(), 5);
+    let front = Addr::of(6144).ok_or("an address")?;
+    let open = Addr::of(6656).ok_or("an address")?;
+    assert_eq!(rt; answers[0], Answer::At(front));
+    assert_eq!(rt; answers[1], Answer::At(open));
+    assert_eq!(rt; answers[2], Answer::At(front.plus(128)));
+    assert_eq!(rt; answers[3], Answer::At(front.plus(192)));
+    assert_eq!(rt; answers[4], Answer::Fine);
+    let minor = stop.minor.ok_or("a pause")?;
+    assert_eq!(rt; minor.pins.into_vec().len(), 0);
+    let major = stop.major.ok_or("a major pause")?;
+    assert_eq!(rt; major.kept, 3);
+    assert_eq!(rt; major.freed, 1);
+    let served = stop.served.into_vec();
+    assert_eq!(rt; served.len(), 1);
+    assert_eq!(rt; served[0].statement, 5);
+    assert_eq!(rt; served[0].answer, Answer::At(open));
+    assert!(rt; second.last);
     assert!(rt; done);
     Ok(())
 }

@@ -5,7 +5,8 @@ use Rattle.sg_program.specs.declared.program.Program.{Program}
 use Rattle.sg_space.specs.Space.{words_of}
 use Rattle.sg_frag.specs.declared.plain.PlainPort.{PlainPort}
 use Rattle.sg_frag.specs.Plain.{Led, MayCall}
-use Rattle.sg_frag.specs.Leading.{limit_of}
+use Rattle.sg_frag.specs.Leading.{limit_of, marks_of}
+use Rattle.sg_words.specs.Sections.{old_base}
 use Rattle.sg_rules.specs.Rules.{Constants, Actor}
 use Rattle.sg_actor.specs.Turning.{IsOnPort}
 use Rattle.sg_mutate.specs.Going.{IsOnSpace}
@@ -16,7 +17,7 @@ Leads p steps q = (q.space.ghost_name ≡ p.space.ghost_name) × Led p.space.now
 
 on_port : (p : Program) (lay : Constants) (port : PlainPort) (a : Actor) → IsOnSpace p lay port.space.now a →
     IsOnPort p lay Leads (λ q call. MayCall q.space.now call) (λ q s. Saw (words_of q.space.now) s) (λ q. length q.space.now.ends)
-    (λ q. limit_of q.space.now.ends) port a
+    (λ q. limit_of q.space.now.ends) (λ q. length q.space.now.blocks) (λ q. old_base q.space.now.layout) (λ q. marks_of q.space.now.marks) port a
 on_port p lay port a on = record {
   guided = record {
     is_sane = on.guided.is_sane;
@@ -25,6 +26,9 @@ on_port p lay port a on = record {
   };
   fragments_are = on.fragments_are;
   limits_are = on.limits_are;
+  blocks_are = on.blocks_are;
+  heap_is = on.heap_is;
+  marks_are = on.marks_are;
 }
 
 pub turn_on-requires-clause-on : goal.turn_on-requires-clause-on

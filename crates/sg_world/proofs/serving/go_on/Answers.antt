@@ -1,8 +1,6 @@
-use Rattle.std.proofs.Common.{◌≡◌, ◌+◌, ℕ, Some, None, length, sym, refl, ap, ◌∙◌, subst}
-use Rattle.sg_program.specs.declared.program.Program.{Program}
+use Rattle.std.proofs.Common.{◌+◌, length, sym, refl, ◌∙◌, subst}
 use Rattle.sg_actor.specs.declared.mutator.Stage.{Stage}
 use Rattle.sg_actor.specs.State.{MayServe}
-use Rattle.sg_graph.specs.Stop.{Placing}
 use Rattle.sg_placing.specs.Answering.{placing_in}
 use Rattle.sg_world.specs.Serving.{CanTell}
 use Rattle.sg_world.specs.Worlds.{HasLeftReady}

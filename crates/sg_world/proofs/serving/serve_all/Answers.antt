@@ -1,11 +1,9 @@
-use Rattle.std.proofs.Common.{◌≡◌, ◌<◌, ◌++◌, ◌∷◌, [], ℕ, Option, Some, None, List, length, get_or, take, refl, sym, ap, ◌∙◌, subst, arith, append-nil}
+use Rattle.std.proofs.Common.{◌≡◌, ◌<◌, ◌++◌, [], Option, List, length, take, refl, sym, ap, ◌∙◌, subst, arith, append-nil}
 use Rattle.std.proofs.lemmas.List.{take_all}
 use Rattle.sg_graph.specs.declared.reports.Service.{Service}
-use Rattle.sg_graph.specs.Graph.{Graph}
-use Rattle.sg_graph.specs.Book.{Book}
 use Rattle.sg_actor.specs.State.{Mutating}
 use Rattle.sg_placing.specs.Answering.{placing_in}
-use Rattle.sg_world.specs.Serving.{MayAllGoOn, HaveGoneOn, services_in}
+use Rattle.sg_world.specs.Serving.{HaveGoneOn, services_in}
 use Rattle.sg_world.proofs.AllOnward.{none_gone, next_may, next_fits, goes_more}
 use Rattle.sg_world.proofs.Lists.{rest_more}
 use Rattle.sg_world.proofs.serving.serve_all.Goals.{in-Some+in_ok-push-in-Some, in-None}

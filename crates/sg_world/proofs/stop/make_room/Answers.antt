@@ -1,5 +1,5 @@
 use Rattle.sg_graph.specs.Stop.{InFragments, LacksOne}
-use Rattle.std.proofs.Common.{◌≡◌, true, false, Bool, [], sym, ◌∙◌, subst}
+use Rattle.std.proofs.Common.{Bool, [], sym, subst}
 use Rattle.sg_placing.specs.declared.placing.Room.TheVariants.{Fragments, SlotsToo}
 use Rattle.sg_world.specs.Steps.{HasMadeRoom}
 use Rattle.sg_world.proofs.Steps.{told_by_words, never, room_without, room_in_fragments, room_in_slots}
@@ -8,7 +8,8 @@ use Rattle.sg_world.proofs.stop.make_room.Goals as goal
 pub returns-then-not-major-clause-made : goal.returns-then-not-major-clause-made
 returns-then-not-major-clause-made c p g b requests holds owes asking are =
     subst (λ (major : Bool). HasMadeRoom p g b requests major Fragments c.args.space.now) (sym c.if-not-major.true)
-    (room_without p g b requests c.args.wants.now are (LacksOne p InFragments g b requests) ((λ l. l), (λ l. l)) c.args.space.now holds [] (owes c.if-not-major.true))
+    (room_without p g b requests c.args.wants.now are (LacksOne p InFragments g b requests) ((λ l. l), (λ l. l)) c.args.space.now holds []
+    (owes c.if-not-major.true))
 
 pub returns-then-not-branch-clause-made : goal.returns-then-not-branch-clause-made
 returns-then-not-branch-clause-made c p g b requests holds owes asking are =

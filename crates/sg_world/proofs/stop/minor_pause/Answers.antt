@@ -1,4 +1,4 @@
-use Rattle.sg_world.proofs.Steps.{LacksRoom, told_by_room, wanted_classes, never, no_minor, some_minor}
+use Rattle.sg_world.proofs.Steps.{LacksRoom, told_by_room, never, no_minor, some_minor}
 use Rattle.sg_world.proofs.stop.minor_pause.Goals as goal
 
 pub returns-then-not-branch-clause-made : goal.returns-then-not-branch-clause-made

@@ -55,7 +55,7 @@ overflow_add-block g c =
     let lay = c.requires.on.0 in
     let on = c.requires.on.1 in
     let here = on_there m (BehindSweep s b) c.requires.stage o lay x on in
-    let there : b < m.program.config.blocks = here.guided.is_sane.there in
+    let there : b < m.program.config.blocks = (here.guided.is_sane tt).there in
     let limits = subst (λ (m : Mutating). IsWithinLimits m.program) c.self.view_is c.self.invariant.limits in
     omega (arith, there, limits.settings.blocks_most)
 
@@ -76,7 +76,7 @@ search-requires-clause-on g c =
     let look = c.in-None.ensures in
     let landing = sight_on m.program lay (actor_of m) m.script s true b o c.slot-size.result size x here look.0 None look.2 y look.1 in
     let there : b + 1 ≤ n.program.config.blocks =
-    let l = here.guided.is_sane.there in let e = ap (λ p. p.config.blocks) program in omega (arith, l, e) in
+    let l = (here.guided.is_sane tt).there in let e = ap (λ p. p.config.blocks) program in omega (arith, l, e) in
     (lay, there, again_on m n c.resume.ensures.actor program s (b + 1) o lay y landing)
 
 pub returns-in-Some-clause-turned : goal.returns-in-Some-clause-turned

@@ -4,7 +4,7 @@ use Rattle.std.proofs.lemmas.Nat.Bits.{shr_and_one}
 use Rattle.sg_words.specs.Blocks.{slot_size, slot_base}
 use Rattle.sg_words.proofs.Blocks.{bit_cases}
 use Rattle.sg_program.specs.Scripts.{made_slot}
-use Rattle.sg_rules.specs.Rules.{StoreLength, sections_of, slot_word, within}
+use Rattle.sg_rules.specs.Rules.{StoreLength, sections_of, slot_front, within}
 use Rattle.sg_rules.specs.Acting.{RestsAt}
 use Rattle.sg_actor.specs.declared.mutator.Stage.{Stage}
 use Rattle.sg_actor.specs.State.{Mutating, actor_of, mid_of}
@@ -62,8 +62,8 @@ finish-requires-clause-on g c =
     let first : number ≡ slot_base (sections_of m.program) b (made_slot m.program s) i =
     c.slot_at-number.ensures ∙ ap (λ (v : Mutating). slot_base (sections_of v.program) b c.slot-size.result i) c.self.view_is
     ∙ ap (λ z. slot_base (sections_of m.program) b z i) size in
-    let is : number ≡ slot_word m.program b (made_slot m.program s) i 0 = omega (arith, first) in
-    let header = within (actor_of m) m.script (StoreLength s (slot_word m.program b (made_slot m.program s) i 0)) in
+    let is : number ≡ slot_front m.program b (made_slot m.program s) i = omega (arith, first) in
+    let header = within (actor_of m) m.script (StoreLength s (slot_front m.program b (made_slot m.program s) i)) in
     let same : within (actor_of n) n.script (StoreLength s number) ≡ header =
     goes_at m n c.resume.ensures.actor program (StoreLength s number) ∙ ap (λ k. within (actor_of m) m.script (StoreLength s k)) is in
     let here = on_as o lay m.program n.program program header (within (actor_of n) n.script (StoreLength s number)) same y (led_on o m lay x on header y led) in
@@ -112,8 +112,8 @@ returns-then-found-slot-eq0-clause-turned g c lay on =
     let first : number ≡ slot_base (sections_of m.program) b (made_slot m.program s) i =
     c.slot_at-number.ensures ∙ ap (λ (v : Mutating). slot_base (sections_of v.program) b c.slot-size.result i) c.self.view_is
     ∙ ap (λ z. slot_base (sections_of m.program) b z i) size in
-    let is : number ≡ slot_word m.program b (made_slot m.program s) i 0 = omega (arith, first) in
-    let header = within (actor_of m) m.script (StoreLength s (slot_word m.program b (made_slot m.program s) i 0)) in
+    let is : number ≡ slot_front m.program b (made_slot m.program s) i = omega (arith, first) in
+    let header = within (actor_of m) m.script (StoreLength s (slot_front m.program b (made_slot m.program s) i)) in
     let same : within (actor_of n) n.script (StoreLength s number) ≡ header =
     goes_at m n c.resume.ensures.actor program (StoreLength s number) ∙ ap (λ k. within (actor_of m) m.script (StoreLength s k)) is in
     let here = on_as o lay m.program n.program program header (within (actor_of n) n.script (StoreLength s number)) same y (led_on o m lay x on header y led) in

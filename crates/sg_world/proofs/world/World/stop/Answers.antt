@@ -1,4 +1,4 @@
-use Rattle.std.proofs.Common.{◌≡◌, ◌+◌, ℕ, List, length, refl, sym, ap, ◌∙◌, subst, arith}
+use Rattle.std.proofs.Common.{◌≡◌, ◌+◌, ℕ, List, length, refl, sym, ◌∙◌, subst, arith}
 use Rattle.sg_program.specs.declared.program.Program.{Program}
 use Rattle.sg_placing.specs.Answering.{placing_in}
 use Rattle.sg_actor.specs.State.{Mutating}
@@ -15,10 +15,22 @@ halt-requires c =
     let r = c.requires in
     let ms : List Mutating = c.as_slice.result.now in
     let listed : ms ≡ c.self.inside.mutators = c.as_slice.ensures.value ∙ c.into_vec-mutators.ensures in
-    let world : Worldly = record { program = c.self.inside.program.now; space = c.self.inside.space; mutators = ms; number = c.self.inside.number; owes = c.self.inside.owes } in
+    let world : Worldly = record {
+      program = c.self.inside.program.now;
+      space = c.self.inside.space;
+      mutators = ms;
+      number = c.self.inside.number;
+      owes = c.self.inside.owes;
+    } in
     let same : c.args.self ≡ world =
     sym c.self.view_is ∙
-    (λ i. record { program = c.self.inside.program.now; space = c.self.inside.space; mutators = sym listed i; number = c.self.inside.number; owes = c.self.inside.owes }) in
+    (λ i. record {
+      program = c.self.inside.program.now;
+      space = c.self.inside.space;
+      mutators = sym listed i;
+      number = c.self.inside.number;
+      owes = c.self.inside.owes;
+    }) in
     let t = subst (λ (w : Worldly). IsAtStop r.0 r.1 r.2 r.3 r.4 r.5 w r.6) same r.7 in
     let wants = subst (λ (xs : List Mutating). AreWanted (requests_of xs) c.in_ok-wants.wants) (c.as_slice-2.ensures.value ∙ sym c.as_slice.ensures.value)
     c.in_ok-wants.ensures in
@@ -31,10 +43,22 @@ serve_all-requires-clause-may c =
     let r = c.requires in
     let ms : List Mutating = c.as_slice.result.now in
     let listed : ms ≡ c.self.inside.mutators = c.as_slice.ensures.value ∙ c.into_vec-mutators.ensures in
-    let world : Worldly = record { program = c.self.inside.program.now; space = c.self.inside.space; mutators = ms; number = c.self.inside.number; owes = c.self.inside.owes } in
+    let world : Worldly = record {
+      program = c.self.inside.program.now;
+      space = c.self.inside.space;
+      mutators = ms;
+      number = c.self.inside.number;
+      owes = c.self.inside.owes;
+    } in
     let same : c.args.self ≡ world =
     sym c.self.view_is ∙
-    (λ i. record { program = c.self.inside.program.now; space = c.self.inside.space; mutators = sym listed i; number = c.self.inside.number; owes = c.self.inside.owes }) in
+    (λ i. record {
+      program = c.self.inside.program.now;
+      space = c.self.inside.space;
+      mutators = sym listed i;
+      number = c.self.inside.number;
+      owes = c.self.inside.owes;
+    }) in
     let t = subst (λ (w : Worldly). IsAtStop r.0 r.1 r.2 r.3 r.4 r.5 w r.6) same r.7 in
     let wants = subst (λ (xs : List Mutating). AreWanted (requests_of xs) c.in_ok-wants.wants) (c.as_slice-2.ensures.value ∙ sym c.as_slice.ensures.value)
     c.in_ok-wants.ensures in
@@ -65,7 +89,13 @@ overflow_add-world c =
     let r = c.requires in
     let t = subst (λ (w : Worldly). IsAtStop r.0 r.1 r.2 r.3 r.4 r.5 w r.6) (sym c.self.view_is) r.7 in
     let world : Worldly =
-    record { program = c.self.inside.program.now; space = c.self.inside.space; mutators = c.self.inside.mutators; number = c.self.inside.number; owes = c.self.inside.owes } in
+    record {
+      program = c.self.inside.program.now;
+      space = c.self.inside.space;
+      mutators = c.self.inside.mutators;
+      number = c.self.inside.number;
+      owes = c.self.inside.owes;
+    } in
     let l = few_epochs r.0 world t.of in
     omega arith
 
@@ -73,10 +103,22 @@ pub returns-clause-between : goal.returns-clause-between
 returns-clause-between c p turns phases report order swept schedule at =
     let ms : List Mutating = c.as_slice.result.now in
     let listed : ms ≡ c.self.inside.mutators = c.as_slice.ensures.value ∙ c.into_vec-mutators.ensures in
-    let world : Worldly = record { program = c.self.inside.program.now; space = c.self.inside.space; mutators = ms; number = c.self.inside.number; owes = c.self.inside.owes } in
+    let world : Worldly = record {
+      program = c.self.inside.program.now;
+      space = c.self.inside.space;
+      mutators = ms;
+      number = c.self.inside.number;
+      owes = c.self.inside.owes;
+    } in
     let same : c.args.self ≡ world =
     sym c.self.view_is ∙
-    (λ i. record { program = c.self.inside.program.now; space = c.self.inside.space; mutators = sym listed i; number = c.self.inside.number; owes = c.self.inside.owes }) in
+    (λ i. record {
+      program = c.self.inside.program.now;
+      space = c.self.inside.space;
+      mutators = sym listed i;
+      number = c.self.inside.number;
+      owes = c.self.inside.owes;
+    }) in
     let t = subst (λ (w : Worldly). IsAtStop p turns phases report order swept w schedule) same at in
     let wants = subst (λ (xs : List Mutating). AreWanted (requests_of xs) c.in_ok-wants.wants) (c.as_slice-2.ensures.value ∙ sym c.as_slice.ensures.value)
     c.in_ok-wants.ensures in

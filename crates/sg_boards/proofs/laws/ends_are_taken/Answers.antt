@@ -1,5 +1,0 @@
-use Rattle.sg_boards.proofs.Taking.{ends_are_taken}
-use Rattle.sg_boards.proofs.laws.ends_are_taken.Goals as goal
-
-pub returns : goal.returns
-returns c = ends_are_taken

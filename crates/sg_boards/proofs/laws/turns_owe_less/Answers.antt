@@ -1,5 +1,0 @@
-use Rattle.sg_boards.proofs.OwedLess.{turns_owe_less}
-use Rattle.sg_boards.proofs.laws.turns_owe_less.Goals as goal
-
-pub returns : goal.returns
-returns c = turns_owe_less
