@@ -2,7 +2,8 @@
 ghost use Rattle.std.specs.Prelude.{◌≡◌, ◌*◌, ◌/◌, ◌<◌, ◌≤◌, ◌++◌, ℕ, IfOk};
 ghost use Rattle.std.specs.Fmt.{decimal};
 ghost use Rattle.std.specs.List.{flat_map};
-ghost use Rattle.sg_gen.specs.Generated.{around, draw as draw_of, drawn, growing_text, moves, move_text, reading_text, shrinking_text, mutator_text, mutator_texts, settings_text, script_text};
+ghost use Rattle.sg_gen.specs.Generated.{around, draw as draw_of, drawn, moves, move_text, growing_text, reading_text, shrinking_text};
+ghost use Rattle.sg_gen.specs.Generated.{mutator_text, mutator_texts, settings_text, script_text};
 
 use itoa::Buffer;
 use rand_core::utils::NextWord;
@@ -23,8 +24,9 @@ pub(crate) enum Move {
     Shrinks { global: u32 },
 }
 
-/// The text of the program of this seed and size: four mutators with `size / 24` moves each, six statements a move. The one error is want of
-/// memory. Linear in the text, about 100 bytes a move.
+/// The text of the program of this seed and size: four mutators with `size / 24` moves each, six statements a move, so `size` is how many
+/// statements all mutators have together, rounded down to a multiple of 24. The one error is want of memory. Linear in the text, which has
+/// about 70 bytes a move.
 pub fn script(alloc: Global, seed: u64, size: u32) -> Result<Vec<u8>, AllocError>
     ensures { IfOk result (λ text. text.items ≡ script_text seed size) }
 {

@@ -1,9 +1,4 @@
-use Rattle.std.proofs.Common.{◌≡◌, ◌+◌, ◌++◌, ◌∷◌, [], List, ℕ, suc, sym, refl, ap, ◌∙◌, subst}
-use Rattle.std.specs.List.{flat_map}
-use Rattle.std.proofs.lemmas.List.Concat.{flat_map-append}
-use Rattle.rand_pcg.specs.Lcg.{Lcg}
-use Rattle.sg_gen.specs.Generated.{moves, drawn, move_text}
-use Rattle.sg_gen.proofs.Joined.{append_again, moves_more}
+use Rattle.sg_gen.proofs.Joined.{moves_more}
 use Rattle.sg_gen.proofs.generated.append_moves.Goals as goal
 
 pub loop-preserved : goal.loop-preserved
