@@ -2,6 +2,7 @@
 ghost use Rattle.std.specs.Prelude.{◌≡◌, map, string_bytes, IfOk, MatchOption};
 ghost use Rattle.sg_command.specs.Command.{IsCommand, IsAnyCommand, usage_lines};
 
+use crate::numbers::load_in;
 use crate::turns::turns_in;
 use sg_words::List;
 use std::alloc::{AllocError, Global};
@@ -16,10 +17,17 @@ pub enum Job {
         /// The numbers of the list in order: 1 to 65,536 of them, each from 0 to 63.
         turns: List<u32>,
     },
+    /// To make a program of four mutators from a seed and a size, to run it, and to write the summary of its run to the sink.
+    Gen {
+        /// From which its numbers are drawn.
+        seed: u64,
+        /// How many statements its mutators have together, rounded down to a multiple of 24: 24 to 80,000.
+        size: u32,
+    },
 }
 
-/// The job that the words behind the program's name ask for, or none where they are no command: `run`, or `replay N,N,N` with a
-/// list of numbers.
+/// The job that the words behind the program's name ask for, or none where they are no command: `run`, `replay N,N,N` with a
+/// list of numbers, or `gen SEED SIZE`.
 ///
 /// The one error is want of memory for the list. It takes time linear in the bytes of the words.
 pub fn command(alloc: Global, words: &[String]) -> Result<Option<Job>, AllocError>
@@ -31,6 +39,13 @@ pub fn command(alloc: Global, words: &[String]) -> Result<Option<Job>, AllocErro
             Some(turns) => Ok(Some(Job::Replay { turns })),
             None => Ok(None),
         },
+        [name, seed, size] if name.as_str() == "gen" => match load_in(
+            seed.as_str(),
+            size.as_str(),
+        ) {
+            Some((seed, size)) => Ok(Some(Job::Gen { seed, size })),
+            None => Ok(None),
+        },
         _ => Ok(None),
     }
 }
@@ -39,5 +54,5 @@ pub fn command(alloc: Global, words: &[String]) -> Result<Option<Job>, AllocErro
 pub fn usage() -> &'static [u8]
     ensures { result.now ≡ usage_lines }
 {
-    b"usage: sgenlab run\nusage: sgenlab replay N,N,N\n"
+    b"usage: sgenlab run\nusage: sgenlab replay N,N,N\nusage: sgenlab gen SEED SIZE\n"
 }

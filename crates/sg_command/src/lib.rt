@@ -3,6 +3,7 @@
 
 mod job;
 mod laws;
+mod numbers;
 mod turns;
 
 pub use job::{Job, command, usage};

@@ -21,12 +21,13 @@ fn told(alloc: Global, words: &[&str]) -> Result<String, AllocError> {
             let turns = turns.as_slice();
             format!(in alloc; "{turns:?}")
         }
+        Some(Job::Gen { seed, size }) => format!(in alloc; "{seed} and {size}"),
     }
 }
 
 #[test]
 fn each_command(rt: HostRuntime) -> Result<(), Fail> {
-    let rows: [(&[&str], &str); 37] = [
+    let rows: [(&[&str], &str); 61] = [
         (&["run"], "run"),
         (&["replay", "0"], "[0]"),
         (&["replay", "9"], "[9]"),
@@ -64,6 +65,36 @@ fn each_command(rt: HostRuntime) -> Result<(), Fail> {
         (&["replay", "1", "2"], "none"),
         (&["replay", "1,2", "3"], "none"),
         (&["1,2", "replay"], "none"),
+        (&["gen", "7", "20000"], "7 and 20000"),
+        (&["gen", "0", "24"], "0 and 24"),
+        (
+            &["gen", "18446744073709551615", "80000"],
+            "18446744073709551615 and 80000",
+        ),
+        (&["gen", "24", "79999"], "24 and 79999"),
+        (&["gen"], "none"),
+        (&["gen", "7"], "none"),
+        (&["gen", "7", "24", "24"], "none"),
+        (&["Gen", "7", "24"], "none"),
+        (&["7", "gen", "24"], "none"),
+        (&["gen", "7", "23"], "none"),
+        (&["gen", "7", "80001"], "none"),
+        (&["gen", "7", "0"], "none"),
+        (&["gen", "18446744073709551616", "24"], "none"),
+        (&["gen", "7", "4294967320"], "none"),
+        (
+            &["gen", "7", "99999999999999999999999999999999999999999"],
+            "none",
+        ),
+        (&["gen", "07", "24"], "none"),
+        (&["gen", "7", "024"], "none"),
+        (&["gen", "00", "24"], "none"),
+        (&["gen", "+7", "24"], "none"),
+        (&["gen", "-7", "24"], "none"),
+        (&["gen", "7", " 24"], "none"),
+        (&["gen", "", "24"], "none"),
+        (&["gen", "7", ""], "none"),
+        (&["gen", "7a", "24"], "none"),
     ];
     for (words, want) in rows {
         assert_eq!(rt; told(rt.alloc(), words)?.as_str(), want, "at {words:?}");
@@ -109,6 +140,6 @@ fn usage_of_each(rt: HostRuntime) {
     one_job();
     assert_eq!(rt;
         usage(),
-        b"usage: sgenlab run\nusage: sgenlab replay N,N,N\n".as_slice()
+        b"usage: sgenlab run\nusage: sgenlab replay N,N,N\nusage: sgenlab gen SEED SIZE\n".as_slice()
     );
 }

@@ -15,7 +15,7 @@ const MUTATORS: u32 = 4;
 
 /// A round of six statements around one of a mutator's own globals.
 #[derive(Clone, Copy, Debug, PartialEq, Eq)]
-pub(crate) enum Move {
+pub enum Move {
     /// A new node with this number comes in front of the global's list.
     Grows { global: u32, number: u32 },
     /// The numbers of the first three nodes of the list are read.

@@ -1,5 +1,5 @@
 -- What holds where nothing was written, and where a run was.
-use Rattle.std.proofs.Common.{ℕ, List, [], inl, inr, refl, sym, subst, arith}
+use Rattle.std.proofs.Common.{ℕ, List, [], inl, inr, refl, sym, subst, arith, true≢false}
 use Rattle.std.specs.Prelude.{Option, Some, None, IfSome}
 use Rattle.std.specs.Io.KnownBytes.{Appends}
 use Rattle.std.proofs.KnownBytes.{Appends-nil}
@@ -15,11 +15,11 @@ use Rattle.sg_graph.specs.Laws.{RunsByTurns}
 use Rattle.sg_trace.specs.Trace.{text}
 use Rattle.sg_parse.specs.Accepted.{IsAcceptedAs, IsAccepted}
 use Rattle.sg_command.specs.declared.job.Job.{Job}
-use Rattle.sg_command.specs.declared.job.Job.TheVariants.{Run, Replay}
+use Rattle.sg_command.specs.declared.job.Job.TheVariants.{Run, Replay, Gen}
 use Rattle.sg_run.specs.declared.refusal.Cause.{Cause}
 use Rattle.sg_run.specs.Causes.{IsCause, refusal_line}
 use Rattle.sg_run.specs.Ends.{Ends}
-use Rattle.sg_run.specs.Jobs.{turns_of}
+use Rattle.sg_run.specs.Jobs.{ReadsInput, turns_of}
 use Rattle.sg_run.specs.Top.{TakesFront}
 use Rattle.sg_run.specs.Performing.{Performs, RunsBy, WritesRun, WritesRunFront}
 
@@ -96,9 +96,9 @@ some_of : (left : Option (List ℕ)) (P Q : List ℕ → Type 0) → ((input : L
 some_of None P Q f h = h
 some_of (Some input) P Q f h = f input h
 
--- a run by turns is what a job performs, by its own turns
-pub performs : RunsByTurns → (job : Job) (old new : Ends) (status : ℕ) → RunsBy (turns_of job) old new status → Performs job old new status
-performs law Run old new status h = record {
+-- a run by turns is what a job that reads performs, by its own turns
+pub performs : RunsByTurns → (job : Job) → ReadsInput job → (old new : Ends) (status : ℕ) → RunsBy (turns_of job) old new status → Performs job old new status
+performs law Run reads old new status h = record {
   written = λ e. some_of old.left _ _ (λ input w. (text w.1, (w.0, w.1, w.2, law.whole w.0 [] w.1 w.3, refl), w.4)) (h.written e);
   whole_input = λ _. h.whole_input;
   understood = h.understood;
@@ -114,7 +114,7 @@ performs law Run old new status h = record {
   complete = h.complete;
   known = h.known;
 }
-performs law (Replay turns) old new status h = record {
+performs law (Replay turns) reads old new status h = record {
   written = λ e. some_of old.left _ _ (λ input w. (text w.1, (w.0, w.1, w.2, law.whole w.0 turns w.1 w.3, w.3, refl), w.4)) (h.written e);
   whole_input = λ _. h.whole_input;
   understood = h.understood;
@@ -130,3 +130,4 @@ performs law (Replay turns) old new status h = record {
   complete = h.complete;
   known = h.known;
 }
+performs law (Gen seed size) reads old new status h = absurd (true≢false (sym reads))

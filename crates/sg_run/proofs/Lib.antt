@@ -1,5 +1,6 @@
 pub mod Classes
 mod Fronts
+mod Made
 mod OneCause
 mod OneText
 mod Pieces
@@ -7,3 +8,5 @@ mod Promised
 mod Refused
 pub mod Texts
 mod Words
+mod Summed
+mod Tallied

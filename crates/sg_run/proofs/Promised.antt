@@ -4,14 +4,16 @@ use Rattle.std.proofs.Common.{[], ◌≡◌, ◌≢◌, ℕ, ◌≤◌, inl, inr
 use Rattle.std.specs.Io.KnownBytes.{Appends, Keeps}
 use Rattle.sg_io.specs.Progress.{TakesSome}
 use Rattle.sg_command.specs.declared.job.Job.{Job}
+use Rattle.sg_command.specs.declared.job.Job.TheVariants.{Run, Replay, Gen}
 use Rattle.sg_command.specs.Command.{IsCommand, IsAnyCommand, usage_lines, HasOneJob}
 use Rattle.sg_run.specs.Ends.{Ends, WriteFails, Gives}
 use Rattle.sg_run.specs.Top.{IsCutShort, Promises}
 use Rattle.sg_graph.specs.Laws.{RunsByTurns}
 use Rattle.sg_trace.specs.Trace.{text}
-use Rattle.sg_run.specs.Jobs.{turns_of}
+use Rattle.sg_run.specs.declared.top.Ending.TheVariants.{NoMemory}
 use Rattle.sg_run.specs.Performing.{Performs, RunsBy}
 use Rattle.sg_run.proofs.Fronts.{took_nothing, empty_run, performs}
+use Rattle.sg_run.proofs.Summed.{performs_sum}
 
 pub promises_of : HasOneJob → (words : List (List ℕ)) (job : Job) (old new : Ends) (status : ℕ) → IsCommand words job → Performs job old new status →
     Promises words old new status
@@ -153,4 +155,6 @@ promises_nothing law words old = record {
 }
   where
     there : (job : Job) → Performs job old old 5
-    there job = performs law job old old 5 (nothing_done (turns_of job) old)
+    there Run = performs law Run refl old old 5 (nothing_done [] old)
+    there (Replay turns) = performs law (Replay turns) refl old old 5 (nothing_done turns old)
+    there (Gen seed size) = performs_sum seed size old old NoMemory refl

@@ -61,7 +61,7 @@ module _ (p : Program) (turns : List ℕ) where
   run_at_stop phases report order swept world s t =
       BehindEpoch world.number phases t.before_graph t.before_book t.before_schedule order swept report t.graph t.book s t.follows t.epoch
 
-  run_epoch : (phases : List Phase) (report : EpochReport) (world : Worldly) (s : Schedule) → (comes : ComesTo p turns phases report world s) →
+  pub run_epoch : (phases : List Phase) (report : EpochReport) (world : Worldly) (s : Schedule) → (comes : ComesTo p turns phases report world s) →
       IsRunBy p turns (phases ++ Epoch report comes.0 comes.1 ∷ [])
   run_epoch phases report world s (order, swept, inl last) = whole_is_run p turns (phases ++ Epoch report order swept ∷ []) last.1
   run_epoch phases report world s (order, swept, inr more) = run_at_stop phases report order swept world s more.1

@@ -5,5 +5,6 @@ pub mod Input
 pub mod Running
 pub mod Status
 pub mod Refusing
+pub mod Summing
 pub mod Top
 pub mod Performing

@@ -8,6 +8,7 @@ mod input;
 mod output;
 mod refusal;
 mod replay;
+mod summary;
 mod top;
 
 pub use refusal::one_cause;

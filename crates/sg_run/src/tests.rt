@@ -16,7 +16,8 @@ const STOPPING: &str =
 const STOPPED: &str =
     "epoch 0\n0 0 4096\n0 1 4128\n0 2 ok\n0 3 ok\n0 collect minor\nstop 0\nminor\npin 4096\nmove 4128 6144\nspares 0\nfrag 4128 252\nserve 0 4 ok\nepoch 1\n0 5 6144\n0 done\nend\n";
 
-const USAGE: &str = "usage: sgenlab run\nusage: sgenlab replay N,N,N\n";
+const USAGE: &str =
+    "usage: sgenlab run\nusage: sgenlab replay N,N,N\nusage: sgenlab gen SEED SIZE\n";
 
 const EMPTY: &str = "refused syntax 1\n";
 

@@ -6,18 +6,21 @@ ghost use Rattle.sg_parse.specs.Accepted.{IsAccepted, IsAcceptedAs};
 ghost use Rattle.sg_world.specs.Worlds.{CanRun};
 ghost use Rattle.sg_run.specs.Ends.{ends_of};
 ghost use Rattle.sg_run.specs.Input.{StopsReading};
-ghost use Rattle.sg_run.specs.Jobs.{turns_of as turns_in};
+ghost use Rattle.sg_command.specs.Command.{IsLoad};
+ghost use Rattle.sg_run.specs.Jobs.{HasLoad};
+ghost use Rattle.sg_run.specs.Summing.{Summarizes};
 ghost use Rattle.sg_run.specs.declared.refusal.Cause.TheVariants.{Refused};
 ghost use Rattle.sg_run.specs.Causes.{IsCause, refusal_line as line_of};
 ghost use Rattle.sg_run.specs.Refusing.{Refuses};
 ghost use Rattle.sg_run.specs.Status.{status_of};
 ghost use Rattle.sg_run.specs.Top.{Headline, Usage, Refusal as RefusalClause, ReadFault, WriteFault, Front, Complete, Promises};
-ghost use Rattle.sg_run.specs.Performing.{RunsBy};
+ghost use Rattle.sg_run.specs.Performing.{Performs, RunsBy};
 
 use crate::execution::{RunError, execute};
 use crate::input::{ReadError, read_input};
 use crate::output::write_piece;
 use crate::refusal::{Cause, refusal_line};
+use crate::summary::summary_of;
 use sg_cells::Gate;
 use sg_command::{Job, command, one_job, usage};
 use sg_graph::{Program, runs_by_turns};
@@ -57,9 +60,11 @@ impl Ending {
 
 /// Does what the words after the program's name say: `run` reads a program from the source to its end, runs it, and
 /// writes the trace to the sink as the run goes on: each epoch is a piece, and each stop; `replay` does the same with the turns
-/// of the mutators in the order of a list. The answer is the exit status:
+/// of the mutators in the order of a list. `gen` reads nothing: it makes a program of four mutators from a seed and a size, runs it,
+/// and writes a summary as one piece: how many statements each mutator answered, and the sum of the numbers that it read. The answer is the
+/// exit status:
 ///
-/// - 0: done, the whole trace was written.
+/// - 0: done, the whole trace or summary was written.
 /// - 1: the words are no command; a usage line for each command was written and nothing was read.
 /// - 2: the input isn't accepted; one line was written that tells why: `refused long` where it is longer than 1,048,576 bytes,
 ///   else `refused syntax LINE` at the first line that the grammar refuses, else `refused class LINE` at the first one that
@@ -119,11 +124,41 @@ fn conclude<S: Source, O: Sink>(
         Err(AllocError) => return Ending::NoMemory,
     };
     match job {
-        Some(job) => run_program(alloc, turns_of(&job), source, sink),
+        Some(job) => perform(alloc, &job, source, sink),
         None => match write_piece(sink, usage()) {
             Ok(()) => Ending::NoCommand,
             Err(Failed) => Ending::SinkFailed,
         },
+    }
+}
+
+// Does a job.
+fn perform<S: Source, O: Sink>(alloc: Global, job: &Job, source: &mut S, sink: &mut O) -> Ending
+    requires { HasLoad job.now }
+    ensures { Performs job.now (ends_of S.left S.faults O.taken O.faults source.old sink.old)
+        (ends_of S.left S.faults O.taken O.faults source.new sink.new) (status_of result) }
+{
+    // The law that it rests on: this call does nothing.
+    runs_by_turns();
+    match job {
+        Job::Run => run_program(alloc, &[], source, sink),
+        Job::Replay { turns } => run_program(alloc, turns.as_slice(), source, sink),
+        Job::Gen { seed, size } => summarize(alloc, *seed, *size, sink),
+    }
+}
+
+// Runs the program of this seed and size, and writes the summary of its run.
+fn summarize<O: Sink>(alloc: Global, seed: u64, size: u32, sink: &mut O) -> Ending
+    requires { IsLoad seed size }
+    ensures { Summarizes seed size (O.taken sink.old) (O.taken sink.new) (O.faults sink.old) (O.faults sink.new) result }
+{
+    let text = match summary_of(alloc, seed, size) {
+        Ok(text) => text,
+        Err(AllocError) => return Ending::NoMemory,
+    };
+    match write_piece(sink, text.as_slice()) {
+        Ok(()) => Ending::Done,
+        Err(Failed) => Ending::SinkFailed,
     }
 }
 
@@ -147,16 +182,6 @@ fn run_program<S: Source, O: Sink>(
         Ok(()) => Ending::Done,
         Err(RunError::Sink) => Ending::SinkFailed,
         Err(RunError::Memory) => Ending::NoMemory,
-    }
-}
-
-// The list of turns by which a job's run goes.
-fn turns_of(job: &Job) -> &[u32]
-    ensures { result.now ≡ turns_in job.now }
-{
-    match job {
-        Job::Run => &[],
-        Job::Replay { turns } => turns.as_slice(),
     }
 }
 

@@ -1,6 +1,7 @@
 use Rattle.std.proofs.Common.{◌≡◌, ℕ, List, [], ◌∷◌, codes, string_bytes, sym, ap, ◌∙◌, rules}
+use Rattle.std.specs.Fmt.{decimal}
 use Rattle.sg_command.specs.Command.{spelled, Spells}
-use Rattle.sg_command.proofs.Words.{map_one, map_two}
+use Rattle.sg_command.proofs.Words.{map_one, map_two, map_three}
 use Rattle.sg_command.proofs.job.command.Goals as goal
 
 pub returns-in-len1 : goal.returns-in-len1
@@ -17,3 +18,12 @@ returns-in-Some c =
     let replay : codes "replay" ∷ spelled c.in-Some.turns ∷ [] ≡ string_bytes c.name-item-then-words-lt3.result ∷ string_bytes c.list-item.result ∷ [] =
     ap (λ (word : List ℕ). word ∷ spelled c.in-Some.turns ∷ []) (sym name) ∙ ap (λ (word : List ℕ). string_bytes c.name-item-then-words-lt3.result ∷ word ∷ []) (sym list) in
     (both ∙ sym replay, spells.1)
+
+pub returns-in-Some-load_in : goal.returns-in-Some-load_in
+returns-in-Some-load_in c =
+    let name : string_bytes c.name-item-then-words-lt4.result ≡ codes "gen" = search rules in
+    let all = map_three string_bytes c.args.words.now c.name-item-then-words-lt4.result c.seed-item.result c.size-item.result c.in-len3.len_at_least c.in-len3.len_below
+    c.name-item-then-words-lt4.is c.seed-item.is c.size-item.is in
+    let seed : string_bytes c.seed-item.result ≡ decimal c.in-Some-load_in.seed = sym c.as_str-in-len3.ensures.value ∙ c.in-Some-load_in.ensures.0 in
+    let size : string_bytes c.size-item.result ≡ decimal c.in-Some-load_in.size = sym c.as_str-in-len3-2.ensures.value ∙ c.in-Some-load_in.ensures.1 in
+    (all ∙ cc, c.in-Some-load_in.ensures.2)

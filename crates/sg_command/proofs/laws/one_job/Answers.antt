@@ -1,7 +1,9 @@
-use Rattle.std.proofs.Common.{◌≡◌, ℕ, List, [], ◌∷◌, codes, refl, ap, sym, ◌∙◌}
+use Rattle.std.proofs.Common.{◌≡◌, ℕ, List, [], ◌∷◌, codes, refl, ap, sym, ◌∙◌, arith}
+use Rattle.std.specs.Fmt.{decimal}
+use Rattle.std.proofs.lemmas.Fmt.{decimal_injective}
 use Rattle.sg_command.specs.Command.{IsCommand, spelled}
 use Rattle.sg_command.specs.declared.job.Job.{Job}
-use Rattle.sg_command.specs.declared.job.Job.TheVariants.{Run, Replay}
+use Rattle.sg_command.specs.declared.job.Job.TheVariants.{Run, Replay, Gen}
 use Rattle.sg_command.proofs.Spellings.{one_list}
 use Rattle.sg_command.proofs.laws.one_job.Goals as goal
 
@@ -9,6 +11,21 @@ law : (words : List (List ℕ)) (first second : Job) → IsCommand words first �
 law words Run Run one two = refl
 law words Run (Replay turns) one two = let clash : codes "run" ∷ [] ≡ codes "replay" ∷ spelled turns ∷ [] = sym one ∙ two.0 in absurd cc
 law words (Replay turns) Run one two = let clash : codes "run" ∷ [] ≡ codes "replay" ∷ spelled turns ∷ [] = sym two ∙ one.0 in absurd cc
+law words Run (Gen seed size) one two = let clash : codes "run" ∷ [] ≡ codes "gen" ∷ decimal seed ∷ decimal size ∷ [] = sym one ∙ two.0 in absurd cc
+law words (Gen seed size) Run one two = let clash : codes "run" ∷ [] ≡ codes "gen" ∷ decimal seed ∷ decimal size ∷ [] = sym two ∙ one.0 in absurd cc
+law words (Replay turns) (Gen seed size) one two =
+    let clash : codes "replay" ∷ spelled turns ∷ [] ≡ codes "gen" ∷ decimal seed ∷ decimal size ∷ [] = sym one.0 ∙ two.0 in absurd cc
+law words (Gen seed size) (Replay turns) one two =
+    let clash : codes "replay" ∷ spelled turns ∷ [] ≡ codes "gen" ∷ decimal seed ∷ decimal size ∷ [] = sym two.0 ∙ one.0 in absurd cc
+law words (Gen seed size) (Gen seed' size') one two =
+    let both : codes "gen" ∷ decimal seed ∷ decimal size ∷ [] ≡ codes "gen" ∷ decimal seed' ∷ decimal size' ∷ [] = sym one.0 ∙ two.0 in
+    let seeds : decimal seed ≡ decimal seed' = cc in
+    let sizes : decimal size ≡ decimal size' = cc in
+    let least = one.1.small in
+    let least' = two.1.small in
+    let same_seed : seed ≡ seed' = decimal_injective seed seed' one.1.seed_fits two.1.seed_fits seeds in
+    let same_size : size ≡ size' = decimal_injective size size' (omega (arith, least)) (omega (arith, least')) sizes in
+    cc
 law words (Replay turns) (Replay turns') one two =
     let both : codes "replay" ∷ spelled turns ∷ [] ≡ codes "replay" ∷ spelled turns' ∷ [] = sym one.0 ∙ two.0 in
     let lists : spelled turns ≡ spelled turns' = cc in

@@ -1,0 +1,10 @@
+mod Digits
+mod Spoken
+mod MoveLines
+mod Programs
+mod KindsOf
+mod Moves
+mod Limits
+mod Names
+mod Breaks
+mod Sizes

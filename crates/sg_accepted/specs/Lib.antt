@@ -1,0 +1,2 @@
+-- Each generated text is one that is accepted.
+pub mod Accepted

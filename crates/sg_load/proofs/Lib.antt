@@ -1,0 +1,3 @@
+mod Counting
+mod Runs
+mod Scripts

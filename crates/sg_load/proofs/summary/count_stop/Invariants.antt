@@ -1,0 +1,9 @@
+use Rattle.std.proofs.Common.{◌≡◌}
+use Rattle.std.specs.List.{AllByRecursion}
+use Rattle.sg_load.specs.Summary.{answers_in_services, IsLow}
+use Rattle.sg_load.proofs.Counting.{so_counted}
+use Rattle.sg_load.proofs.summary.count_stop.Given as goal
+
+-- the tallies before k are counted
+abbrev pub invariant-loop-k : goal.invariant-loop-k
+invariant-loop-k l = (l.tallies ≡ so_counted (λ j. answers_in_services j l.report.served) l.initial.tallies l.k) × AllByRecursion IsLow l.tallies

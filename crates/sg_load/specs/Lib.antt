@@ -1,0 +1,3 @@
+-- Definitions of a generated program and of the summary of its run.
+pub mod Generated
+pub mod Summary
