@@ -1,5 +1,5 @@
 -- The search for a slot through the blocks, over any port.
-use Rattle.std.proofs.Common.{◌≡◌, ◌≢◌, ℕ, ◌+◌, ◌<◌, ◌≤◌, nat_lt, Bool, false, Option, Some, None, List, [], ◌∷◌, inr, refl, sym, subst, arith}
+use Rattle.std.proofs.Common.{◌≡◌, ◌≢◌, ℕ, zero, suc, ◌+◌, ◌<◌, ◌≤◌, nat_lt, Bool, false, Option, Some, None, List, [], ◌∷◌, ◌++◌, inr, refl, sym, subst, arith}
 use Rattle.std.proofs.lemmas.Bool.{cond-true, cond-false, lt-ltb, le-ltb}
 use Rattle.std.proofs.lemmas.Nat.Bits.{bit_at-zero}
 use Rattle.sg_words.specs.declared.steps.BlockWord.TheVariants.{Free, Swept, Need}
@@ -11,6 +11,7 @@ use Rattle.sg_words.specs.Programs.{FollowsBy}
 use Rattle.sg_words.proofs.Blocks.{class_slots, slot_size-class}
 use Rattle.sg_cells.specs.Made.{Makes}
 use Rattle.sg_cells.specs.Allowed.{MayMake}
+use Rattle.sg_cells.specs.Passing.{PassesBlock, SeesOther as PassesOther, SeesFull as PassesFull, PassBlocks}
 use Rattle.sg_program.specs.declared.program.Program.{Program}
 use Rattle.sg_program.specs.declared.program.Statement.{Statement}
 use Rattle.sg_program.specs.Scripts.{made_words, made_slot}
@@ -175,3 +176,30 @@ module _ {P : Type 0} (o : Ports P) (m : Mutating) (lay : Constants) (s : Statem
     look_gone es found z look made =
         gone_then o m.program lay a there x y on comes (within (actor_of m) m.script (landed m.program s c found)) z
         (sight_gone m.program lay (actor_of m) m.script s false c o size is y there_on es found look z made (λ r. r))
+
+-- a search that has come to block c, and passes over the next n blocks
+module _ {P : Type 0} (o : Ports P) (m : Mutating) (lay : Constants) (s : Statement) (a : Actor) (x : P) (on : On o m.program lay x a) (c : ℕ) (y : P)
+    (gone : Gone o m.program lay a x (within (actor_of m) m.script (onward m.program (Search s) c)) y) (size : ℕ) (is : size ≡ made_slot m.program s) where
+  -- where the steps in front have led
+  split : (q : P) (es fs : List Step) (z : P) → Makes o.leads o.sees q (es ++ fs) z → (r : P) × Makes o.leads o.sees q es r × Makes o.leads o.sees r fs z
+  split q [] fs z h = (q, refl, h)
+  split q (e ∷ es) fs z h = let rest = split h.0 es fs z h.3 in (rest.0, (h.0, h.1, h.2, rest.1), rest.2)
+
+  -- a block that is passed over is looked at, and nothing is to be done there
+  looked : (d : ℕ) (es : List Step) → PassesBlock size d es → IsLook s size d es None
+  looked d _ (PassesOther z other) = SeesOther z other
+  looked d _ (PassesFull used full) = SeesFull used full
+
+  pub pass_gone : (n : ℕ) (es : List Step) (z : P) → PassBlocks size c n es → c + n ≤ m.program.config.blocks → Makes o.leads o.sees y es z →
+      Gone o m.program lay a x (within (actor_of m) m.script (onward m.program (Search s) (c + n))) z
+  pass_gone zero es z over l made =
+      let none : z ≡ y = subst (λ fs. Makes o.leads o.sees y fs z) over made in
+      let at : c ≡ c + 0 = omega arith in
+      subst (λ d. Gone o m.program lay a x (within (actor_of m) m.script (onward m.program (Search s) d)) z) at
+      (subst (λ (q : P). Gone o m.program lay a x (within (actor_of m) m.script (onward m.program (Search s) c)) q) (sym none) gone)
+  pass_gone (suc n) es z over l made =
+      let parts = split y over.0 over.1 z (subst (λ fs. Makes o.leads o.sees y fs z) over.4 made) in
+      let before = pass_gone n over.0 parts.0 over.2 (omega arith) parts.1 in
+      let at : c + n + 1 ≡ c + suc n = omega arith in
+      subst (λ d. Gone o m.program lay a x (within (actor_of m) m.script (onward m.program (Search s) d)) z) at
+      (look_gone o m lay s a x on (c + n) parts.0 before (omega arith) size is over.1 None z (looked (c + n) over.1 over.3) parts.2)

@@ -65,7 +65,8 @@ impl<'a> Mutator<'a> {
     {
         let size = making.slot();
         let blocks = port.blocks();
-        for block in first..blocks {
+        let passed = port.pass_over(size, first);
+        for block in passed..blocks {
             if let Some(stage) = look_at(port, making.statement, block, size) {
                 return self.rest_at(stage);
             }

@@ -145,6 +145,7 @@ fn scan_page<W: Words, L: Ledger>(
 }
 
 /// The same for those of the card's words that the standing object has whose first word is `front`; the card's first word is `start`.
+#[inline(always)]
 fn scan_object<W: Words, L: Ledger>(
     words: &W,
     layout: &Layout,

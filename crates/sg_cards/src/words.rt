@@ -73,7 +73,7 @@ impl Words for Space {
 
     ghost word_of = { numbered };
 
-    #[inline]
+    #[inline(always)]
     fn word<L: Ledger>(&self, i: u64, steps: &mut Steps<L>) -> u64 {
         steps.tick();
         let layout = self.layout();

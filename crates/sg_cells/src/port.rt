@@ -1,4 +1,4 @@
-ghost use Rattle.std.specs.Prelude.{◌≡◌, ◌≢◌, ℕ, ◌%◌, ◌<◌, ◌↔◌, true, List, [], ◌∷◌, ◌++◌, MatchResult};
+ghost use Rattle.std.specs.Prelude.{◌≡◌, ◌≢◌, ℕ, ◌+◌, ◌%◌, ◌<◌, ◌≤◌, ◌↔◌, true, List, [], ◌∷◌, ◌++◌, MatchResult};
 ghost use Rattle.sg_words.specs.Address.{byte_at, word_at};
 ghost use Rattle.sg_words.specs.declared.steps.Place.TheVariants.{Stop, Next, Word, Card, Head};
 ghost use Rattle.sg_words.specs.declared.steps.Step.{Step};
@@ -11,6 +11,7 @@ ghost use Rattle.sg_words.specs.Blocks.{IsSizeClass, slots, slot_from};
 ghost use Rattle.sg_words.specs.Sweeps.{zero_steps};
 ghost use Rattle.sg_cells.specs.Allowed.{MayMake};
 ghost use Rattle.sg_cells.specs.Made.{Makes};
+ghost use Rattle.sg_cells.specs.Passing.{PassBlocks};
 
 use sg_words::BlockWord;
 
@@ -150,7 +151,8 @@ pub trait BlockPort: Port {
     ghost fixed_blocks: { (p q : Self) (es : List Step) → Self.Port.leads p es q → blocks q ≡ blocks p };
 }
 
-/// The blocks of the major heap for who sweeps them: their marks, and the stores of a sweep. Sizes are in words.
+/// The blocks of the major heap for who makes objects in them while some are owed: their marks, the stores of a sweep, and which
+/// blocks a search passes over. Sizes are in words.
 pub trait SweepPort: BlockPort {
     /// The marks of each block, and the first word of block 0: no step changes them.
     ghost marks: { Self → ℕ → ℕ };
@@ -161,6 +163,15 @@ pub trait SweepPort: BlockPort {
     fn marks(&self, b: u32) -> u64
         requires { b < Self.blocks self.now }
         ensures { result ≡ Self.marks self.now b };
+
+    /// Passes over blocks from `from` on, in a search for a slot of `size` words, and answers where it came to: each block before that is
+    /// seen to be swept, and to have slots of another size or to be full. A load for each, and a second one where it has slots of this
+    /// size; a port that knows what these loads would see need not make them one by one. The answer may be `from` itself.
+    fn pass_over(&mut self, size: u32, from: u32) -> u32
+        requires class { IsSizeClass size }
+        requires there { from ≤ Self.blocks self.old }
+        ensures within { result ≤ Self.blocks self.old }
+        ensures passed { (n : ℕ) × (es : List Step) × (result ≡ from + n) × PassBlocks size from n es × Makes Self.leads Self.sees self.old es self.new };
 
     /// The occupancy of this block becomes `mask`: one store.
     fn set_used(&mut self, b: u32, mask: u64)

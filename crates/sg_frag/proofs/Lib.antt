@@ -1,2 +1,3 @@
 mod Changes
 pub mod Zeroed
+mod Passing

@@ -7,7 +7,7 @@ use Rattle.sg_words.specs.declared.steps.Step.{Step}
 use Rattle.sg_space.specs.Space.{Contents, words_of}
 use Rattle.sg_frag.specs.Plain.{KeepsSections, Led}
 
-keeps_none : (s : Contents) → KeepsSections s s
+pub keeps_none : (s : Contents) → KeepsSections s s
 keeps_none s = record {
   layout = refl;
   shapes = refl;

@@ -129,9 +129,7 @@ impl<'a> BlockPort for PlainPort<'a> {
     }
 
     fn take_slot(&mut self, b: u32, slot: u32) -> u64 {
-        let found = self.space.used(b);
-        self.space.set_used(b, found | (1 << slot));
-        found
+        self.space.occupy(b, slot)
     }
 }
 
@@ -146,6 +144,10 @@ impl<'a> SweepPort for PlainPort<'a> {
         // That there are marks for each block stands in what the layout ensures.
         let _ = self.space.layout();
         self.space.marks(b)
+    }
+
+    fn pass_over(&mut self, size: u32, from: u32) -> u32 {
+        self.space.pass_over(size, from)
     }
 
     fn set_used(&mut self, b: u32, mask: u64) {

@@ -134,7 +134,8 @@ pub record IsEpoch (p : Program) (e : ℕ) (g : Graph) (b : Book) (order : List 
   pub sweeps : c ≡ swept_in book swept
   pub were_owed : (j : ℕ) → Contains swept j → (j < p.config.blocks) × (b.owed j ≡ true)
   pub once : AreDistinct swept
-  -- no block below a new object of the major heap has a place for it as the epoch ends, and where a slot is asked for, no block has one
+  -- as the epoch ends, no block below a new object of the major heap is owed, and none that wasn't owed as the epoch began has a place for it; where
+  -- a slot is asked for, that is so of each block
   pub lowest : (n j : ℕ) → IsNewOld g.count c n → block_at p j + 256 ≤ c.address n → IsClosed p b.owed last c j (slot_words (last.size n))
   pub searched : (z j : ℕ) → AsksSlot report.parts z → j < p.config.blocks → IsClosed p b.owed last c j z
   pub sound : IsSoundBook p h c

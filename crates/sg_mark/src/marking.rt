@@ -125,6 +125,7 @@ fn visit_field(space: &mut Space, field: Addr, gray: &mut Vec<Addr>)
 }
 
 /// Marks the object at this byte address, and adds it to the list, unless it is marked already.
+#[inline(always)]
 fn visit(space: &mut Space, a: Addr, gray: &mut Vec<Addr>)
     requires gray { (t : Contents) × (owner : ℕ → Option ℕ) × (marked : ℕ → Bool) × IsGray t owner marked space.old gray.old.items × IsStanding owner a }
     requires room { most_objects space.old.layout ≤ vec_capacity gray.old }

@@ -65,8 +65,8 @@ pub record AreBlocksSoFar (p : Program) (lay : Constants) (g : Graph) (b : Book)
   pub seeking : (k : ℕ) (s : Statement) → Seeks s (last k).mid → IsSeeking g k (last k) s
 
 -- Where all actors are over, the words hold the graph by the book c, which differs from that of the last statement only in what is owed: what was swept
--- isn't any more; each actor stands by it where the graph's mutator stands; by it no block has a place for who left since it found no slot, and no block
--- below a new object of the major heap has one for it.
+-- isn't any more; each actor stands by it where the graph's mutator stands. By it no block is owed, and none that wasn't owed at the opening has a place, for
+-- who left since it found no slot; nor is or has a block below a new object of the major heap for that object.
 pub record IsAtEnd (p : Program) (lay : Constants) (count : ℕ) (b : Book) (graph : Graph) (book c : Book) (v : Words) (last : ℕ → Actor) : Type 0 where
   pub only_owed : c ≡ record book { owed = c.owed }
   pub ready : (k : ℕ) → IsReady p graph c k (last k) (before_it (last k).mid (last k).script)

@@ -8,3 +8,4 @@ pub mod Slots
 pub mod Read
 pub mod Marked
 pub mod Kept
+mod Passing

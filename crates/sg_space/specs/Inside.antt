@@ -2,6 +2,7 @@
 use Rattle.std.specs.Prelude.{◌≡◌, ℕ, ◌≤◌, ◌<◌, ◌⊎◌, vec_capacity, length, slice_index}
 use Rattle.sg_space.specs.declared.space.Space.TheInside.{Inside}
 use Rattle.sg_space.specs.Space.{Contents, IsContents}
+use Rattle.sg_space.specs.Passed.{IsPassedIn}
 
 abbrev pub contents_of : Inside → Contents
 contents_of a = record {
@@ -22,7 +23,8 @@ contents_of a = record {
   pairs = a.pairs.items;
 }
 
--- room for all fragments and registrations is taken, and each card out of the range that may be dirty is clean
+-- room for all fragments and registrations is taken, each card out of the range that may be dirty is clean, and so many blocks from 0 on as are kept
+-- for one size are passed over in a search for a slot of that size
 pub record IsSpace (a : Inside) : Type 0 where
   pub contents : IsContents (contents_of a)
   pub room_next : 2048 ≤ vec_capacity a.next
@@ -30,3 +32,5 @@ pub record IsSpace (a : Inside) : Type 0 where
   pub room_registered : 1024 ≤ vec_capacity a.registered
   pub within : a.dirty_to ≤ length a.cards.items
   pub clean : (c : ℕ) → (c < a.dirty_from) ⊎ (a.dirty_to ≤ c) → slice_index a.cards.items c ≡ 0
+  pub passed : (c : ℕ) → c < a.passed → IsPassedIn (contents_of a) a.passed_size c
+  pub few : a.passed ≤ length a.blocks.items

@@ -5,3 +5,4 @@ pub mod Marks
 pub mod Inside
 pub mod Laws
 pub mod Swept
+pub mod Passed

@@ -1,16 +1,18 @@
 // The blocks of the major heap, and the marks of objects.
 
-ghost use Rattle.std.specs.Prelude.{◌≡◌, ◌*◌, ◌+◌, ◌<◌, ◌≤◌, ◌↔◌, Bool, true, ℕ, length, slice_index, slice_index_or, slice_set};
+ghost use Rattle.std.specs.Prelude.{◌≡◌, ◌*◌, ◌+◌, ◌<◌, ◌≤◌, ◌↔◌, ◌^◌, Bool, true, ℕ, length, slice_index, slice_index_or, slice_set};
 ghost use Rattle.sg_words.specs.Address.{word_at};
 ghost use Rattle.sg_words.specs.declared.steps.BlockWord.TheVariants.{Free};
 ghost use Rattle.sg_space.specs.Space.{IsContents};
 ghost use Rattle.std.specs.Prelude.{MatchOption};
 ghost use Rattle.std.specs.Int.{bit_at};
-ghost use Rattle.sg_words.specs.Blocks.{IsOf};
+ghost use Rattle.std.specs.Int.Bits.{bit_or};
+ghost use Rattle.sg_words.specs.Blocks.{IsOf, IsSizeClass, slots as slots_of};
+ghost use Rattle.sg_space.specs.Passed.{IsPassed, IsPassedIn};
 ghost use Rattle.sg_space.specs.Marks.{with_bit as with_bit_of, KeepsItself, IsSlotFront, HasMark, IsMarked, Marks};
 
 use crate::space::Space;
-use sg_words::{Addr, BLOCK_WORDS, BlockWord};
+use sg_words::{Addr, BLOCK_WORDS, BlockWord, first_clear};
 
 /// The bit of an object's first word that is its mark where it is kept there.
 const MARK_BIT: u32 = 63;
@@ -31,6 +33,7 @@ impl Space {
         requires { b < length self.old.blocks }
         ensures { self.new ≡ record self.old { blocks = slice_set self.old.blocks b word } }
     {
+        self.passed = self.passed.min(b);
         self.blocks[b as usize] = word;
     }
 
@@ -49,7 +52,72 @@ impl Space {
         requires { b < length self.old.used }
         ensures { self.new ≡ record self.old { used = slice_set self.old.used b mask } }
     {
+        self.passed = self.passed.min(b);
         self.used[b as usize] = mask;
+    }
+
+    /// The bit of this slot of this block is set in the occupancy; the answer is the occupancy before.
+    #[inline]
+    pub fn occupy(&mut self, b: u32, slot: u32) -> u64
+        requires there { b < length self.old.used }
+        requires bit { slot < 64 }
+        ensures value { result ≡ slice_index self.old.used b }
+        ensures set { self.new ≡ record self.old { used = slice_set self.old.used b (bit_or (slice_index self.old.used b) (2 ^ slot)) } }
+    {
+        let found = self.used[b as usize];
+        self.used[b as usize] = found | (1 << slot);
+        found
+    }
+
+    /// A block from `from` on, or their number, that a search for a slot of `size` words may look at next: each block before it is swept, with
+    /// slots of another size or with all of its slots occupied. How far this was found so is kept for one size, up to the
+    /// first block whose word or occupancy was set anew: so each block is looked at once in many searches for one size.
+    pub fn pass_over(&mut self, size: u32, from: u32) -> u32
+        requires class { IsSizeClass size }
+        requires from { from ≤ length self.old.blocks }
+        ensures from { from ≤ result }
+        ensures within { result ≤ length self.old.blocks }
+        ensures passed { (c : ℕ) → from ≤ c → c < result → IsPassedIn self.old size c }
+        ensures same { self.new ≡ self.old }
+    {
+        let first = self.passed_before(size);
+        let at = self.passed_from(size, 256 / size, first);
+        self.passed_size = size;
+        self.passed = at;
+        if at < from {
+            return from;
+        }
+        at
+    }
+
+    /// So many blocks from 0 on are known to be passed over in a search for a slot of `size` words.
+    fn passed_before(&self, size: u32) -> u32
+        ensures within { result ≤ length self.now.blocks }
+        ensures passed { (c : ℕ) → c < result → IsPassedIn self.now size c }
+    {
+        if self.passed_size == size {
+            self.passed
+        } else {
+            0
+        }
+    }
+
+    /// The first block from `from` on that isn't passed, with slots of `size` words, of which a block has `slots`.
+    fn passed_from(&self, size: u32, slots: u32, from: u32) -> u32
+        requires few { slots ≤ 64 }
+        requires slots { slots ≡ slots_of size }
+        requires from { from ≤ length self.now.blocks }
+        ensures from { from ≤ result }
+        ensures within { result ≤ length self.now.blocks }
+        ensures passed { (c : ℕ) → from ≤ c → c < result → IsPassedIn self.now size c }
+    {
+        let blocks = self.layout().blocks;
+        for at in from..blocks {
+            if !is_passed(self.block(at), self.used(at), size, slots) {
+                return at;
+            }
+        }
+        blocks
     }
 
     /// The marks of this block: a bit for each slot.
@@ -130,6 +198,22 @@ fn size_in(word: BlockWord) -> Option<u32>
         BlockWord::Need { size } => Some(size),
         BlockWord::Sweeping { size } => Some(size),
     }
+}
+
+/// Whether a block with this word and this occupancy is swept, with slots of another size or with these first `slots` ones all occupied.
+#[inline]
+fn is_passed(word: BlockWord, used: u64, size: u32, slots: u32) -> bool
+    requires few { slots ≤ 64 }
+    requires of { slots ≡ slots_of size }
+    ensures { result ≡ true → IsPassed word used size }
+{
+    let BlockWord::Swept { size: found } = word else {
+        return false;
+    };
+    if found != size {
+        return true;
+    }
+    first_clear(used, slots).is_none()
 }
 
 /// Whether this bit of the mask is set.

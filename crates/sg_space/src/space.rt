@@ -23,6 +23,9 @@ pub struct Space {
     pub(crate) blocks: Vec<BlockWord>,
     pub(crate) used: Vec<u64>,
     pub(crate) marks: Vec<u64>,
+    // So many blocks from 0 on are swept, with slots of another size than `passed_size` or with all of their slots of that size occupied.
+    pub(crate) passed_size: u32,
+    pub(crate) passed: u32,
     pub(crate) cards: Vec<u8>,
     // Each card below the first and from the second on is clean.
     pub(crate) dirty_from: u32,
@@ -79,6 +82,8 @@ impl Space {
             blocks: vec![in alloc; BlockWord::Free; blocks]?,
             used: vec![in alloc; 0; blocks]?,
             marks: vec![in alloc; 0; blocks]?,
+            passed_size: 0,
+            passed: 0,
             cards: vec![in alloc; 0; 4 * blocks + 2 * pages]?,
             dirty_from: 0,
             dirty_to: 0,

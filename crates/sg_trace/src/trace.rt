@@ -96,6 +96,7 @@ fn append_answer_line(
     match answer {
         Answer::At(address) => append_number_line(out, mutator, statement, address.get()),
         Answer::Number(number) => append_number_line(out, mutator, statement, number),
+        Answer::Fine => append_fine_line(out, mutator, statement),
         _ => append_word_line(out, mutator, statement, answer),
     }
 }
@@ -117,7 +118,19 @@ fn append_number_line(
     out.extend_from_slice(&line[first..])
 }
 
-// The line of an answer that is a word; what stands before the word is one piece.
+// The line of the answer `ok`, as one piece.
+fn append_fine_line(out: &mut Vec<u8>, mutator: u32, statement: u64) -> Result<(), AllocError>
+    ensures front { IfErr result (λ _. StartsWith out.new.items out.old.items) }
+    ensures appended { IfOk result (λ _. out.new.items ≡ out.old.items ++ decimal mutator ++ space ++ decimal statement ++ space ++ codes "ok" ++ line_feed) }
+{
+    let mut line = [0; LINE];
+    let answer = write_fine(&mut line);
+    let second = write_back(&mut line, answer, statement, b' ');
+    let first = write_back(&mut line, second, u64::from(mutator), b' ');
+    out.extend_from_slice(&line[first..])
+}
+
+// The line of an answer that is another word; what stands before the word is one piece.
 fn append_word_line(
     out: &mut Vec<u8>,
     mutator: u32,
@@ -154,6 +167,17 @@ fn write_back(line: &mut [u8; LINE], end: usize, number: u64, byte: u8) -> usize
 {
     line[end - 1] = byte;
     write_digits(number, line, end - 1)
+}
+
+// Writes `ok` and a line feed at the line's end, and returns where they start.
+fn write_fine(line: &mut [u8; LINE]) -> usize
+    ensures start { result ≡ 60 }
+    ensures written { drop result line.new ≡ codes "ok" ++ line_feed }
+{
+    line[62] = b'\n';
+    line[61] = b'k';
+    line[60] = b'o';
+    60
 }
 
 #[inline(always)]

@@ -2,14 +2,14 @@ ghost use Rattle.std.specs.Prelude.{◌≡◌, ◌≤◌, ◌<◌, ℕ, MatchOpt
 ghost use Rattle.std.specs.Int.{bit_at};
 
 /// The lowest clear bit of `mask` below `n`; `None` exactly where all `n` bits are set.
+#[inline]
 pub fn first_clear(mask: u64, n: u32) -> Option<u32>
     requires { n ≤ 64 }
     ensures { MatchOption result ((i : ℕ) → i < n → bit_at mask i ≡ 1) (λ b. (b < n) × (bit_at mask b ≡ 0) × ((i : ℕ) → i < b → bit_at mask i ≡ 1)) }
 {
-    for bit in 0..n {
-        if (mask >> bit) & 1 == 0 {
-            return Some(bit);
-        }
+    if mask == u64::MAX {
+        return None;
     }
-    None
+    let bit = mask.trailing_ones();
+    if bit < n { Some(bit) } else { None }
 }

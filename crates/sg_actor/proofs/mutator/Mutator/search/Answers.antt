@@ -1,12 +1,12 @@
-use Rattle.std.proofs.Common.{◌≡◌, ◌+◌, ◌<◌, ◌≤◌, Some, None, ap, ◌∙◌, subst, arith}
+use Rattle.std.proofs.Common.{◌≡◌, ◌+◌, ◌<◌, ◌≤◌, Some, None, refl, sym, ap, ◌∙◌, subst, arith}
 use Rattle.sg_words.specs.Blocks.{slot_size}
 use Rattle.sg_program.specs.Scripts.{made_slot}
 use Rattle.sg_rules.specs.Rules.{Search, Left, onward, within}
 use Rattle.sg_actor.specs.State.{Mutating, actor_of, mid_of}
 use Rattle.sg_actor.specs.Searching.{IsLook}
-use Rattle.sg_actor.proofs.Ports.{Ports, gone_to}
+use Rattle.sg_actor.proofs.Ports.{Ports, Gone, none_yet, gone_to}
 use Rattle.sg_actor.proofs.Searches.{stop_may, stop_done}
-use Rattle.sg_actor.proofs.Slots.{slots_end, look_may, look_gone}
+use Rattle.sg_actor.proofs.Slots.{slots_end, look_may, look_gone, pass_gone}
 use Rattle.sg_actor.proofs.mutator.Mutator.search.Given.{Over}
 use Rattle.sg_actor.proofs.mutator.Mutator.search.Goals as goal
 
@@ -25,6 +25,27 @@ ports g = record {
   marks = g.P.SweepPort.marks;
   fixed_blocks = g.met.P.BlockPort.fixed_blocks;
   fixed_sweep = g.met.P.SweepPort.fixed_sweep;
+}
+
+pub loop-block-init : goal.loop-block-init
+loop-block-init g c = record {
+  self_is = refl;
+  gone = λ lay on.
+      let o = ports g in
+      let m = c.args.self.now in
+      let p = m.program in
+      let s = c.args.making.statement in
+      let x = c.args.port.now in
+      let a = within (actor_of m) m.script (onward p (Search s) c.args.first) in
+      let size : c.slot-size.result ≡ made_slot p s = c.slot-size.ensures.size ∙ ap (λ n. slot_size (n + 2)) c.requires.made.fields_are in
+      let over = c.pass_over-passed.ensures.passed in
+      let all = on.blocks_are in
+      let few = c.pass_over-passed.ensures.within in
+      let come = over.2 in
+      let y = c.pass_over-passed.new.self in
+      let within_blocks : c.args.first + over.0 ≤ p.config.blocks = omega (arith, all, few, come) in
+      subst (λ d. Gone o p lay a x (within (actor_of m) m.script (onward p (Search s) d)) y) (sym come)
+      (pass_gone o m lay s a x on c.args.first x (none_yet o p lay a x on) c.slot-size.result size over.0 over.1 y over.3 within_blocks over.4);
 }
 
 pub look_at-requires-clause-may : goal.look_at-requires-clause-may

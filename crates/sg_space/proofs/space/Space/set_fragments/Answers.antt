@@ -37,4 +37,6 @@ invariant_of-self c =
       room_registered = inv.room_registered;
       within = inv.within;
       clean = inv.clean;
+      passed = inv.passed;
+      few = inv.few;
     }
