@@ -1,5 +1,5 @@
 -- In a run each answer takes one from a script, epoch by epoch and stop by stop.
-use Rattle.std.proofs.Common.{rules, ◌≡◌, ◌≢◌, ℕ, zero, suc, ◌+◌, ◌<◌, ◌≤◌, Bool, true, false, cond, not, ◌⊎◌, Option, Some, None, List, [], ◌∷◌, ◌++◌, length, filter, refl, sym, ap, ◌∙◌, subst, inl, inr, arith, length-append, true≢false}
+use Rattle.std.proofs.Common.{rules, ◌≡◌, ◌≢◌, ℕ, zero, suc, ◌+◌, ◌<◌, ◌≤◌, Bool, true, false, cond, not, ◌⊎◌, Option, Some, None, List, [], ◌∷◌, ◌++◌, length, map, filter, refl, sym, ap, ◌∙◌, subst, inl, inr, arith, length-append, append-nil, true≢false}
 use Rattle.std.specs.Prelude.{◌==◌}
 use Rattle.std.specs.List.{count_by}
 use Rattle.std.proofs.lemmas.Bool.{cases_eq}
@@ -11,6 +11,7 @@ use Rattle.sg_words.proofs.Everywhere.{count-append, count-cons}
 use Rattle.sg_program.specs.declared.program.Program.{Program}
 use Rattle.sg_program.specs.declared.program.Statement.{Statement}
 use Rattle.sg_program.specs.Scripts.{script_of}
+use Rattle.sg_program.specs.declared.answers.Answer.{Answer}
 use Rattle.sg_graph.specs.declared.reports.Part.{Part}
 use Rattle.sg_graph.specs.declared.reports.EpochReport.{EpochReport}
 use Rattle.sg_graph.specs.declared.reports.StopReport.{StopReport}
@@ -20,12 +21,12 @@ use Rattle.sg_graph.specs.Graph.{Graph, Mutator}
 use Rattle.sg_graph.specs.Book.{Book}
 use Rattle.sg_graph.specs.Epoch.{Said, IsPart, IsEpoch, answers_of, by_address, numbers_below, running, parted, is_done}
 use Rattle.sg_graph.specs.Stop.{Asked, IsStop, MakesMinor, MakesMajor}
-use Rattle.sg_graph.specs.Run.{Phase, Epoch, Stop, Goes, Begins, GoesOn}
+use Rattle.sg_graph.specs.Run.{Phase, Epoch, Stop, Goes, Begins, GoesOn, IsWholeRun}
 use Rattle.sg_load.specs.Summary.{answers_in_part, answers_in_parts, answers_in_services, answers_in, answers_in_run}
 use Rattle.sg_load.proofs.Counting.{answers_of_part}
 use Rattle.sg_load.proofs.Scripts.{AreDone, explained, served_answers, served_done}
 
-cases_true : (b : Bool) → (b ≡ true) ⊎ (b ≡ false)
+pub cases_true : (b : Bool) → (b ≡ true) ⊎ (b ≡ false)
 cases_true true = inl refl
 cases_true false = inr refl
 
@@ -84,24 +85,24 @@ module _ (keep : ℕ → Bool) (k : ℕ) where
       ]
 
 module _ (p : Program) (g : Graph) (order : List Said) (last : Graph) (c : Book) (k : ℕ) where
-  no_parts : (ks : List ℕ) (parts : List Part) → Pairwise (IsPart p g order last c) ks parts → times k ks ≡ 0 → length (answers_in_parts k parts) ≡ 0
+  -- the part of another mutator has none of its answers
+  other_part : (j : ℕ) (part : Part) (parts : List Part) → IsPart p g order last c j part → j ≢ k → answers_in_parts k (part ∷ parts) ≡ answers_in_parts k parts
+  other_part j part parts is n =
+      let m : part.mutator ≢ k = λ e. n (sym is.number ∙ e) in
+      let nothing : answers_in_part k part ≡ [] = search (rules, m) in
+      ap (λ (xs : List Answer). xs ++ answers_in_parts k parts) nothing
+
+  pub no_parts : (ks : List ℕ) (parts : List Part) → Pairwise (IsPart p g order last c) ks parts → times k ks ≡ 0 → answers_in_parts k parts ≡ []
   no_parts [] [] all none = refl
   no_parts [] (part ∷ parts) all none = absurd all
   no_parts (j ∷ ks) [] all none = absurd all
   no_parts (j ∷ ks) (part ∷ parts) (is, all) none = elim (cases_eq j k) [
     | inl e ↦ let one = times_own k j ks e in absurd (omega (arith, one, none))
-    | inr n ↦
-        let other = times_other k j ks n in
-        let rest = no_parts ks parts all (sym other ∙ none) in
-        let m : part.mutator ≢ k = λ e. n (sym is.number ∙ e) in
-        let nothing : answers_in_part k part ≡ [] = search (rules, m) in
-        let both = length-append (answers_in_part k part) (answers_in_parts k parts) in
-        let here = ap length nothing in
-        omega (arith, rest, both, here)
+    | inr n ↦ other_part j part parts is n ∙ no_parts ks parts all (sym (times_other k j ks n) ∙ none)
   ]
 
-  one_part : (ks : List ℕ) (parts : List Part) → Pairwise (IsPart p g order last c) ks parts → times k ks ≡ 1 →
-      length (answers_in_parts k parts) ≡ length (answers_of k order)
+  pub one_part : (ks : List ℕ) (parts : List Part) → Pairwise (IsPart p g order last c) ks parts → times k ks ≡ 1 →
+      answers_in_parts k parts ≡ map (by_address c) (answers_of k order)
   one_part [] [] all one = absurd (omega (arith, one))
   one_part [] (part ∷ parts) all one = absurd all
   one_part (j ∷ ks) [] all one = absurd all
@@ -109,21 +110,12 @@ module _ (p : Program) (g : Graph) (order : List Said) (last : Graph) (c : Book)
     | inl e ↦
         let first = times_own k j ks e in
         let rest = no_parts ks parts all (omega (arith, first, one)) in
-        let own = ap length (answers_of_part k part (is.number ∙ e)) in
-        let told = ap length is.answers ∙ length-map (answers_of j order) (by_address c) ∙ ap (λ (i : ℕ). length (answers_of i order)) e in
-        let both = length-append (answers_in_part k part) (answers_in_parts k parts) in
-        omega (arith, rest, own, told, both)
-    | inr n ↦
-        let other = times_other k j ks n in
-        let rest = one_part ks parts all (sym other ∙ one) in
-        let m : part.mutator ≢ k = λ e. n (sym is.number ∙ e) in
-        let nothing : answers_in_part k part ≡ [] = search (rules, m) in
-        let both = length-append (answers_in_part k part) (answers_in_parts k parts) in
-        let here = ap length nothing in
-        omega (arith, rest, both, here)
+        ap (λ (xs : List Answer). answers_in_part k part ++ xs) rest ∙ append-nil (answers_in_part k part) ∙ answers_of_part k part (is.number ∙ e) ∙ is.answers
+        ∙ ap (λ (i : ℕ). map (by_address c) (answers_of i order)) e
+    | inr n ↦ other_part j part parts is n ∙ one_part ks parts all (sym (times_other k j ks n) ∙ one)
   ]
 
-parted_script : (m : Mutator) (done : Bool) → (parted m done).script ≡ m.script
+pub parted_script : (m : Mutator) (done : Bool) → (parted m done).script ≡ m.script
 parted_script m true = refl
 parted_script m false = refl
 
@@ -148,20 +140,21 @@ module _ (p : Program) (n : ℕ) (g : Graph) (b : Book) (order : List Said) (swe
       let keep : ℕ → Bool = λ j. not (g.mutator j).ended in
       elim (cases_true (g.mutator k).ended) [
         | inl e ↦
-            let none = no_parts p g order epoch.last c k (running p g) report.parts epoch.parts (never keep k (length p.mutators) (ap not e)) in
+            let none = ap length (no_parts p g order epoch.last c k (running p g) report.parts epoch.parts (never keep k (length p.mutators) (ap not e))) in
             let empty = ap length (done k e) in
             omega (arith, all, after, none, empty)
         | inr e ↦
-            let one = one_part p g order epoch.last c k (running p g) report.parts epoch.parts (once keep k (length p.mutators) l (ap not e)) in
+            let one = ap length (one_part p g order epoch.last c k (running p g) report.parts epoch.parts (once keep k (length p.mutators) l (ap not e)))
+            ∙ length-map (answers_of k order) (by_address c) in
             omega (arith, all, after, one)
       ]
 
-same_minor : (p : Program) (g : Graph) (b : Book) (words : List ℕ) (requests : List Asked) (report : Option MinorReport) (h : Graph) (c : Book) →
+pub same_minor : (p : Program) (g : Graph) (b : Book) (words : List ℕ) (requests : List Asked) (report : Option MinorReport) (h : Graph) (c : Book) →
     MakesMinor p g b words requests report h c → h.mutator ≡ g.mutator
 same_minor p g b words requests (Some report) h c makes = ap (λ (x : Graph). x.mutator) makes.1.keeps.pause.after
 same_minor p g b words requests None h c makes = ap (λ (x : Graph). x.mutator) makes.1
 
-same_major : (p : Program) (g : Graph) (b : Book) (words : List ℕ) (requests : List Asked) (minor : Option MinorReport) (report : Option MajorReport) (h : Graph)
+pub same_major : (p : Program) (g : Graph) (b : Book) (words : List ℕ) (requests : List Asked) (minor : Option MinorReport) (report : Option MajorReport) (h : Graph)
     (c : Book) → MakesMajor p g b words requests minor report h c → h.mutator ≡ g.mutator
 same_major p g b words requests (Some minor) (Some report) h c makes = ap (λ (x : Graph). x.mutator) makes.1.keeps.pause.after
 same_major p g b words requests (Some minor) None h c makes = ap (λ (x : Graph). x.mutator) makes.1
@@ -212,3 +205,13 @@ goes_answers p n phases g b (GoesOn m before g0 b0 order swept epoch h c stop h1
     length-append (answers_in_parts k epoch.parts) (answers_in_run k (Stop stop ∷ [])) in
     let two : length (answers_in_run k (Stop stop ∷ [])) ≡ length (answers_in_services k stop.served) + 0 = length-append (answers_in_services k stop.served) [] in
     omega (arith, so_far, at_epoch, at_stop, all, one, two)
+
+-- in a whole run each statement has its answer
+pub all_answers : (p : Program) (phases : List Phase) (k : ℕ) → k < length p.mutators → IsWholeRun p phases → length (answers_in_run k phases) ≡ length (script_of p k)
+all_answers p phases k l w =
+    let so_far = goes_answers p w.number w.before w.graph w.book w.goes k l in
+    let here = epoch_answers p w.number w.graph w.book w.order w.swept w.report w.last_graph w.last_book w.epoch
+    (goes_done p w.number w.before w.graph w.book w.goes) k l in
+    let over = ap length (epoch_done p w.number w.graph w.book w.order w.swept w.report w.last_graph w.last_book w.epoch k (w.whole k l)) in
+    let sum = ap (λ (ps : List Phase). length (answers_in_run k ps)) w.phases_are ∙ one_epoch k w.before w.report w.order w.swept in
+    omega (arith, so_far, here, over, sum)

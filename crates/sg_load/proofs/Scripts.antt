@@ -89,10 +89,10 @@ module _ (p : Program) (g : Graph) (by : ℕ) (s : Statement) (rest : List State
         | inr n ↦ ap (λ (m : Mutator). m.script) (at_other k n) ∙ done k (ap (λ (m : Mutator). m.ended) (sym (at_other k n)) ∙ ended)
       ]
 
-own_first : (k : ℕ) (said : Said) (order : List Said) → said.by ≡ k → answers_of k (said ∷ order) ≡ said.answer ∷ answers_of k order
+pub own_first : (k : ℕ) (said : Said) (order : List Said) → said.by ≡ k → answers_of k (said ∷ order) ≡ said.answer ∷ answers_of k order
 own_first k said order e = search (rules, e)
 
-other_first : (k : ℕ) (said : Said) (order : List Said) → said.by ≢ k → answers_of k (said ∷ order) ≡ answers_of k order
+pub other_first : (k : ℕ) (said : Said) (order : List Said) → said.by ≢ k → answers_of k (said ∷ order) ≡ answers_of k order
 other_first k said order n = search (rules, n)
 
 -- the statements of an order
@@ -114,10 +114,10 @@ explained p g b (said ∷ order) h c (h1, c1, turn, more) k =
           omega (arith, rest, same, first)
     ]
 
-other_service : (k : ℕ) (service : Service) (served : List Service) → service.mutator ≢ k → answers_in_services k (service ∷ served) ≡ answers_in_services k served
+pub other_service : (k : ℕ) (service : Service) (served : List Service) → service.mutator ≢ k → answers_in_services k (service ∷ served) ≡ answers_in_services k served
 other_service k service served n = search (rules, n)
 
-own_service : (k : ℕ) (service : Service) (served : List Service) → service.mutator ≡ k → answers_in_services k (service ∷ served) ≡ service.answer ∷ answers_in_services k served
+pub own_service : (k : ℕ) (service : Service) (served : List Service) → service.mutator ≡ k → answers_in_services k (service ∷ served) ≡ service.answer ∷ answers_in_services k served
 own_service k service served e = search (rules, e)
 
 -- what a stop serves

@@ -1,3 +1,4 @@
 -- Definitions of a generated program and of the summary of its run.
+pub mod Alone
 pub mod Generated
 pub mod Summary

@@ -4,7 +4,7 @@
 mod laws;
 mod summary;
 
-pub use laws::answers_are_counted;
+pub use laws::{answers_are_counted, tallies_are_alone};
 pub use summary::{Tally, append_summary, count_epoch, count_stop};
 
 #[cfg(test)]

@@ -3,11 +3,11 @@ use Rattle.std.proofs.lemmas.List.Concat.{flat_map-append}
 use Rattle.sg_program.specs.declared.program.Program.{Program}
 use Rattle.sg_program.specs.declared.answers.Answer.{Answer}
 use Rattle.sg_program.specs.Scripts.{script_of}
-use Rattle.sg_graph.specs.Run.{Phase, IsRun, IsWholeRun}
+use Rattle.sg_graph.specs.Run.{Phase, IsRun}
 use Rattle.sg_graph.specs.Run.IsRun.{BehindStop, BehindEpoch}
 use Rattle.sg_load.specs.Summary.{answers_in, answers_in_run, empty_tally, counted, counted_from, tallies_of}
 use Rattle.sg_load.proofs.Counting.{counted_more}
-use Rattle.sg_load.proofs.Runs.{goes_answers, goes_done, epoch_answers, epoch_done, one_epoch}
+use Rattle.sg_load.proofs.Runs.{goes_answers, goes_done, epoch_answers, one_epoch, all_answers}
 use Rattle.sg_load.proofs.laws.answers_are_counted.Goals as goal
 
 most : (p : Program) (phases : List Phase) (k : ℕ) → k < length p.mutators → IsRun p phases → length (answers_in_run k phases) ≤ length (script_of p k)
@@ -17,15 +17,6 @@ most p phases k l (BehindEpoch n before g b order swept report h c goes epoch) =
     let here = epoch_answers p n g b order swept report h c epoch (goes_done p n before g b goes) k l in
     let all = one_epoch k before report order swept in
     omega (arith, so_far, here, all)
-
-all : (p : Program) (phases : List Phase) (k : ℕ) → k < length p.mutators → IsWholeRun p phases → length (answers_in_run k phases) ≡ length (script_of p k)
-all p phases k l w =
-    let so_far = goes_answers p w.number w.before w.graph w.book w.goes k l in
-    let here = epoch_answers p w.number w.graph w.book w.order w.swept w.report w.last_graph w.last_book w.epoch
-    (goes_done p w.number w.before w.graph w.book w.goes) k l in
-    let over = ap length (epoch_done p w.number w.graph w.book w.order w.swept w.report w.last_graph w.last_book w.epoch k (w.whole k l)) in
-    let sum = ap (λ (ps : List Phase). length (answers_in_run k ps)) w.phases_are ∙ one_epoch k w.before w.report w.order w.swept in
-    omega (arith, so_far, here, over, sum)
 
 one_more : (phases : List Phase) (phase : Phase) (k : ℕ) →
     counted empty_tally (answers_in_run k (phases ++ phase ∷ [])) ≡ counted (counted empty_tally (answers_in_run k phases)) (answers_in k phase)
@@ -42,4 +33,4 @@ added phases phase =
     cc
 
 pub returns : goal.returns
-returns c = record { most = most; all = all; added = added }
+returns c = record { most = most; all = all_answers; added = added }
