@@ -124,6 +124,11 @@ def line_feeds():
     return '\n' * 1048500
 
 
+def generated():
+    """Nothing is read: the program is made from the numbers of the command."""
+    return ''
+
+
 # Sixty turns that pass over the mutators by sevens.
 TURNS = ','.join(str(7 * k % 16) for k in range(60))
 # What makes the input, what the table says of it, and the command's words where they are not `run`.
@@ -146,6 +151,7 @@ INPUTS = [
     (empty_repeats, 'four nested repeats of 1,048,576 over nothing', ['run']),
     (sixteen, 'sixteen mutators with 3,640 statements each', ['run']),
     (sixteen, 'the same by `replay` with a list of 60 turns', ['replay', TURNS]),
+    (generated, '`gen 7 80000`: a program of four mutators with 19,998 statements each is made, read, run and summed up', ['gen', '7', '80000']),
     (nested_repeats, '70,000 nested repeats: refused, `limit nesting`', ['run']),
     (one_byte_too_long, '1,048,577 bytes: refused, `long`', ['run']),
     (line_feeds, '1,048,500 line feeds: refused, `syntax`', ['run']),
